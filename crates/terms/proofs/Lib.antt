@@ -1,0 +1,2 @@
+-- Laws of the words.
+pub mod Lists

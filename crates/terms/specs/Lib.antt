@@ -1,0 +1,3 @@
+-- The words that the definitions of every crate use.
+pub mod Ascii
+pub mod Words
