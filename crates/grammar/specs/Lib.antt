@@ -6,3 +6,10 @@ pub mod Mission
 pub mod Tables
 pub mod References
 pub mod HouseOrder
+pub mod Machine
+pub mod Forms
+pub mod Choices
+pub mod Permitted
+pub mod Places
+pub mod MissionPlaces
+pub mod PlaceTable

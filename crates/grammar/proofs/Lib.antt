@@ -1,0 +1,10 @@
+pub mod LanguageLaws
+pub mod MachineLaws
+pub mod FormLaws
+pub mod Options
+pub mod Reading
+pub mod LaneReading
+pub mod ZoneReading
+pub mod NetworkReading
+pub mod MissionReading
+pub mod Theorems

@@ -1,0 +1,62 @@
+-- THE THEOREMS of the grammar, for the RNDF and for the MDF, from one development (Reading). N: what a name is. Assumes nothing.
+use mathlib.Core.Path.{_≡_}
+use mathlib.Core.List.{List, _∷_, _++_}
+use Prim.Native.Nat.{ℕ}
+use Rattle.grammar.specs.Statements.{Statement}
+use Rattle.grammar.specs.Network.{Network, SpellsNetwork}
+use Rattle.grammar.specs.Machine.{Accepts, at, run, step, next, refuse, Place}
+use Rattle.grammar.specs.Places.{rndf, name-due}
+use Rattle.grammar.specs.Mission.{Mission, SpellsMission}
+use Rattle.grammar.specs.MissionStatements as M
+use Rattle.grammar.specs.MissionPlaces.{mdf}
+use Rattle.grammar.specs.MissionPlaces as M-at
+use Rattle.grammar.proofs.Reading as R
+use Rattle.grammar.proofs.MissionReading as Mission
+use Rattle.grammar.proofs.NetworkReading as Network
+
+module _ {N : Type 0} where
+  -- ## RNDF
+  -- complete: what spells a network is accepted
+  pub network-complete : (n : Network N) (l : List (Statement N)) → SpellsNetwork n l → Accepts (rndf N) (at (rndf N) name-due) l
+  network-complete = R.complete (rndf N) SpellsNetwork name-due (Network.reads N)
+
+  -- sound: what is accepted spells a network
+  pub network-sound : (l : List (Statement N)) → Accepts (rndf N) (at (rndf N) name-due) l → (n : Network N) × SpellsNetwork n l
+  network-sound = R.sound (rndf N) SpellsNetwork name-due (Network.reads N)
+
+  -- unique: equal statements come from one network
+  pub network-unique : (n n′ : Network N) (l l′ : List (Statement N)) → SpellsNetwork n l → SpellsNetwork n′ l′ → l ≡ l′ → n ≡ n′
+  network-unique = R.unique (rndf N) SpellsNetwork name-due (Network.reads N)
+
+  -- viable prefix: what is not refused begins some spelling
+  pub network-viable : (some-name : N) (l : List (Statement N)) (p : Place (rndf N)) → run (rndf N) (at (rndf N) name-due) l ≡ next p
+      → (r : List (Statement N)) × (n : Network N) × SpellsNetwork n (l ++ r)
+  network-viable a = R.viable (rndf N) SpellsNetwork name-due (Network.reads N) (Network.Good N) (Network.cost N) (Network.goes-on N a) tt
+
+  -- refusal: no spelling begins with what came before and the refused statement
+  pub network-refusal : (l r : List (Statement N)) (p : Place (rndf N)) (s : Statement N) (c : ℕ) (n : Network N) → run (rndf N) (at (rndf N) name-due) l ≡ next p → step (rndf N) p s ≡ refuse c
+      → SpellsNetwork n (l ++ (s ∷ r)) → ⊥
+  network-refusal = R.refusal (rndf N) SpellsNetwork name-due (Network.reads N)
+
+  -- ## MDF
+  -- complete: what spells a mission is accepted
+  pub mission-complete : (n : Mission N) (l : List (M.Statement N)) → SpellsMission n l → Accepts (mdf N) (at (mdf N) M-at.name-due) l
+  mission-complete = R.complete (mdf N) SpellsMission M-at.name-due (Mission.reads N)
+
+  -- sound: what is accepted spells a mission
+  pub mission-sound : (l : List (M.Statement N)) → Accepts (mdf N) (at (mdf N) M-at.name-due) l → (n : Mission N) × SpellsMission n l
+  mission-sound = R.sound (mdf N) SpellsMission M-at.name-due (Mission.reads N)
+
+  -- unique: equal statements come from one mission
+  pub mission-unique : (n n′ : Mission N) (l l′ : List (M.Statement N)) → SpellsMission n l → SpellsMission n′ l′ → l ≡ l′ → n ≡ n′
+  mission-unique = R.unique (mdf N) SpellsMission M-at.name-due (Mission.reads N)
+
+  -- viable prefix: what is not refused begins some spelling
+  pub mission-viable : (some-name : N) (l : List (M.Statement N)) (p : Place (mdf N)) → run (mdf N) (at (mdf N) M-at.name-due) l ≡ next p
+      → (r : List (M.Statement N)) × (n : Mission N) × SpellsMission n (l ++ r)
+  mission-viable a = R.viable (mdf N) SpellsMission M-at.name-due (Mission.reads N) (Mission.Good N) (Mission.cost N) (Mission.goes-on N a) tt
+
+  -- refusal: no spelling begins with what came before and the refused statement
+  pub mission-refusal : (l r : List (M.Statement N)) (p : Place (mdf N)) (s : M.Statement N) (c : ℕ) (n : Mission N) → run (mdf N) (at (mdf N) M-at.name-due) l ≡ next p → step (mdf N) p s ≡ refuse c
+      → SpellsMission n (l ++ (s ∷ r)) → ⊥
+  mission-refusal = R.refusal (mdf N) SpellsMission M-at.name-due (Mission.reads N)
