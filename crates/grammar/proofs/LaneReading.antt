@@ -49,8 +49,8 @@ module _ (N : Type 0) where
       reads-seq (rndf N) (reads-line (rndf N) (num-waypoints-due m o z n l) counted refl (λ v. refl)) λ w.
       reads-seq (rndf N) (reads-after (rndf N) (first-waypoint-due m o z n l w) (laneRow N m n w) (thePoint m n 1) refl (λ v. refl)) λ x.
       reads-many (rndf N) (PointAt m n) (λ i. Line (rndf N) end-lane (free (Unit {0}))) (λ i w. some (waypoint-due m o z n l i w)) (some (lane-due m o z (suc n) l))
-          (λ i w. reads-line (rndf N) (waypoint-due m o z n l i (suc w)) (thePoint m n i) refl (λ v. refl))
-          (λ i. reads-line (rndf N) (waypoint-due m o z n l i zero) (free (Unit {0})) refl (λ v. refl)) 2 (pred w)
+      (λ i w. reads-line (rndf N) (waypoint-due m o z n l i (suc w)) (thePoint m n i) refl (λ v. refl))
+      (λ i. reads-line (rndf N) (waypoint-due m o z n l i zero) (free (Unit {0})) refl (λ v. refl)) 2 (pred w)
 
   laneOf : ℕ × ((Holds (lines N) (laneRow N 0 0 0) × Position) × (List Position × Unit {0})) → Lane
   laneOf x = let h = x .1 .0 .0 in record { width = h .0; left = h .1 .0; right = h .1 .1 .0; checkpoints = h .1 .1 .1 .0; stops = h .1 .1 .1 .1 .0; exits = h .1 .1 .1 .1 .1 .0; points = x .1 .0 .1 ∷ x .1 .1 .0 }
@@ -60,15 +60,29 @@ module _ (N : Type 0) where
   held a = (a .width, (a .left, (a .right, (a .checkpoints, (a .stops, (a .exits, tt))))))
 
   lane-given : (m n : ℕ) (a : Lane) (os : Lines) → LaneOptions m n a os → GoodLane a → Given (lines N) (laneRow N m n (length (a .points))) (held a) os
-  lane-given m n a os o g =
-      ((o .width ∙ sym (map-id (perhaps (a .width))), g .width, (o .left ∙ sym (map-id (perhaps (a .left))), each-any (perhaps (a .left)), (o .right ∙ sym (map-id (perhaps (a .right))), each-any (perhaps (a .right)),
-      (o .checkpoints, g .checkpoints, (o .stops, g .stops, (o .exits, g .exits, tt)))))), o .no-other)
+  lane-given m n a os o g = (
+    (
+      o .width ∙ sym (map-id (perhaps (a .width))),
+      g .width,
+      (
+        o .left ∙ sym (map-id (perhaps (a .left))),
+        each-any (perhaps (a .left)),
+        (
+          o .right ∙ sym (map-id (perhaps (a .right))),
+          each-any (perhaps (a .right)),
+          (o .checkpoints, g .checkpoints, (o .stops, g .stops, (o .exits, g .exits, tt))),
+        ),
+      ),
+    ),
+    o .no-other,
+  )
 
   pub given-lane : (m n : ℕ) (a : Lane) (os : Lines) → Given (lines N) (laneRow N m n (length (a .points))) (held a) os → Between 1 largest (length (a .points)) → Each OnEarth (a .points) → LaneOptions m n a os × GoodLane a
   given-lane m n a os g c p =
-      let h = g .0 in
-      (record { width = h .0 ∙ map-id (perhaps (a .width)); left = h .2 .0 ∙ map-id (perhaps (a .left)); right = h .2 .2 .0 ∙ map-id (perhaps (a .right)); checkpoints = h .2 .2 .2 .0; stops = h .2 .2 .2 .2 .0; exits = h .2 .2 .2 .2 .2 .0; no-other = g .1 }
-      , record { count = c; points = p; width = h .1; checkpoints = h .2 .2 .2 .1; stops = h .2 .2 .2 .2 .1; exits = h .2 .2 .2 .2 .2 .1 })
+      let h = g .0 in (
+        record { width = h .0 ∙ map-id (perhaps (a .width)); left = h .2 .0 ∙ map-id (perhaps (a .left)); right = h .2 .2 .0 ∙ map-id (perhaps (a .right)); checkpoints = h .2 .2 .2 .0; stops = h .2 .2 .2 .2 .0; exits = h .2 .2 .2 .2 .2 .0; no-other = g .1 },
+        record { count = c; points = p; width = h .1; checkpoints = h .2 .2 .2 .1; stops = h .2 .2 .2 .2 .1; exits = h .2 .2 .2 .2 .2 .1 },
+      )
 
   abbrev with : Lane → List Position → Lane
   with a ps = record { width = a .width; left = a .left; right = a .right; checkpoints = a .checkpoints; stops = a .stops; exits = a .exits; points = ps }
@@ -78,12 +92,23 @@ module _ (N : Type 0) where
   to-lane m n a [] l s = absurd (omega arith)
   to-lane m n a (p ∷ ps) l s =
       let os = s .options in
-      let rest = numbered m n 2 ps ++ (say end-lane tt ∷ []) in
-      ((suc (length ps), ((held a, p), (ps, tt))), refl,
-      (say num-waypoints (suc (length ps)) ∷ [], os ++ (point-line (point-id m n 1) p ∷ rest), (s .good .count, refl),
-          (os ++ (point-line (point-id m n 1) p ∷ []), rest, (os, lane-given m n (with a (p ∷ ps)) os (s .given) (s .good), s .good .points .0, refl),
-              (numbered m n 2 ps, say end-lane tt ∷ [], refl, points-in-turn m n 2 ps (s .good .points .1), (tt, refl), refl), sym (append-assoc os (point-line (point-id m n 1) p ∷ []) rest)),
-          tail-eq-of-cons-eq (s .spelled)))
+      let rest = numbered m n 2 ps ++ (say end-lane tt ∷ []) in (
+        (suc (length ps), ((held a, p), (ps, tt))),
+        refl,
+        (
+          say num-waypoints (suc (length ps)) ∷ [],
+          os ++ (point-line (point-id m n 1) p ∷ rest),
+          (s .good .count, refl),
+          (
+            os ++ (point-line (point-id m n 1) p ∷ []),
+            rest,
+            (os, lane-given m n (with a (p ∷ ps)) os (s .given) (s .good), s .good .points .0, refl),
+            (numbered m n 2 ps, say end-lane tt ∷ [], refl, points-in-turn m n 2 ps (s .good .points .1), (tt, refl), refl),
+            sym (append-assoc os (point-line (point-id m n 1) p ∷ []) rest),
+          ),
+          tail-eq-of-cons-eq (s .spelled),
+        ),
+      )
 
   from-lane : (m n : ℕ) (x : ℕ × ((Holds (lines N) (laneRow N m n 0) × Position) × (List Position × Unit {0}))) (l : Lines) → LaneParts m n x l → LaneBody m n (laneOf x) l
   unfolding laneOf numbered
@@ -119,7 +144,7 @@ module _ (N : Type 0) where
       reads-seq (rndf N) (reads-after (rndf N) (first-lane-due m o z l) (segmentRow N) (thePart m 1) refl (λ v. refl)) λ x.
       reads-seq (rndf N) (reads-body m o z 1 (pred l)) λ a.
       reads-many (rndf N) (SpellsLane m) (λ i. Line (rndf N) end-segment (free (Unit {0}))) (λ i l. some (lane-due m o z i l)) (some (part-due (suc m) o z))
-          (λ i l. reads-lane m o z i l) (λ i. reads-line (rndf N) (lane-due m o z i zero) (free (Unit {0})) refl (λ v. refl)) 2 (pred l)
+      (λ i l. reads-lane m o z i l) (λ i. reads-line (rndf N) (lane-due m o z i zero) (free (Unit {0})) refl (λ v. refl)) 2 (pred l)
 
   segmentOf : ℕ × ((Holds (lines N) (segmentRow N) × Unit {0}) × (Lane × (List Lane × Unit {0}))) → (Segment N)
   segmentOf x = record { name = x .1 .0 .0 .0; lanes = x .1 .1 .0 ∷ x .1 .1 .1 .0 }
@@ -130,12 +155,23 @@ module _ (N : Type 0) where
   to-segment m name [] l os ls o c t e = absurd (omega arith)
   to-segment m name (a ∷ es) l os ls o c (then {u = u} {v = v} x t) e =
       let body = tail x in
-      let rest = v ++ (say end-segment tt ∷ []) in
-      ((suc (length es), (((name, tt), tt), (a, (es, tt)))), refl,
-      (say num-lanes (suc (length es)) ∷ [], os ++ (say lane (part-id m 1) ∷ (body ++ rest)), (c, refl),
-          (os ++ (say lane (part-id m 1) ∷ []), body ++ rest, (os, ((o .name ∙ sym (map-id (perhaps name)), each-any (perhaps name), tt), o .no-other), tt, refl),
-              (body, rest, rw (x .spelled) at x, (v, say end-segment tt ∷ [], refl, t, (tt, refl), refl), refl), sym (append-assoc os (say lane (part-id m 1) ∷ []) (body ++ rest))),
-          e ∙ rw (append-assoc u v (say end-segment tt ∷ []), x .spelled)))
+      let rest = v ++ (say end-segment tt ∷ []) in (
+        (suc (length es), (((name, tt), tt), (a, (es, tt)))),
+        refl,
+        (
+          say num-lanes (suc (length es)) ∷ [],
+          os ++ (say lane (part-id m 1) ∷ (body ++ rest)),
+          (c, refl),
+          (
+            os ++ (say lane (part-id m 1) ∷ []),
+            body ++ rest,
+            (os, ((o .name ∙ sym (map-id (perhaps name)), each-any (perhaps name), tt), o .no-other), tt, refl),
+            (body, rest, rw (x .spelled) at x, (v, say end-segment tt ∷ [], refl, t, (tt, refl), refl), refl),
+            sym (append-assoc os (say lane (part-id m 1) ∷ []) (body ++ rest)),
+          ),
+          e ∙ rw (append-assoc u v (say end-segment tt ∷ []), x .spelled),
+        ),
+      )
     where
       tail : {u : Lines} → SpellsLane m 1 a u → Lines
       tail x = say num-waypoints (length (a .points)) ∷ x .options ++ (numbered m 1 1 (a .points) ++ (say end-lane tt ∷ []))
@@ -150,8 +186,14 @@ module _ (N : Type 0) where
       let len = e .2 in
       let c = y .2 .0 in
       let w : x .0 ≡ suc (length (x .1 .1 .1 .0)) = omega arith in
-      record { options = o .0; lanes = (say lane (part-id m 1) ∷ d .0) ++ e .0; given = record { name = o .1 .0 .0 ∙ map-id (perhaps (x .1 .0 .0 .0)); no-other = o .1 .1 };
-          count = rw w at c; each = then (d .2) (e .3); spelled = rw (y .4, y .2 .1, b .4, o .3, d .4, e .5, e .4 .1, w) (simp append-assoc) }
+      record {
+        options = o .0;
+        lanes = (say lane (part-id m 1) ∷ d .0) ++ e .0;
+        given = record { name = o .1 .0 .0 ∙ map-id (perhaps (x .1 .0 .0 .0)); no-other = o .1 .1 };
+        count = rw w at c;
+        each = then (d .2) (e .3);
+        spelled = rw (y .4, y .2 .1, b .4, o .3, d .4, e .5, e .4 .1, w) (simp append-assoc);
+      }
 
   pub reads-segment-body : (m o z : ℕ) → To (SegmentBody m) (num-lanes-due m o z) (part-due (suc m) o z)
   reads-segment-body m o z = reads-as (rndf N) segmentOf (λ a l s. to-segment m (a .name) (a .lanes) l (s .options) (s .lanes) (s .given) (s .count) (s .each) (tail-eq-of-cons-eq (s .spelled))) (from-segment m) (parts-segment m o z)

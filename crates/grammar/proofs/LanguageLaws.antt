@@ -41,6 +41,7 @@ module _ (L : Lang) where
     where
       along : (j : Kind) (e : s .kind ≡ j) (w : Pay j) → subst Pay e (s .val) ≡ w → s ≡ say L j w
       along j e = pathJ (λ j e. (w : Pay j) → subst Pay e (s .val) ≡ w → s ≡ say L j w) (λ w q. ap (say L (s .kind)) (sym (subst-refl Pay (s .val)) ∙ q)) e
+
       go : (d : Dec (s .kind ≡ k)) → as-dec L k (s .kind) d (s .val) ≡ some v → s ≡ say L k v
       go (yes e) q = along k e v (cc)
       go (no n) q = absurd (let z : _≡_ {A = Bool} true false = cc in subst T z tt)

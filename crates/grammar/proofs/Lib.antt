@@ -7,4 +7,11 @@ pub mod LaneReading
 pub mod ZoneReading
 pub mod NetworkReading
 pub mod MissionReading
+pub mod HouseLaws
+pub mod Written
+pub mod Tabled
+pub mod RndfTable
+pub mod MdfTable
 pub mod Theorems
+pub mod TableTheorems
+pub mod YardA

@@ -116,7 +116,6 @@ module _ (L : Lang) where
           (inr (z .0), subst (Agrees (o ∷ row) (s .kind ∷ before)) (sym (x .2)) (there o before f s q (y .0), z .1))
 
 module _ {P : Type 0} where
-
   pub refused : {X : Type 0} {c : ℕ} {q : P} → refuse c ≡ next q → X
   refused e = absurd (let z : _≡_ {A = Bool} true false = cc in subst T z tt)
 
@@ -188,6 +187,7 @@ module _ {L : Lang} (M : Machine L) where
           let p = passed (due b .test v) 9 (enter M (due b .then v)) over (λ q. run M q l) h′ in
           k [] v l tt (p .0) (ap (λ (x : S L). x ∷ l) (as-inv L (due b .on) s v q)) (p .1)
       due-case none q h′ = refused h′
+
       go : (x : Verdict) → optAt L (opts b) g s ≡ x → andThen (settle M b x s) (λ q. run M q l) ≡ next over
           → ((g′ : List Bool) → Agrees L (opts b) (s .kind ∷ before) g′ → Accepts M (inside b g′) l → ((os : List (S L)) (v : Pay (due b .on)) (r : List (S L)) → Fine L (opts b) (s .kind ∷ before) os → T (due b .test v) → l ≡ os ++ (say L (due b .on) v ∷ r) → Accepts M (enter M (due b .then v)) r → R) → R) → R
       go other q h′ ih = due-case (asKind L (due b .on) s) refl h′
@@ -294,6 +294,7 @@ module _ {L : Lang} (M : Machine L) where
           hit-good : (o : Option (Pay (due b .on))) → GoodOut (hit M b o)
           hit-good none = tt
           hit-good (some v) = guard-good (due b .test v) (enter M (due b .then v)) λ t. enter-good (due b .then v) (all b y .keeps v t)
+
           go : (x : Verdict) → GoodOut (settle M b x s)
           go other = hit-good (asKind L (due b .on) s)
           go (bad c) = tt

@@ -43,11 +43,11 @@ module _ (N : Type 0) where
       reads-seq (mdf N) (reads-after (mdf N) checkpoints-due (fileRow N) nothing refl (λ v. refl)) λ x.
       reads-seq (mdf N) (reads-line (mdf N) num-checkpoints-due counted refl (λ v. refl)) λ n.
       reads-seq (mdf N) (reads-many (mdf N) (λ i. Line (mdf N) goal counted) (λ i. Line (mdf N) end-checkpoints nothing) (λ i n. some (goal-due n)) (some speed-limits-due)
-          (λ i n. reads-line (mdf N) (goal-due (suc n)) counted refl (λ v. refl)) (λ i. reads-line (mdf N) (goal-due zero) nothing refl (λ v. refl)) 0 n) λ x.
+      (λ i n. reads-line (mdf N) (goal-due (suc n)) counted refl (λ v. refl)) (λ i. reads-line (mdf N) (goal-due zero) nothing refl (λ v. refl)) 0 n) λ x.
       reads-seq (mdf N) (reads-line (mdf N) speed-limits-due nothing refl (λ v. refl)) λ x.
       reads-seq (mdf N) (reads-line (mdf N) num-speed-limits-due counted refl (λ v. refl)) λ n.
       reads-seq (mdf N) (reads-many (mdf N) (λ i. Line (mdf N) limit limited) (λ i. Line (mdf N) end-speed-limits nothing) (λ i n. some (limit-due n)) (some end-file-due)
-          (λ i n. reads-line (mdf N) (limit-due (suc n)) limited refl (λ v. refl)) (λ i. reads-line (mdf N) (limit-due zero) nothing refl (λ v. refl)) 0 n) λ x.
+      (λ i n. reads-line (mdf N) (limit-due (suc n)) limited refl (λ v. refl)) (λ i. reads-line (mdf N) (limit-due zero) nothing refl (λ v. refl)) 0 n) λ x.
       reads-line (mdf N) end-file-due nothing refl (λ v. refl)
 
   missionOf : Files → (Mission N)
@@ -68,17 +68,59 @@ module _ (N : Type 0) where
       let l₂ = say num-speed-limits L ∷ ls ++ l₁ in
       let l₃ = say end-checkpoints tt ∷ say speed-limits tt ∷ l₂ in
       let l₄ = say num-checkpoints G ∷ gs ++ l₃ in
-      let l₅ = os ++ (say checkpoints tt ∷ l₄) in
-      ((a .name, (a .rndf, (((a .version, (a .date, tt)), tt), (G, ((a .goals, tt), (tt, (L, ((a .limits, tt), tt)))))))), refl,
-      (say MDF-name (a .name) ∷ [], say RNDF (a .rndf) ∷ l₅, (tt, refl),
-      (say RNDF (a .rndf) ∷ [], l₅, (tt, refl),
-      (os ++ (say checkpoints tt ∷ []), l₄, (os, ((s .given .version ∙ sym (map-id (perhaps (a .version))), each-any (perhaps (a .version)), (s .given .date ∙ sym (map-id (perhaps (a .date))), each-any (perhaps (a .date)), tt)), s .given .no-other), tt, refl),
-      (say num-checkpoints G ∷ [], gs ++ l₃, (g .some-goals, refl),
-      (gs ++ (say end-checkpoints tt ∷ []), say speed-limits tt ∷ l₂, (gs, say end-checkpoints tt ∷ [], refl, lines-in-turn (mdf N) goal counted 0 (a .goals) (g .goals), (tt, refl), refl),
-      (say speed-limits tt ∷ [], l₂, (tt, refl),
-      (say num-speed-limits L ∷ [], ls ++ l₁, (g .some-limits, refl),
-      (ls ++ (say end-speed-limits tt ∷ []), say end-file tt ∷ [], (ls, say end-speed-limits tt ∷ [], refl, lines-in-turn (mdf N) limit limited 0 (a .limits) (g .limits), (tt, refl), refl), (tt, refl),
-      sym (append-assoc ls (say end-speed-limits tt ∷ []) (say end-file tt ∷ []))), refl), refl), sym (append-assoc gs (say end-checkpoints tt ∷ []) (say speed-limits tt ∷ l₂))), refl), sym (append-assoc os (say checkpoints tt ∷ []) l₄)), refl), s .spelled))
+      let l₅ = os ++ (say checkpoints tt ∷ l₄) in (
+        (a .name, (a .rndf, (((a .version, (a .date, tt)), tt), (G, ((a .goals, tt), (tt, (L, ((a .limits, tt), tt)))))))),
+        refl,
+        (
+          say MDF-name (a .name) ∷ [],
+          say RNDF (a .rndf) ∷ l₅,
+          (tt, refl),
+          (
+            say RNDF (a .rndf) ∷ [],
+            l₅,
+            (tt, refl),
+            (
+              os ++ (say checkpoints tt ∷ []),
+              l₄,
+              (os, ((s .given .version ∙ sym (map-id (perhaps (a .version))), each-any (perhaps (a .version)), (s .given .date ∙ sym (map-id (perhaps (a .date))), each-any (perhaps (a .date)), tt)), s .given .no-other), tt, refl),
+              (
+                say num-checkpoints G ∷ [],
+                gs ++ l₃,
+                (g .some-goals, refl),
+                (
+                  gs ++ (say end-checkpoints tt ∷ []),
+                  say speed-limits tt ∷ l₂,
+                  (gs, say end-checkpoints tt ∷ [], refl, lines-in-turn (mdf N) goal counted 0 (a .goals) (g .goals), (tt, refl), refl),
+                  (
+                    say speed-limits tt ∷ [],
+                    l₂,
+                    (tt, refl),
+                    (
+                      say num-speed-limits L ∷ [],
+                      ls ++ l₁,
+                      (g .some-limits, refl),
+                      (
+                        ls ++ (say end-speed-limits tt ∷ []),
+                        say end-file tt ∷ [],
+                        (ls, say end-speed-limits tt ∷ [], refl, lines-in-turn (mdf N) limit limited 0 (a .limits) (g .limits), (tt, refl), refl),
+                        (tt, refl),
+                        sym (append-assoc ls (say end-speed-limits tt ∷ []) (say end-file tt ∷ [])),
+                      ),
+                      refl,
+                    ),
+                    refl,
+                  ),
+                  sym (append-assoc gs (say end-checkpoints tt ∷ []) (say speed-limits tt ∷ l₂)),
+                ),
+                refl,
+              ),
+              sym (append-assoc os (say checkpoints tt ∷ []) l₄),
+            ),
+            refl,
+          ),
+          s .spelled,
+        ),
+      )
 
   from-file : (x : Files) (l : List (Statement N)) → Parts x l → SpellsMission (missionOf x) l
   unfolding missionOf
@@ -95,9 +137,12 @@ module _ (N : Type 0) where
       let m = y₇ .2 in
       let t = in-turn-lines (mdf N) goal counted 0 (x .1 .1 .1 .1 .0 .0) (g .0) (g .3) in
       let u = in-turn-lines (mdf N) limit limited 0 (x .1 .1 .1 .1 .1 .1 .1 .0 .0) (m .0) (m .3) in
-      record { options = o .0; given = record { version = o .1 .0 .0 ∙ map-id (perhaps (x .1 .1 .0 .0 .0)); date = o .1 .0 .2 .0 ∙ map-id (perhaps (x .1 .1 .0 .0 .1 .0)); no-other = o .1 .1 };
-          good = record { some-goals = rw (← (g .2)) at (y₃ .2 .0); goals = t .0; some-limits = rw (← (m .2)) at (y₆ .2 .0); limits = u .0 };
-          spelled = rw (y .4, y .2 .1, y₁ .4, y₁ .2 .1, y₂ .4, o .3, y₃ .4, y₃ .2 .1, y₄ .4, g .5, t .1, g .4 .1, y₅ .4, y₅ .2 .1, y₆ .4, y₆ .2 .1, y₇ .4, m .5, u .1, m .4 .1, y₇ .3 .1, ← (g .2), ← (m .2)) (simp append-assoc) }
+      record {
+        options = o .0;
+        given = record { version = o .1 .0 .0 ∙ map-id (perhaps (x .1 .1 .0 .0 .0)); date = o .1 .0 .2 .0 ∙ map-id (perhaps (x .1 .1 .0 .0 .1 .0)); no-other = o .1 .1 };
+        good = record { some-goals = rw (← (g .2)) at (y₃ .2 .0); goals = t .0; some-limits = rw (← (m .2)) at (y₆ .2 .0); limits = u .0 };
+        spelled = rw (y .4, y .2 .1, y₁ .4, y₁ .2 .1, y₂ .4, o .3, y₃ .4, y₃ .2 .1, y₄ .4, g .5, t .1, g .4 .1, y₅ .4, y₅ .2 .1, y₆ .4, y₆ .2 .1, y₇ .4, m .5, u .1, m .4 .1, y₇ .3 .1, ← (g .2), ← (m .2)) (simp append-assoc);
+      }
 
   pub reads : Reads (mdf N) SpellsMission (some name-due) (λ n. none)
   reads = reads-as (mdf N) missionOf to-file from-file parts

@@ -70,14 +70,35 @@ module _ (N : Type 0) where
       let segs = suc (length es) in
       let zons = length (a .zones) in
       let n : suc segs ≡ after 2 es = let q = after-is 2 es in omega arith in
-      let z′ : InTurn SpellsZone (after 2 es) (a .zones) zs = rw n at z in
-      ((a .name, (segs, (zons, (((a .version, (a .date, tt)), tt), (b, (es, (a .zones, tt))))))), refl,
-      (say RNDF-name (a .name) ∷ [], say num-segments segs ∷ say num-zones zons ∷ k, (tt, refl),
-      (say num-segments segs ∷ [], say num-zones zons ∷ k, (record { low = c; high = omega arith }, refl),
-      (say num-zones zons ∷ [], k, (d, refl),
-      (os ++ (say segment 1 ∷ []), body ++ (v ++ rest), (os, ((o .version ∙ sym (map-id (perhaps (a .version))), each-any (perhaps (a .version)), (o .date ∙ sym (map-id (perhaps (a .date))), each-any (perhaps (a .date)), tt)), o .no-other), tt, refl),
-      (body, v ++ rest, rw (x .spelled) at x, (v, rest, refl, t, (zs, say end-file tt ∷ [], refl, z′, (tt, refl), refl), refl), refl),
-      sym (append-assoc os (say segment 1 ∷ []) (body ++ (v ++ rest)))), refl), refl), e ∙ rw (append-assoc u v rest, x .spelled)))
+      let z′ : InTurn SpellsZone (after 2 es) (a .zones) zs = rw n at z in (
+        (a .name, (segs, (zons, (((a .version, (a .date, tt)), tt), (b, (es, (a .zones, tt))))))),
+        refl,
+        (
+          say RNDF-name (a .name) ∷ [],
+          say num-segments segs ∷ say num-zones zons ∷ k,
+          (tt, refl),
+          (
+            say num-segments segs ∷ [],
+            say num-zones zons ∷ k,
+            (record { low = c; high = omega arith }, refl),
+            (
+              say num-zones zons ∷ [],
+              k,
+              (d, refl),
+              (
+                os ++ (say segment 1 ∷ []),
+                body ++ (v ++ rest),
+                (os, ((o .version ∙ sym (map-id (perhaps (a .version))), each-any (perhaps (a .version)), (o .date ∙ sym (map-id (perhaps (a .date))), each-any (perhaps (a .date)), tt)), o .no-other), tt, refl),
+                (body, v ++ rest, rw (x .spelled) at x, (v, rest, refl, t, (zs, say end-file tt ∷ [], refl, z′, (tt, refl), refl), refl), refl),
+                sym (append-assoc os (say segment 1 ∷ []) (body ++ (v ++ rest))),
+              ),
+              refl,
+            ),
+            refl,
+          ),
+          e ∙ rw (append-assoc u v rest, x .spelled),
+        ),
+      )
 
   from-file : (x : Files) (l : (Lines N)) → FileParts x l → SpellsNetwork (networkOf x) l
   unfolding networkOf
@@ -96,10 +117,17 @@ module _ (N : Type 0) where
       let k = z .2 in
       let d : x .1 .0 + x .1 .1 .0 ≤ largest = y₂ .2 .0 in
       let n : after 2 es ≡ suc (suc (length es)) = let q = after-is 2 es in omega arith in
-      record { options = o .0; segments = (say segment 1 ∷ y₄ .0) ++ s .0; zones = z .0;
-          given = record { version = o .1 .0 .0 ∙ map-id (perhaps (x .1 .1 .1 .0 .0 .0)); date = o .1 .0 .2 .0 ∙ map-id (perhaps (x .1 .1 .1 .0 .0 .1 .0)); no-other = o .1 .1 };
-          some-segment = omega arith; count = omega arith; each-segment = then (y₄ .2) (s .3); each-zone = rw n at (z .3);
-          spelled = rw (y .4, y .2 .1, y₁ .4, y₁ .2 .1, y₂ .4, y₂ .2 .1, y₃ .4, o .3, y₄ .4, s .5, z .5, z .4 .1, w, ← k) (simp append-assoc) }
+      record {
+        options = o .0;
+        segments = (say segment 1 ∷ y₄ .0) ++ s .0;
+        zones = z .0;
+        given = record { version = o .1 .0 .0 ∙ map-id (perhaps (x .1 .1 .1 .0 .0 .0)); date = o .1 .0 .2 .0 ∙ map-id (perhaps (x .1 .1 .1 .0 .0 .1 .0)); no-other = o .1 .1 };
+        some-segment = omega arith;
+        count = omega arith;
+        each-segment = then (y₄ .2) (s .3);
+        each-zone = rw n at (z .3);
+        spelled = rw (y .4, y .2 .1, y₁ .4, y₁ .2 .1, y₂ .4, y₂ .2 .1, y₃ .4, o .3, y₄ .4, s .5, z .5, z .4 .1, w, ← k) (simp append-assoc);
+      }
 
   pub reads : Reads (rndf N) SpellsNetwork (some name-due) (λ n. none)
   reads = reads-as (rndf N) networkOf (λ a l s. to-file a (a .segments) l (s .options) (s .segments) (s .zones) (s .given) (s .some-segment) (s .count) (s .each-segment) (s .each-zone) (s .spelled)) from-file parts-file

@@ -102,9 +102,10 @@ module _ (L : Lang) where
 
   allowed-right : (row : List (Opt Kind Pay)) (before : List Kind) (s : S L) → T (distinct L row) → Allowed L row before s → Every (Right s before) row
   allowed-right [] before s t a = tt
-  allowed-right (o ∷ row) before s t (inl a) =
-      (λ v q. let e : a .0 ≡ v = Option·some-injective (a .0) v (sym (as-same L (o .on) (a .0)) ∙ ap (asKind L (o .on)) (sym (a .1)) ∙ q) in (subst (λ (v : Pay (o .on)). T (o .test v)) e (a .2), a .3)
-      , others (o .on) s before row (ap (λ (s : S L). s .kind) (a .1)) (and-l (lacks L (o .on) row) (distinct L row) t))
+  allowed-right (o ∷ row) before s t (inl a) = (
+    λ v q. let e : a .0 ≡ v = Option·some-injective (a .0) v (sym (as-same L (o .on) (a .0)) ∙ ap (asKind L (o .on)) (sym (a .1)) ∙ q) in (subst (λ (v : Pay (o .on)). T (o .test v)) e (a .2), a .3),
+    others (o .on) s before row (ap (λ (s : S L). s .kind) (a .1)) (and-l (lacks L (o .on) row) (distinct L row) t),
+  )
   allowed-right (o ∷ row) before s t (inr a) =
       (none-right s before o (elsewhere L (o .on) row before s (and-l (lacks L (o .on) row) (distinct L row) t) a), allowed-right row before s (and-r (lacks L (o .on) row) (distinct L row) t) a)
 
@@ -121,8 +122,10 @@ module _ (L : Lang) where
           let y = r v q in
           let m : memb L (o .on) (s .kind ∷ before) ≡ true = rw (ap (λ (s : S L). s .kind) (as-inv L (o .on) s v q)) (same-kind L (o .on) before) in
           let a = all-some L (o .on) s os v q in
-          record { passing = rw a (y .0, k .passing);
-              single = λ t. let i = rw m at (k .single t) in let j = not-before (o .once) (memb L (o .on) before) t (y .1) in rw (a, j) (omega arith) }
+          record {
+            passing = rw a (y .0, k .passing);
+            single = λ t. let i = rw m at (k .single t) in let j = not-before (o .once) (memb L (o .on) before) t (y .1) in rw (a, j) (omega arith);
+          }
       go none q = let a = all-none L (o .on) s os q in record { passing = rw a (k .passing); single = λ t. rw a (rw (passes-by L (o .on) s before q) at (k .single t)) }
 
   fine-kept : (row : List (Opt Kind Pay)) (before : List Kind) (os : List (S L)) → T (distinct L row) → Fine L row before os → Every (λ o. Kept o before os) row
@@ -212,10 +215,13 @@ module _ (L : Lang) where
 
   has-kept : (row : List Ch) (h : Holds row) (os : List (S L)) → Has row h os → Every (λ o. Kept o [] os) (opts L row)
   has-kept [] h os x = tt
-  has-kept (o ∷ row) h os x =
-      (record { passing = rw (x .0) (written (o .form) (listed (o .once) (h .0)) (x .1));
-          single = λ t. let i = at-most (o .form .C) (o .once) (h .0) t in rw (x .0, length-line (o .form .line) (listed (o .once) (h .0))) (omega arith) }
-      , has-kept row (h .1) os (x .2))
+  has-kept (o ∷ row) h os x = (
+    record {
+      passing = rw (x .0) (written (o .form) (listed (o .once) (h .0)) (x .1));
+      single = λ t. let i = at-most (o .form .C) (o .once) (h .0) t in rw (x .0, length-line (o .form .line) (listed (o .once) (h .0))) (omega arith);
+    },
+    has-kept row (h .1) os (x .2),
+  )
 
   kept-has : (row : List Ch) (os : List (S L)) → Every (λ o. Kept o [] os) (opts L row) → (h : Holds row) × Has row h os
   kept-has [] os k = (tt, tt)

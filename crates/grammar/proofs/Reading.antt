@@ -42,13 +42,14 @@ module _ {L : Lang} (M : Machine L) where
   pub reads-line : (b : Base) (F : Form (Pay (due b .on))) → M .opts b ≡ [] → ((v : Pay (due b .on)) → due b .test v ≡ tested F v)
       → Reads (Line (due b .on) F) (some b) (λ c. due b .then (F .line c))
   reads-line b F n t = record {
-      does = λ c w x r. rw (x .1) (goes-due M b (F .line c) (rw t (pass F c (x .0))) r (clear L (M .opts b)));
-      only = λ l h k. from M b [] (clear L (M .opts b)) (clear-agrees L (M .opts b)) l h λ os v r f ok is rest.
-          let y = pick F v (rw t at ok) in
-          let e : os ≡ [] = bare os (subst (λ row. Fine L row [] os) n f) in
-          k (F .back v) (say L (due b .on) (F .line (F .back v)) ∷ []) r (y .1, refl) (rw (y .0) (rw e at is)) (rw (y .0) rest);
-      same = λ c d v w r s x y e.
-          let z = cut M b (F .line c) (F .line d) [] [] r s [] tt tt (rw (x .1, y .1) at e) in (inj F c d (z .1), z .2) }
+    does = λ c w x r. rw (x .1) (goes-due M b (F .line c) (rw t (pass F c (x .0))) r (clear L (M .opts b)));
+    only = λ l h k. from M b [] (clear L (M .opts b)) (clear-agrees L (M .opts b)) l h λ os v r f ok is rest.
+        let y = pick F v (rw t at ok) in
+        let e : os ≡ [] = bare os (subst (λ row. Fine L row [] os) n f) in
+        k (F .back v) (say L (due b .on) (F .line (F .back v)) ∷ []) r (y .1, refl) (rw (y .0) (rw e at is)) (rw (y .0) rest);
+    same = λ c d v w r s x y e.
+        let z = cut M b (F .line c) (F .line d) [] [] r s [] tt tt (rw (x .1, y .1) at e) in (inj F c d (z .1), z .2);
+  }
     where
       bare : (os : St) → Fine L [] [] os → os ≡ []
       bare [] f = refl
@@ -75,16 +76,17 @@ module _ {L : Lang} (M : Machine L) where
   pub reads-after : (b : Base) (row : List (Choice Kind Pay)) (F : Form (Pay (due b .on))) → M .opts b ≡ opts L row → ((v : Pay (due b .on)) → due b .test v ≡ tested F v)
       → Reads (After row (due b .on) F) (some b) (λ x. due b .then (F .line (x .1)))
   reads-after b row F n t = record {
-      does = λ x w y r. rw (y .3, append-assoc) (goes M b (F .line (x .1)) (rw t (pass F (x .1) (y .2))) (y .0) r [] (clear L (M .opts b)) (clear-agrees L (M .opts b)) (fine (x .0) (y .0) (y .1)));
-      only = λ l h k. from M b [] (clear L (M .opts b)) (clear-agrees L (M .opts b)) l h λ os v r f ok is rest.
-          let y = pick F v (rw t at ok) in
-          let g = fine-given L row os (subst (λ row. T (distinct L row)) n (differ M b)) (subst (λ row. Fine L row [] os) n f) in
-          k (g .0, F .back v) (os ++ (say L (due b .on) (F .line (F .back v)) ∷ [])) r (os, g .1, y .1, refl) (rw (append-assoc, y .0) is) (rw (y .0) rest);
-      same = λ x y v w r s p q e.
-          let z = cut M b (F .line (x .1)) (F .line (y .1)) (p .0) (q .0) r s [] (fine (x .0) (p .0) (p .1)) (fine (y .0) (q .0) (q .1)) (sym (append-assoc (p .0) _ r) ∙ rw (p .3, q .3) at e ∙ append-assoc (q .0) _ s) in
-          let h = given-same L row (x .0) (y .0) (q .0) (rw (z .0) at (p .1)) (q .1) in
-          let c = inj F (x .1) (y .1) (z .1) in
-          ((λ i. (h i, c i)), z .2) }
+    does = λ x w y r. rw (y .3, append-assoc) (goes M b (F .line (x .1)) (rw t (pass F (x .1) (y .2))) (y .0) r [] (clear L (M .opts b)) (clear-agrees L (M .opts b)) (fine (x .0) (y .0) (y .1)));
+    only = λ l h k. from M b [] (clear L (M .opts b)) (clear-agrees L (M .opts b)) l h λ os v r f ok is rest.
+        let y = pick F v (rw t at ok) in
+        let g = fine-given L row os (subst (λ row. T (distinct L row)) n (differ M b)) (subst (λ row. Fine L row [] os) n f) in
+        k (g .0, F .back v) (os ++ (say L (due b .on) (F .line (F .back v)) ∷ [])) r (os, g .1, y .1, refl) (rw (append-assoc, y .0) is) (rw (y .0) rest);
+    same = λ x y v w r s p q e.
+        let z = cut M b (F .line (x .1)) (F .line (y .1)) (p .0) (q .0) r s [] (fine (x .0) (p .0) (p .1)) (fine (y .0) (q .0) (q .1)) (sym (append-assoc (p .0) _ r) ∙ rw (p .3, q .3) at e ∙ append-assoc (q .0) _ s) in
+        let h = given-same L row (x .0) (y .0) (q .0) (rw (z .0) at (p .1)) (q .1) in
+        let c = inj F (x .1) (y .1) (z .1) in
+        ((λ i. (h i, c i)), z .2);
+  }
     where
       fine : (h : Holds L row) (os : St) → Given L row h os → Fine L (M .opts b) [] os
       fine h os g = subst (λ row. Fine L row [] os) (sym n) (given-fine L row h os g)
@@ -96,22 +98,24 @@ module _ {L : Lang} (M : Machine L) where
   pub reads-seq : {A B : Type 0} {SpA : A → List (S L) → Type 0} {SpB : A → B → List (S L) → Type 0} {p : Option Base} {q : A → Option Base} {q′ : A → B → Option Base}
       → Reads SpA p q → ((a : A) → Reads (SpB a) (q a) (q′ a)) → Reads (Seq SpA SpB) p (λ x. q′ (x .0) (x .1))
   reads-seq {A} {B} {SpA} {SpB} X Y = record {
-      does = λ x w y r. rw (y .4, append-assoc) (X .does (x .0) (y .0) (y .2) (y .1 ++ r) ∙ Y (x .0) .does (x .1) (y .1) (y .3) r);
-      only = λ l h k. X .only l h λ a u r sp is rest. Y a .only r rest λ b v r′ sp′ is′ rest′. k (a, b) (u ++ v) r′ (u, v, sp, sp′, refl) (is ∙ ap (_++_ u) is′ ∙ sym (append-assoc u v r′)) rest′;
-      same = λ x y v w r s p q e.
-          let z = X .same (x .0) (y .0) (p .0) (q .0) (p .1 ++ r) (q .1 ++ s) (p .2) (q .2) (sym (append-assoc (p .0) (p .1) r) ∙ rw (p .4, q .4) at e ∙ append-assoc (q .0) (q .1) s) in
-          let t = Y (y .0) .same (x .1) (y .1) (p .1) (q .1) r s (subst (λ (a : A). SpB a (x .1) (p .1)) (z .0) (p .3)) (q .3) (z .1) in
-          ((λ i. (z .0 i, t .0 i)), t .1) }
+    does = λ x w y r. rw (y .4, append-assoc) (X .does (x .0) (y .0) (y .2) (y .1 ++ r) ∙ Y (x .0) .does (x .1) (y .1) (y .3) r);
+    only = λ l h k. X .only l h λ a u r sp is rest. Y a .only r rest λ b v r′ sp′ is′ rest′. k (a, b) (u ++ v) r′ (u, v, sp, sp′, refl) (is ∙ ap (_++_ u) is′ ∙ sym (append-assoc u v r′)) rest′;
+    same = λ x y v w r s p q e.
+        let z = X .same (x .0) (y .0) (p .0) (q .0) (p .1 ++ r) (q .1 ++ s) (p .2) (q .2) (sym (append-assoc (p .0) (p .1) r) ∙ rw (p .4, q .4) at e ∙ append-assoc (q .0) (q .1) s) in
+        let t = Y (y .0) .same (x .1) (y .1) (p .1) (q .1) r s (subst (λ (a : A). SpB a (x .1) (p .1)) (z .0) (p .3)) (q .3) (z .1) in
+        ((λ i. (z .0 i, t .0 i)), t .1);
+  }
 
   -- the same values and spellings in other words
   pub reads-as : {A B : Type 0} {SpA : A → List (S L) → Type 0} {SpB : B → List (S L) → Type 0} {p q : Option Base} (f : A → B)
       → ((b : B) (w : List (S L)) → SpB b w → (a : A) × (f a ≡ b) × SpA a w) → ((a : A) (w : List (S L)) → SpA a w → SpB (f a) w)
       → Reads SpA p (λ a. q) → Reads SpB p (λ b. q)
   reads-as f to fro X = record {
-      does = λ b w x r. let y = to b w x in X .does (y .0) w (y .2) r;
-      only = λ l h k. X .only l h λ a w r sp is rest. k (f a) w r (fro a w sp) is rest;
-      same = λ b c v w r s x y e. let i = to b v x in let j = to c w y in let z = X .same (i .0) (j .0) v w r s (i .2) (j .2) e in
-          (sym (i .1) ∙ ap f (z .0) ∙ j .1, z .1) }
+    does = λ b w x r. let y = to b w x in X .does (y .0) w (y .2) r;
+    only = λ l h k. X .only l h λ a w r sp is rest. k (f a) w r (fro a w sp) is rest;
+    same = λ b c v w r s x y e. let i = to b v x in let j = to c w y in let z = X .same (i .0) (j .0) v w r s (i .2) (j .2) e in
+        (sym (i .1) ∙ ap f (z .0) ∙ j .1, z .1);
+  }
 
   -- a part that begins with one due line
   pub reads-open : {A : Type 0} (Sp : A → List (S L) → Type 0) (k : Kind) (d : Discrete (Pay k)) (v : Pay k) → ((a : A) (w : List (S L)) → Sp a w → (r : List (S L)) × (w ≡ say L k v ∷ r))

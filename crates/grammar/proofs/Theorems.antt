@@ -6,10 +6,12 @@ use Rattle.grammar.specs.Statements.{Statement}
 use Rattle.grammar.specs.Network.{Network, SpellsNetwork}
 use Rattle.grammar.specs.Machine.{Accepts, at, run, step, next, refuse, Place}
 use Rattle.grammar.specs.Places.{rndf, name-due}
-use Rattle.grammar.specs.Mission.{Mission, SpellsMission}
+use Rattle.grammar.specs.Mission.{Mission, GoodMission, SpellsMission}
+use Rattle.grammar.specs.HouseOrder.{GoodNetwork, house-network, house-mission}
 use Rattle.grammar.specs.MissionStatements as M
 use Rattle.grammar.specs.MissionPlaces.{mdf}
 use Rattle.grammar.specs.MissionPlaces as M-at
+use Rattle.grammar.proofs.Written.{network-written, network-good, mission-written, mission-good}
 use Rattle.grammar.proofs.Reading as R
 use Rattle.grammar.proofs.MissionReading as Mission
 use Rattle.grammar.proofs.NetworkReading as Network
@@ -60,3 +62,22 @@ module _ {N : Type 0} where
   pub mission-refusal : (l r : List (M.Statement N)) (p : Place (mdf N)) (s : M.Statement N) (c : ℕ) (n : Mission N) → run (mdf N) (at (mdf N) M-at.name-due) l ≡ next p → step (mdf N) p s ≡ refuse c
       → SpellsMission n (l ++ (s ∷ r)) → ⊥
   mission-refusal = R.refusal (mdf N) SpellsMission M-at.name-due (Mission.reads N)
+
+  -- ## House order: a network (mission) that keeps the ranges has one house list of statements, which spells it; what is spelled keeps the ranges
+  pub network-house : (n : Network N) → GoodNetwork n → SpellsNetwork n (house-network n)
+  network-house = network-written
+
+  pub network-house-one : (n n′ : Network N) → GoodNetwork n → GoodNetwork n′ → house-network n ≡ house-network n′ → n ≡ n′
+  network-house-one n n′ g g′ e = network-unique n n′ (house-network n) (house-network n′) (network-written n g) (network-written n′ g′) e
+
+  pub network-ranges : (n : Network N) (l : List (Statement N)) → SpellsNetwork n l → GoodNetwork n
+  network-ranges = network-good
+
+  pub mission-house : (n : Mission N) → GoodMission n → SpellsMission n (house-mission n)
+  mission-house = mission-written
+
+  pub mission-house-one : (n n′ : Mission N) → GoodMission n → GoodMission n′ → house-mission n ≡ house-mission n′ → n ≡ n′
+  mission-house-one n n′ g g′ e = mission-unique n n′ (house-mission n) (house-mission n′) (mission-written n g) (mission-written n′ g′) e
+
+  pub mission-ranges : (n : Mission N) (l : List (M.Statement N)) → SpellsMission n l → GoodMission n
+  mission-ranges = mission-good

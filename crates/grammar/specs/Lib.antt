@@ -13,3 +13,4 @@ pub mod Permitted
 pub mod Places
 pub mod MissionPlaces
 pub mod PlaceTable
+pub mod PlaceRows

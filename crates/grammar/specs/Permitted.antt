@@ -54,20 +54,38 @@ abbrev pub thePart : ℕ → ℕ → Form PartId
 thePart m n = only part? (part-id m n)
 
 abbrev pub thePoint : ℕ → ℕ → ℕ → Form PointLine
-thePoint m n i = record { C = Position; line = λ p. record { id = point-id m n i; position = p }; back = λ v. v .position; same = λ p. refl; Good = OnEarth;
-    fits = λ v. and? (via (λ e j. record { id = e j; position = v .position }) (λ e. ap (λ (l : PointLine). l .id) e) (point? (point-id m n i) (v .id))) (on-earth? (v .position)) }
+thePoint m n i = record {
+  C = Position;
+  line = λ p. record { id = point-id m n i; position = p };
+  back = λ v. v .position;
+  same = λ p. refl;
+  Good = OnEarth;
+  fits = λ v. and? (via (λ e j. record { id = e j; position = v .position }) (λ e. ap (λ (l : PointLine). l .id) e) (point? (point-id m n i) (v .id))) (on-earth? (v .position));
+}
 
 -- a point-id of part-id m.n by its number, permitted by a test of the number
 abbrev pub ownStop : ℕ → ℕ → ℕ → Form PointId
 ownStop m n w = record { C = ℕ; line = point-id m n; back = λ v. v .z; same = λ i. refl; Good = Between 1 w; fits = λ v. and? (point? (point-id m n (v .z)) v) (between? 1 w (v .z)) }
 
 abbrev pub ownCheckpoint : ℕ → ℕ → ℕ → Form CheckpointLine
-ownCheckpoint m n w = record { C = Checkpoint; line = checkpoint-of m n; back = λ v. record { waypoint = v .waypoint .z; number = v .number }; same = λ c. refl; Good = GoodCheckpoint w;
-    fits = λ v. and? (via (λ e j. record { waypoint = e j; number = v .number }) (λ e. ap (λ (l : CheckpointLine). l .waypoint) e) (point? (point-id m n (v .waypoint .z)) (v .waypoint))) (checkpoint? w (record { waypoint = v .waypoint .z; number = v .number })) }
+ownCheckpoint m n w = record {
+  C = Checkpoint;
+  line = checkpoint-of m n;
+  back = λ v. record { waypoint = v .waypoint .z; number = v .number };
+  same = λ c. refl;
+  Good = GoodCheckpoint w;
+  fits = λ v. and? (via (λ e j. record { waypoint = e j; number = v .number }) (λ e. ap (λ (l : CheckpointLine). l .waypoint) e) (point? (point-id m n (v .waypoint .z)) (v .waypoint))) (checkpoint? w (record { waypoint = v .waypoint .z; number = v .number }));
+}
 
 abbrev pub ownExit : (ℕ → ℕ → (Good : Exit → Type 0) → ((e : Exit) → Dec (Good e)) → Form ExitLine)
-ownExit m n Good d = record { C = Exit; line = exit-of m n; back = λ v. record { waypoint = v .waypoint .z; entry = v .entry }; same = λ c. refl; Good = Good;
-    fits = λ v. and? (via (λ e j. record { waypoint = e j; entry = v .entry }) (λ e. ap (λ (l : ExitLine). l .waypoint) e) (point? (point-id m n (v .waypoint .z)) (v .waypoint))) (d (record { waypoint = v .waypoint .z; entry = v .entry })) }
+ownExit m n Good d = record {
+  C = Exit;
+  line = exit-of m n;
+  back = λ v. record { waypoint = v .waypoint .z; entry = v .entry };
+  same = λ c. refl;
+  Good = Good;
+  fits = λ v. and? (via (λ e j. record { waypoint = e j; entry = v .entry }) (λ e. ap (λ (l : ExitLine). l .waypoint) e) (point? (point-id m n (v .waypoint .z)) (v .waypoint))) (d (record { waypoint = v .waypoint .z; entry = v .entry }));
+}
 
 -- ## The options of each part. N: what a name is
 module _ (N : Type 0) where

@@ -181,14 +181,19 @@ module _ {N : Type 0} where
 
   -- ## All of them, with the entries as f gives them
   unfoldable pub tables-with : {E : Type 0} → (PointId → E) → Network N → Tables N E
-  tables-with f n = record { file = file-row n; segments = segment-rows n; lanes = lane-rows n; zones = zone-rows n;
-      spots = along zone-size (over-spots (λ first s. spot-row first s ∷ [])) (first-zone-point n) (n .zones);
-      points = lane-points n ++ gather zone-points (n .zones);
-      checkpoints = along lane-size (λ first a. map (checkpoint-row first) (a .checkpoints)) 0 (all-lanes n)
-          ++ along zone-size (over-spots (λ first s. spot-checkpoint first (s .checkpoint))) (first-zone-point n) (n .zones);
-      stops = along lane-size (λ first a. map (row-of first) (a .stops)) 0 (all-lanes n);
-      exits = along lane-size (λ first a. map (exit-row f first) (a .exits)) 0 (all-lanes n)
-          ++ along zone-size (λ first z. map (exit-row f first) (z .border .exits)) (first-zone-point n) (n .zones) }
+  tables-with f n = record {
+    file = file-row n;
+    segments = segment-rows n;
+    lanes = lane-rows n;
+    zones = zone-rows n;
+    spots = along zone-size (over-spots (λ first s. spot-row first s ∷ [])) (first-zone-point n) (n .zones);
+    points = lane-points n ++ gather zone-points (n .zones);
+    checkpoints = along lane-size (λ first a. map (checkpoint-row first) (a .checkpoints)) 0 (all-lanes n)
+        ++ along zone-size (over-spots (λ first s. spot-checkpoint first (s .checkpoint))) (first-zone-point n) (n .zones);
+    stops = along lane-size (λ first a. map (row-of first) (a .stops)) 0 (all-lanes n);
+    exits = along lane-size (λ first a. map (exit-row f first) (a .exits)) 0 (all-lanes n)
+        ++ along zone-size (λ first z. map (exit-row f first) (z .border .exits)) (first-zone-point n) (n .zones);
+  }
 
   -- the row of the point x.y.z: z of the perimeter of zone x where y is 0, z of lane y of segment x where it is not
   abbrev pub part-row : Network N → (x y : ℕ) → ℕ
