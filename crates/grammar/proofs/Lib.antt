@@ -15,3 +15,8 @@ pub mod MdfTable
 pub mod Theorems
 pub mod TableTheorems
 pub mod YardA
+pub mod Rows
+pub mod NthRows
+pub mod PointRows
+pub mod RowsInside
+pub mod Determined
