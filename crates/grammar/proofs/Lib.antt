@@ -1,4 +1,5 @@
 pub mod LanguageLaws
+pub mod Keeping
 pub mod MachineLaws
 pub mod FormLaws
 pub mod Options
@@ -20,3 +21,4 @@ pub mod NthRows
 pub mod PointRows
 pub mod RowsInside
 pub mod Determined
+pub mod StandLaws

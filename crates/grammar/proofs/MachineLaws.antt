@@ -9,6 +9,7 @@ use native.Mathlib.Omega.{arith}
 use lib.Dec.{T}
 use Rattle.grammar.specs.Language.{Lang, S, say, as-dec, asKind}
 use Rattle.grammar.specs.Machine.{Out, next, refuse, Opt, Due, Verdict, other, bad, good, judge, onto, lacks, distinct, take, optAt, clear, Machine, Stand, over, inside, guard, andThen, Place, at, enter, hit, settle, step, run, Accepts}
+use Rattle.grammar.proofs.Keeping.{GoodNext, GoodOut, run-good}
 use Rattle.grammar.proofs.LanguageLaws.{and-l, and-r, is-true, as-same, as-inv, memb, Allowed, Fine}
 
 module _ (L : Lang) where
@@ -245,17 +246,13 @@ module _ {L : Lang} (M : Machine L) where
 
   -- ## Every good base is live, where each has a sample that leads to a cheaper one
   module _ (Good : Base → Type 0) (cost : Base → ℕ) where
-    abbrev pub GoodNext : Option Base → Type 0
-    GoodNext none = Unit {0}
-    GoodNext (some b) = Good b
-
     abbrev pub Cheaper : ℕ → Option Base → Type 0
     Cheaper c none = Unit {0}
     Cheaper c (some b) = cost b < c
 
     -- what a good base has: every permitted statement leads to a good one, and one of them to a cheaper one
     pub record Goes-on (b : Base) : Type 0 where
-      pub keeps : (v : Pay (due b .on)) → T (due b .test v) → GoodNext (due b .then v)
+      pub keeps : (v : Pay (due b .on)) → T (due b .test v) → GoodNext M Good (due b .then v)
       pub v : Pay (due b .on)
       pub ok : T (due b .test v)
       pub less : Cheaper (cost b) (due b .then v)
@@ -265,55 +262,15 @@ module _ {L : Lang} (M : Machine L) where
       live-within zero b y h = absurd (omega arith)
       live-within (suc n) b y h = let x = all b y in live-by b (x .v) (x .ok) (go (due b .then (x .v)) (x .keeps (x .v) (x .ok)) (x .less) (live-within n))
         where
-          go : (x : Option Base) → GoodNext x → Cheaper (cost b) x → ((c : Base) → Good c → cost c < n → Live (some c)) → Live x
+          go : (x : Option Base) → GoodNext M Good x → Cheaper (cost b) x → ((c : Base) → Good c → cost c < n → Live (some c)) → Live x
           go none w y ih = live-over
           go (some c) w y ih = ih c w (omega arith)
-
-      abbrev GoodPlace : Place M → Type 0
-      GoodPlace over = Unit {0}
-      GoodPlace (inside b g) = Good b
-
-      enter-good : (n : Option Base) → GoodNext n → GoodPlace (enter M n)
-      enter-good none y = y
-      enter-good (some b) y = y
-
-      abbrev GoodOut : Out (Place M) → Type 0
-      GoodOut (next p) = GoodPlace p
-      GoodOut (refuse c) = Unit {0}
-
-      guard-good : (t : Bool) (p : Place M) → (T t → GoodPlace p) → GoodOut (guard t 9 (next p))
-      unfolding guard
-      guard-good true p y = y tt
-      guard-good false p y = tt
-
-      step-good : (p : Place M) (s : S L) → GoodPlace p → GoodOut (step M p s)
-      unfolding step
-      step-good over s y = tt
-      step-good (inside b g) s y = go (optAt L (opts b) g s)
-        where
-          hit-good : (o : Option (Pay (due b .on))) → GoodOut (hit M b o)
-          hit-good none = tt
-          hit-good (some v) = guard-good (due b .test v) (enter M (due b .then v)) λ t. enter-good (due b .then v) (all b y .keeps v t)
-
-          go : (x : Verdict) → GoodOut (settle M b x s)
-          go other = hit-good (asKind L (due b .on) s)
-          go (bad c) = tt
-          go (good g′) = y
-
-      run-good : (p : Place M) (l : List (S L)) → GoodPlace p → GoodOut (run M p l)
-      unfolding run
-      run-good p [] y = y
-      run-good p (s ∷ l) y = go (step M p s) (step-good p s y) (λ q. run-good q l)
-        where
-          go : (o : Out (Place M)) → GoodOut o → ((q : Place M) → GoodPlace q → GoodOut (run M q l)) → GoodOut (andThen o (λ q. run M q l))
-          go (next q) w ih = ih q w
-          go (refuse c) w ih = tt
 
       -- what is not refused can be finished
       pub begins : (b : Base) → Good b → (q : Place M) (l : List (S L)) → run M (at M b) l ≡ next q → (r : List (S L)) × Accepts M (at M b) (l ++ r)
       unfolding Live
       begins b y over l e = ([], rw (run-append (at M b) l [], e) (run-nil over))
       begins b y (inside c g) l e =
-          let w : Good c = subst GoodOut e (run-good (at M b) l y) in
+          let w : Good c = subst (GoodOut M Good) e (run-good M Good (λ b y. all b y .keeps) (at M b) l y) in
           let x = live-within (suc (cost c)) c w (omega arith) g in
           (x .0, rw (run-append (at M b) l (x .0), e) (x .1))

@@ -163,18 +163,18 @@ module _ (N : Type 0) where
   abbrev pub Good : Base → Type 0
   Good b = Unit {0}
 
-  one-is : T (tested counted 1)
+  pub one-is : T (tested counted 1)
   one-is = pass counted 1 (record { low = omega arith; high = omega arith })
 
-  abbrev slow : Limit
+  abbrev pub slow : Limit
   slow = record { id = 1; minimum = 0; maximum = 0 }
 
-  slow-is : T (tested limited slow)
+  pub slow-is : T (tested limited slow)
   slow-is = pass limited slow (record { id = record { low = omega arith; high = omega arith }; minimum = omega arith; maximum = omega arith; in-order = omega arith })
 
   -- N has some name
   module _ (some-name : N) where
-    pub goes-on : (b : Base) → Good b → Goes-on (mdf N) Good cost b
+    unfoldable pub goes-on : (b : Base) → Good b → Goes-on (mdf N) Good cost b
     goes-on name-due y = record { keeps = λ v t. tt; v = some-name; ok = tt; less = omega arith }
     goes-on RNDF-due y = record { keeps = λ v t. tt; v = some-name; ok = tt; less = omega arith }
     goes-on checkpoints-due y = record { keeps = λ v t. tt; v = tt; ok = tt; less = omega arith }

@@ -179,19 +179,18 @@ module _ (N : Type 0) where
   Good (second-of-spot-due m z n s) = Unit {0}
   Good (end-spot-due m z n s) = Unit {0}
 
-  origin : Position
+  abbrev pub origin : Position
   origin = record { latitude = pos 0; longitude = pos 0 }
 
-  earthly : OnEarth origin
-  unfolding origin
+  pub earthly : OnEarth origin
   earthly = record { latitude = omega arith; longitude = omega arith }
 
-  one-is : T (tested counted 1)
+  pub one-is : T (tested counted 1)
   one-is = pass counted 1 (record { low = omega arith; high = omega arith })
 
   -- N has some name
   module _ (some-name : N) where
-    pub goes-on : (b : Base) → Good b → Goes-on (rndf N) Good cost b
+    unfoldable pub goes-on : (b : Base) → Good b → Goes-on (rndf N) Good cost b
     goes-on name-due y = record { keeps = λ v t. tt; v = some-name; ok = tt; less = omega arith }
     goes-on num-segments-due y = record { keeps = λ v t. pick counted v t .1 .high; v = 1; ok = one-is; less = omega arith }
     goes-on (num-zones-due o) y = record { keeps = λ v t. tt; v = 0; ok = pass (upto o) 0 (omega arith); less = omega arith }

@@ -14,3 +14,5 @@ pub mod Places
 pub mod MissionPlaces
 pub mod PlaceTable
 pub mod PlaceRows
+pub mod Names
+pub mod Stands
