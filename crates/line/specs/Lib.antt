@@ -1,0 +1,7 @@
+-- Lines, comments, fields: what they are, and how they are found.
+pub mod Text
+pub mod Content
+pub mod Faults
+pub mod Located
+pub mod Lines
+pub mod Forms

@@ -1,0 +1,2 @@
+-- What the casts of signed numbers need.
+mod Signs

@@ -1,0 +1,16 @@
+-- `read_rows::goal_at` meets its contract: each word by what the call of it ensures. Assumes nothing.
+use borrow.Author.Needs.{needs}
+use Rattle.read_rows.proofs.goal_at.Statement.{statement}
+use Rattle.read_rows.proofs.goal_at.Tie as tie
+
+row-words-requires : tie.Need-row-words-requires
+row-words-requires c κs = search needs
+
+short-requires : tie.Need-short-requires
+short-requires c κs = search needs
+
+returns : tie.Need-returns
+returns c = cc
+
+pub goal-at-spec : {M : Type 1} → statement M
+goal-at-spec = tie.close (tie.spec row-words-requires short-requires returns)

@@ -1,0 +1,37 @@
+-- `read_rows::lane_at` meets its contract: each word by what the call of it ensures. Assumes nothing.
+use borrow.Author.Needs.{needs}
+use Rattle.read_rows.proofs.lane_at.Statement.{statement}
+use Rattle.read_rows.proofs.lane_at.Tie as tie
+
+row-words-requires : tie.Need-row-words-requires
+row-words-requires c κs = search needs
+
+word-requires : tie.Need-word-requires
+word-requires c κs = search needs
+
+word-requires-2 : tie.Need-word-requires-2
+word-requires-2 c κs = search needs
+
+short-requires : tie.Need-short-requires
+short-requires c κs = search needs
+
+byte-requires : tie.Need-byte-requires
+byte-requires c κs = search needs
+
+byte-requires-2 : tie.Need-byte-requires-2
+byte-requires-2 c κs = search needs
+
+returns : tie.Need-returns
+returns c = cc
+
+pub lane-at-spec : {M : Type 1} → statement M
+lane-at-spec =
+    tie.close
+    (tie.spec
+    row-words-requires
+    word-requires
+    word-requires-2
+    short-requires
+    byte-requires
+    byte-requires-2
+    returns)

@@ -1,0 +1,33 @@
+-- `read_rows::segment_at` meets its contract: each word by what the call of it ensures. Assumes nothing.
+use borrow.Author.Needs.{needs}
+use Rattle.read_rows.proofs.segment_at.Statement.{statement}
+use Rattle.read_rows.proofs.segment_at.Tie as tie
+
+row-words-requires : tie.Need-row-words-requires
+row-words-requires c κs = search needs
+
+word-requires : tie.Need-word-requires
+word-requires c κs = search needs
+
+word-requires-2 : tie.Need-word-requires-2
+word-requires-2 c κs = search needs
+
+word-requires-3 : tie.Need-word-requires-3
+word-requires-3 c κs = search needs
+
+word-requires-4 : tie.Need-word-requires-4
+word-requires-4 c κs = search needs
+
+returns : tie.Need-returns
+returns c = cc
+
+pub segment-at-spec : {M : Type 1} → statement M
+segment-at-spec =
+    tie.close
+    (tie.spec
+    row-words-requires
+    word-requires
+    word-requires-2
+    word-requires-3
+    word-requires-4
+    returns)

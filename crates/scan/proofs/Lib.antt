@@ -1,0 +1,4 @@
+-- Laws of scanning.
+pub mod Reach
+pub mod Bytes
+pub mod Equal

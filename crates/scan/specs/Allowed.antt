@@ -1,0 +1,37 @@
+-- WHAT A READER MUST BELIEVE. Which bytes separate fields, which are allowed outside and inside comments, which are digits. Assumes nothing.
+use mathlib.Core.List.{[], _∷_}
+use mathlib.Core.Bool.{Bool, true, not, _&&_, _||_}
+use Prim.Native.Nat.{ℕ}
+use Prim.Native.Char.{code}
+use lib.Dec.{eqb, leb}
+use Rattle.terms.specs.Ascii.{Bytes}
+
+-- the numbers from m to n
+abbrev pub within : ℕ → ℕ → ℕ → Bool
+within m n b = leb m b && leb b n
+
+-- 01: "Fields are separated by one or more tabs"
+-- The one place that says which bytes these are; where 01 says "only tabs", it is these bytes too.
+unfoldable pub separates : ℕ → Bool
+separates b = eqb b (code "\t")
+
+-- a byte of a field, see `outside`
+abbrev pub fieldByte : ℕ → Bool
+fieldByte b = within 33 126 b && (not (eqb b (code "\\")) && not (eqb b (code "*")))
+
+-- 01: "Outside comments the bytes are 33 to 126 and tab, but no backslash and no `*`."
+abbrev pub outside : ℕ → Bool
+outside b = separates b || fieldByte b
+
+-- 01: "Inside, 32 to 126 and tab."
+abbrev pub inside : ℕ → Bool
+inside b = separates b || within 32 126 b
+
+-- 0 to 9
+abbrev pub digit : ℕ → Bool
+digit b = within (code "0") (code "9") b
+
+-- every byte passes a test
+unfoldable pub all : (ℕ → Bool) → Bytes → Bool
+all test [] = true
+all test (b ∷ rest) = test b && all test rest

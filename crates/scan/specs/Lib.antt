@@ -1,0 +1,3 @@
+-- Which bytes are what, and how far a scan goes.
+pub mod Allowed
+pub mod Reach

@@ -1,0 +1,55 @@
+-- Executable: where a scan stops, and whether two stretches of bytes are the same. Assumes nothing.
+use mathlib.Core.List.{[], _∷_}
+use mathlib.Core.Bool.{Bool, true, false, not, _&&_}
+use Prim.Native.Nat.{ℕ, suc, _+_}
+use lib.ListN.{drop}
+use lib.Dec.{eqb}
+use Rattle.terms.specs.Ascii.{Bytes}
+use Rattle.terms.specs.Words.{pick}
+use Rattle.scan.specs.Allowed.{separates, outside, inside, digit}
+use Rattle.scan.specs.declared.Until.{Until}
+use Rattle.scan.specs.declared.Until.the-variants.{Byte, Two, Separator, NotSeparator, NotOutside, NotInside, NotDigit}
+
+-- how many bytes stand before the first place at which the test of what is left holds; all of them where there is none
+unfoldable pub upTo : (Bytes → Bool) → Bytes → ℕ
+upTo test [] = 0
+upTo test (b ∷ rest) = pick (test (b ∷ rest)) 0 (suc (upTo test rest))
+
+-- the place in s where a scan from `from` on stops
+abbrev pub reach : (Bytes → Bool) → Bytes → ℕ → ℕ
+reach test s from = from + upTo test (drop from s)
+
+-- it begins with a byte that passes; with one that fails
+unfoldable pub begins : (ℕ → Bool) → Bytes → Bool
+begins test [] = false
+begins test (b ∷ rest) = test b
+
+unfoldable pub fails : (ℕ → Bool) → Bytes → Bool
+fails test [] = false
+fails test (b ∷ rest) = not (test b)
+
+-- it begins with x; with x and y
+unfoldable pub first : ℕ → Bytes → Bool
+first x [] = false
+first x (b ∷ rest) = eqb b x
+
+unfoldable pub two : ℕ → ℕ → Bytes → Bool
+two x y [] = false
+two x y (b ∷ rest) = eqb b x && first y rest
+
+-- what a scan stops at
+unfoldable pub stopsBy : Until → Bytes → Bool
+stopsBy (Byte x) l = first x l
+stopsBy (Two x y) l = two x y l
+stopsBy Separator l = begins separates l
+stopsBy NotSeparator l = fails separates l
+stopsBy NotOutside l = fails outside l
+stopsBy NotInside l = fails inside l
+stopsBy NotDigit l = fails digit l
+
+-- byte for byte
+unfoldable pub sameBytes : Bytes → Bytes → Bool
+sameBytes [] [] = true
+sameBytes [] (b ∷ m) = false
+sameBytes (a ∷ l) [] = false
+sameBytes (a ∷ l) (b ∷ m) = eqb a b && sameBytes l m

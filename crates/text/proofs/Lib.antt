@@ -1,0 +1,10 @@
+pub mod FieldReading
+pub mod Telling
+pub mod LineJudging
+pub mod FaultLaws
+pub mod TextReading
+pub mod HouseLines
+pub mod RndfText
+pub mod MdfText
+pub mod Theorems
+pub mod YardA

@@ -1,0 +1,2 @@
+-- The kinds' ranges, both ways.
+pub mod Ranges
