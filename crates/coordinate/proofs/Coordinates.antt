@@ -14,7 +14,7 @@ use lib.Dec.{leb, eqb}
 use Rattle.terms.specs.Ascii.{Bytes, ascii}
 use Rattle.terms.specs.Words.{pick}
 use Rattle.scan.specs.Allowed.{digit, all}
-use Rattle.scan.proofs.Bytes.{both}
+use Rattle.terms.proofs.Tests.{clash, both}
 use Rattle.number.specs.Decimal.{decimal, padded}
 use Rattle.coordinate.specs.Spelling.{SpellsCoordinate, sign, signed}
 use Rattle.coordinate.specs.Meaning.{CoordinateMeans}
@@ -143,7 +143,7 @@ coordinate-at : (minus : Bool) (a b : ℕ) → a ≤ 999 → b ≤ 999999 → co
 coordinate-at minus a b h g = ap coordinateOf (spelled-body minus a b) ∙ body-signed minus a b h g
 
 minus-first : (s : Bytes) → minusFirst s ≡ true → s ≡ 45 ∷ drop 1 s
-minus-first [] e = absurd (let z : _≡_ {A = ℕ} 0 1 = cc in omega arith)
+minus-first [] e = clash (sym e)
 minus-first (b ∷ t) e = rw (eqb-true b 45 e)
 
 -- ## THE LAWS

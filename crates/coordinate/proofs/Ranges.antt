@@ -8,8 +8,7 @@ use lib.Dec.{leb}
 use lib.IntN.{ℤ, pos, negsuc, negℤ, natAbs}
 use denote.Floats.{passes, is-true}
 use lib.Signed.{leZ, leZ-yes}
-use Rattle.scan.proofs.Bytes.{no, both, and}
-use Rattle.number.proofs.Ranges.{refused}
+use Rattle.terms.proofs.Tests.{clash, refused, both, and}
 use Rattle.coordinate.specs.Ranges.{Within, LatitudeInRange, LongitudeInRange}
 use Rattle.coordinate.specs.Executable.{between, latitudeInRange, longitudeInRange}
 
@@ -42,7 +41,7 @@ longitude-range-no z e h = refused (longitude-range-only z) e h
 -- a range as a bound of the size, and back
 within-size : (limit : ℕ) (z : ℤ) → between (negℤ (pos limit)) (pos limit) z ≡ true → natAbs z ≤ limit
 within-size zero (pos m) e = leb-true m 0 (both (leb 0 m) (leb m 0) e .1)
-within-size zero (negsuc m) e = no (sym e)
+within-size zero (negsuc m) e = clash (sym e)
 within-size (suc l) (pos m) e = leb-true m (suc l) e
 within-size (suc l) (negsuc m) e = let h = leb-true m l (both (leb m l) true e .0) in omega arith
 

@@ -2,17 +2,17 @@
 use mathlib.Core.Path.{_≡_, refl, sym, ap, ap₂, subst, _∙_}
 use mathlib.Core.List.{List, [], _∷_, _++_, map, append-nil}
 use mathlib.Core.Option.{Option, none, some}
-use mathlib.Core.Bool.{Bool, true, false, _&&_}
-use mathlib.Core.Logic.{_⊎_, inl, inr}
+use mathlib.Core.Bool.{false}
+use mathlib.Core.Logic.{inl, inr}
 use Prim.Native.Nat.{ℕ, suc}
 use lib.Dec.{T}
+use lib.Ieee.Fits.{and-l, and-r}
 use Rattle.terms.specs.Words.{Each, Among, InTurn, nothing, then}
 use Rattle.grammar.specs.Language.{Lang, S, say, asKind, allOf}
 use Rattle.grammar.specs.Machine.{lacks, distinct}
-use Rattle.grammar.specs.Forms.{Form}
 use Rattle.grammar.specs.Choices.{Choice, opts}
 use Rattle.grammar.specs.HouseOrder.{in-turn}
-use Rattle.grammar.proofs.LanguageLaws.{and-l, and-r, as-same, all-some, all-none}
+use Rattle.grammar.proofs.LanguageLaws.{as-same, all-some, all-none}
 use Rattle.grammar.proofs.MachineLaws.{none-of}
 use Rattle.grammar.proofs.Options.{listed, kinds, Holds, Has, Given}
 

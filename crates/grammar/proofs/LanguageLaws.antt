@@ -1,30 +1,13 @@
 -- Laws of statements, and of rows of options: which statements may stand together. Assumes nothing.
 use mathlib.Core.Path.{_≡_, refl, sym, ap, subst, subst-refl, _∙_, pathJ}
 use mathlib.Core.List.{List, [], _∷_}
-use mathlib.Core.Option.{Option, none, some}
+use mathlib.Core.Option.{none, some}
 use mathlib.Core.Bool.{Bool, true, false, _&&_}
 use mathlib.Core.Logic.{_⊎_}
 use mathlib.Core.HLevel.{hedberg}
 use lib.Dec.{T}
 use Rattle.grammar.specs.Language.{Lang, S, say, as-dec, asKind, allOf}
 use Rattle.grammar.specs.Machine.{Opt}
-
-pub and : (a b : Bool) → T a → T b → T (a && b)
-and true true p q = tt
-and true false p q = q
-and false b p q = p
-
-pub and-l : (a b : Bool) → T (a && b) → T a
-and-l true b p = tt
-and-l false b p = p
-
-pub and-r : (a b : Bool) → T (a && b) → T b
-and-r true b p = p
-and-r false b p = absurd p
-
-pub is-true : (a : Bool) → T a → a ≡ true
-is-true true t = refl
-is-true false t = absurd t
 
 module _ (L : Lang) where
   open Lang L using (Kind, Pay, disc)

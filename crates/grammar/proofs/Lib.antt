@@ -16,9 +16,14 @@ pub mod MdfTable
 pub mod Theorems
 pub mod TableTheorems
 pub mod YardA
+pub mod YardB
+pub mod Edges
 pub mod Rows
 pub mod NthRows
 pub mod PointRows
 pub mod RowsInside
 pub mod Determined
 pub mod StandLaws
+pub mod Follows
+pub mod TableLaws
+pub mod Renaming

@@ -3,14 +3,16 @@ use mathlib.Core.Path.{_≡_, refl, sym, ap, ap₂, subst, _∙_}
 use mathlib.Core.List.{List, [], _∷_, _++_, head-eq-of-cons-eq, tail-eq-of-cons-eq}
 use mathlib.Core.Option.{Option, none, some, Option·some-injective}
 use mathlib.Core.Bool.{Bool, true, false, _&&_, and-true, and-false}
-use mathlib.Core.Logic.{_⊎_, inl, inr}
+use mathlib.Core.Logic.{inl, inr}
 use Prim.Native.Nat.{ℕ, zero, suc, _<_}
 use native.Mathlib.Omega.{arith}
 use lib.Dec.{T}
+use lib.Ieee.Fits.{and-l, and-r}
+use lib.Ieee.Bits.{is-true}
 use Rattle.grammar.specs.Language.{Lang, S, say, as-dec, asKind}
-use Rattle.grammar.specs.Machine.{Out, next, refuse, Opt, Due, Verdict, other, bad, good, judge, onto, lacks, distinct, take, optAt, clear, Machine, Stand, over, inside, guard, andThen, Place, at, enter, hit, settle, step, run, Accepts}
+use Rattle.grammar.specs.Machine.{Out, next, refuse, Opt, Verdict, other, bad, good, judge, onto, lacks, distinct, take, optAt, clear, Machine, over, inside, guard, andThen, Place, at, enter, hit, settle, step, run, Accepts}
 use Rattle.grammar.proofs.Keeping.{GoodNext, GoodOut, run-good}
-use Rattle.grammar.proofs.LanguageLaws.{and-l, and-r, is-true, as-same, as-inv, memb, Allowed, Fine}
+use Rattle.grammar.proofs.LanguageLaws.{as-same, as-inv, memb, Allowed, Fine}
 
 module _ (L : Lang) where
   open Lang L using (Kind, Pay, disc)
@@ -130,6 +132,11 @@ module _ {P : Type 0} where
   passed true c p q f e = (tt, e)
   passed false c p q f e = refused e
 
+-- a base that costs less than c; or the end
+abbrev pub Cheaper : {Base : Type 0} → (Base → ℕ) → ℕ → Option Base → Type 0
+Cheaper cost c none = Unit {0}
+Cheaper cost c (some b) = cost b < c
+
 module _ {L : Lang} (M : Machine L) where
   open Lang L using (Kind, Pay, disc)
   open Machine M using (Base, opts, due, apart)
@@ -246,23 +253,19 @@ module _ {L : Lang} (M : Machine L) where
 
   -- ## Every good base is live, where each has a sample that leads to a cheaper one
   module _ (Good : Base → Type 0) (cost : Base → ℕ) where
-    abbrev pub Cheaper : ℕ → Option Base → Type 0
-    Cheaper c none = Unit {0}
-    Cheaper c (some b) = cost b < c
-
     -- what a good base has: every permitted statement leads to a good one, and one of them to a cheaper one
     pub record Goes-on (b : Base) : Type 0 where
       pub keeps : (v : Pay (due b .on)) → T (due b .test v) → GoodNext M Good (due b .then v)
       pub v : Pay (due b .on)
       pub ok : T (due b .test v)
-      pub less : Cheaper (cost b) (due b .then v)
+      pub less : Cheaper cost (cost b) (due b .then v)
 
     module _ (all : (b : Base) → Good b → Goes-on b) where
       live-within : (n : ℕ) (b : Base) → Good b → cost b < n → Live (some b)
       live-within zero b y h = absurd (omega arith)
       live-within (suc n) b y h = let x = all b y in live-by b (x .v) (x .ok) (go (due b .then (x .v)) (x .keeps (x .v) (x .ok)) (x .less) (live-within n))
         where
-          go : (x : Option Base) → GoodNext M Good x → Cheaper (cost b) x → ((c : Base) → Good c → cost c < n → Live (some c)) → Live x
+          go : (x : Option Base) → GoodNext M Good x → Cheaper cost (cost b) x → ((c : Base) → Good c → cost c < n → Live (some c)) → Live x
           go none w y ih = live-over
           go (some c) w y ih = ih c w (omega arith)
 

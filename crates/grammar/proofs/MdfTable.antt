@@ -1,16 +1,16 @@
 -- The MDF's table fits the MDF's places: a computed test over every row. Assumes nothing.
 use mathlib.Core.Path.{_≡_, refl}
-use mathlib.Core.List.{List}
 use mathlib.Core.Option.{Option, none, some}
-use mathlib.Core.Bool.{Bool}
-use Prim.Native.Nat.{ℕ, zero, suc}
-use lib.Dec.{T, eqb, ltb}
+use mathlib.Core.Bool.{true}
+use Prim.Native.Nat.{zero, suc}
+use lib.Dec.{T, ltb}
 use lib.ListN.{getD, length}
-use Rattle.grammar.specs.MissionStatements.{Kind, Kind-discrete, Says, MDF-name, RNDF, format-version, creation-date, checkpoints, num-checkpoints, end-checkpoints, speed-limits, num-speed-limits, end-speed-limits, end-file, goal, limit}
+use Rattle.terms.proofs.Computed.{every}
+use Rattle.grammar.specs.MissionStatements.{Kind, Says, MDF-name, RNDF, format-version, creation-date, checkpoints, num-checkpoints, end-checkpoints, speed-limits, num-speed-limits, end-speed-limits, end-file, goal, limit}
 use Rattle.grammar.specs.MissionPlaces.{mdf, Base, opts, due, name-due, RNDF-due, checkpoints-due, num-checkpoints-due, goal-due, speed-limits-due, num-speed-limits-due, limit-due, end-file-due}
 use Rattle.grammar.specs.PlaceTable.{mdf-table, cell}
 use Rattle.grammar.specs.PlaceRows.{mission-kinds, mission-kind-row, mdf-row, mdf-stem}
-use Rattle.grammar.proofs.Tabled.{every, optCell, otherwise, Tabled}
+use Rattle.grammar.proofs.Tabled.{fits, Tabled}
 
 pub coded : (k : Kind) → getD mission-kinds (mission-kind-row k) MDF-name ≡ k
 coded MDF-name = refl
@@ -68,19 +68,19 @@ module _ (N : Type 0) where
   few (limit-due zero) = tt
   few end-file-due = tt
 
-  pub beside : (b : Base) → T (every (λ k. otherwise (mdf N) {b = b} (Kind-discrete k (due N b .on)) (eqb (cell mdf-table (mdf-row b) (mission-kind-row k)) (optCell (mdf N) (opts N b) 1 k))) mission-kinds)
+  pub beside : (b : Base) → every (fits (mdf N) mdf-table mdf-row mission-kind-row b) mission-kinds ≡ true
   unfolding mdf-table
-  beside name-due = tt
-  beside RNDF-due = tt
-  beside checkpoints-due = tt
-  beside num-checkpoints-due = tt
-  beside (goal-due (suc g)) = tt
-  beside (goal-due zero) = tt
-  beside speed-limits-due = tt
-  beside num-speed-limits-due = tt
-  beside (limit-due (suc l)) = tt
-  beside (limit-due zero) = tt
-  beside end-file-due = tt
+  beside name-due = refl
+  beside RNDF-due = refl
+  beside checkpoints-due = refl
+  beside num-checkpoints-due = refl
+  beside (goal-due (suc g)) = refl
+  beside (goal-due zero) = refl
+  beside speed-limits-due = refl
+  beside num-speed-limits-due = refl
+  beside (limit-due (suc l)) = refl
+  beside (limit-due zero) = refl
+  beside end-file-due = refl
 
   pub leads : (b : Base) (v : Says N (due N b .on)) → cell mdf-table (mdf-row b) (mission-kind-row (due N b .on)) ≡ mdf-stem (due N b .then v)
   unfolding mdf-table

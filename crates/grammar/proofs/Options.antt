@@ -1,21 +1,22 @@
 -- Options in any order: what a part has of each kind, and the row of the machine, are one. Proved once, for all parts. Assumes nothing.
 use mathlib.Core.Path.{_≡_, refl, sym, ap, ap₂, subst, _∙_}
-use mathlib.Core.List.{List, [], _∷_, _++_, map}
+use mathlib.Core.List.{List, [], _∷_, map}
 use mathlib.Core.Option.{Option, none, some, Option·some-injective}
-use mathlib.Core.Bool.{Bool, true, false, _&&_, and-false}
-use mathlib.Core.Logic.{_⊎_, inl, inr}
-use Prim.Native.Nat.{ℕ, zero, suc, _+_, _≤_}
+use mathlib.Core.Bool.{Bool, true, false, _&&_}
+use mathlib.Core.Logic.{inl, inr}
+use Prim.Native.Nat.{ℕ, suc, _+_, _≤_}
 use native.Mathlib.Omega.{arith}
 use lib.Dec.{T}
+use lib.Ieee.Fits.{and-l, and-r}
 use lib.ListN.{length}
 use Rattle.terms.specs.Words.{Each, Among, perhaps}
-use Rattle.grammar.specs.Language.{Lang, S, say, as-dec, asKind, allOf}
+use Rattle.grammar.specs.Language.{Lang, S, as-dec, asKind, allOf}
 use Rattle.grammar.specs.Machine.{Opt, lacks, distinct}
 use Rattle.grammar.specs.Forms.{Form, tested}
-use Rattle.grammar.specs.Choices.{Choice, opt, opts}
-use Rattle.grammar.proofs.LanguageLaws.{and-l, and-r, is-true, as-same, as-inv, memb, Allowed, Fine, all-some, all-none}
+use Rattle.grammar.specs.Choices.{Choice, opts}
+use Rattle.grammar.proofs.LanguageLaws.{as-same, as-inv, memb, Allowed, Fine, all-some, all-none}
 use Rattle.grammar.proofs.MachineLaws.{none-of, elsewhere, passes-by, same-kind}
-use Rattle.grammar.proofs.FormLaws.{pass, pick, inj}
+use Rattle.grammar.proofs.FormLaws.{pass, pick}
 
 -- what a part has of an option: at most one, or any number
 abbrev pub Held : Bool → Type 0 → Type 0

@@ -1,16 +1,16 @@
 -- The RNDF's table fits the RNDF's places: a computed test over every row. Assumes nothing.
 use mathlib.Core.Path.{_≡_, refl}
-use mathlib.Core.List.{List}
 use mathlib.Core.Option.{Option, none, some}
-use mathlib.Core.Bool.{Bool}
-use Prim.Native.Nat.{ℕ, zero, suc}
-use lib.Dec.{T, eqb, ltb}
+use mathlib.Core.Bool.{true}
+use Prim.Native.Nat.{zero, suc}
+use lib.Dec.{T, ltb}
 use lib.ListN.{getD, length}
-use Rattle.grammar.specs.Statements.{Kind, Kind-discrete, Says, RNDF-name, num-segments, num-zones, format-version, creation-date, segment, num-lanes, segment-name, end-segment, lane, num-waypoints, lane-width, left-boundary, right-boundary, checkpoint, stop, exit, end-lane, zone, num-spots, zone-name, end-zone, perimeter, num-perimeterpoints, end-perimeter, spot, spot-width, end-spot, end-file, point}
+use Rattle.terms.proofs.Computed.{every}
+use Rattle.grammar.specs.Statements.{Kind, Says, RNDF-name, num-segments, num-zones, format-version, creation-date, segment, num-lanes, segment-name, end-segment, lane, num-waypoints, lane-width, left-boundary, right-boundary, checkpoint, stop, exit, end-lane, zone, num-spots, zone-name, end-zone, perimeter, num-perimeterpoints, end-perimeter, spot, spot-width, end-spot, end-file, point}
 use Rattle.grammar.specs.Places.{rndf, Base, opts, due, name-due, num-segments-due, num-zones-due, first-segment-due, part-due, num-lanes-due, first-lane-due, lane-due, num-waypoints-due, first-waypoint-due, waypoint-due, num-spots-due, perimeter-due, num-perimeterpoints-due, first-perimeterpoint-due, perimeterpoint-due, spot-due, first-of-spot-due, second-of-spot-due, end-spot-due}
 use Rattle.grammar.specs.PlaceTable.{rndf-table, cell}
 use Rattle.grammar.specs.PlaceRows.{kinds, kind-row, rndf-row, rndf-stem}
-use Rattle.grammar.proofs.Tabled.{every, optCell, otherwise, Tabled}
+use Rattle.grammar.proofs.Tabled.{fits, Tabled}
 
 pub coded : (k : Kind) → getD kinds (kind-row k) RNDF-name ≡ k
 coded RNDF-name = refl
@@ -128,34 +128,34 @@ module _ (N : Type 0) where
   few (second-of-spot-due m z n s) = tt
   few (end-spot-due m z n s) = tt
 
-  pub beside : (b : Base) → T (every (λ k. otherwise (rndf N) {b = b} (Kind-discrete k (due N b .on)) (eqb (cell rndf-table (rndf-row b) (kind-row k)) (optCell (rndf N) (opts N b) 1 k))) kinds)
+  pub beside : (b : Base) → every (fits (rndf N) rndf-table rndf-row kind-row b) kinds ≡ true
   unfolding rndf-table
-  beside name-due = tt
-  beside num-segments-due = tt
-  beside (num-zones-due o) = tt
-  beside (first-segment-due o z) = tt
-  beside (part-due m (suc o) z) = tt
-  beside (part-due m zero (suc z)) = tt
-  beside (part-due m zero zero) = tt
-  beside (num-lanes-due m o z) = tt
-  beside (first-lane-due m o z l) = tt
-  beside (lane-due m o z n (suc l)) = tt
-  beside (lane-due m o z n zero) = tt
-  beside (num-waypoints-due m o z n l) = tt
-  beside (first-waypoint-due m o z n l w) = tt
-  beside (waypoint-due m o z n l k (suc w)) = tt
-  beside (waypoint-due m o z n l k zero) = tt
-  beside (num-spots-due m z) = tt
-  beside (perimeter-due m z s) = tt
-  beside (num-perimeterpoints-due m z s) = tt
-  beside (first-perimeterpoint-due m z s p) = tt
-  beside (perimeterpoint-due m z s k (suc p)) = tt
-  beside (perimeterpoint-due m z s k zero) = tt
-  beside (spot-due m z n (suc s)) = tt
-  beside (spot-due m z n zero) = tt
-  beside (first-of-spot-due m z n s) = tt
-  beside (second-of-spot-due m z n s) = tt
-  beside (end-spot-due m z n s) = tt
+  beside name-due = refl
+  beside num-segments-due = refl
+  beside (num-zones-due o) = refl
+  beside (first-segment-due o z) = refl
+  beside (part-due m (suc o) z) = refl
+  beside (part-due m zero (suc z)) = refl
+  beside (part-due m zero zero) = refl
+  beside (num-lanes-due m o z) = refl
+  beside (first-lane-due m o z l) = refl
+  beside (lane-due m o z n (suc l)) = refl
+  beside (lane-due m o z n zero) = refl
+  beside (num-waypoints-due m o z n l) = refl
+  beside (first-waypoint-due m o z n l w) = refl
+  beside (waypoint-due m o z n l k (suc w)) = refl
+  beside (waypoint-due m o z n l k zero) = refl
+  beside (num-spots-due m z) = refl
+  beside (perimeter-due m z s) = refl
+  beside (num-perimeterpoints-due m z s) = refl
+  beside (first-perimeterpoint-due m z s p) = refl
+  beside (perimeterpoint-due m z s k (suc p)) = refl
+  beside (perimeterpoint-due m z s k zero) = refl
+  beside (spot-due m z n (suc s)) = refl
+  beside (spot-due m z n zero) = refl
+  beside (first-of-spot-due m z n s) = refl
+  beside (second-of-spot-due m z n s) = refl
+  beside (end-spot-due m z n s) = refl
 
   pub leads : (b : Base) (v : Says N (due N b .on)) → cell rndf-table (rndf-row b) (kind-row (due N b .on)) ≡ rndf-stem (due N b .then v)
   unfolding rndf-table

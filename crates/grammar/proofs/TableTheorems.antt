@@ -1,17 +1,15 @@
 -- THE TABLE: a cell is 5 exactly where no spelling has that statement at that place, over the whole table, for the RNDF and for the MDF. Assumes nothing.
 use mathlib.Core.Path.{_≡_, refl, sym, ap, subst, _∙_}
 use mathlib.Core.List.{List, [], _∷_, _++_}
-use mathlib.Core.Option.{Option, none, some}
-use mathlib.Core.Bool.{Bool}
+use mathlib.Core.Option.{none, some}
+use mathlib.Core.Bool.{true}
 use Prim.Native.Nat.{ℕ, _<_}
 use native.Mathlib.Omega.{arith}
-use lib.Dec.{T}
 use lib.IntN.{pos, negsuc}
-use Rattle.terms.specs.Words.{Between}
 use Rattle.grammar.specs.Language.{Lang, S}
 use Rattle.grammar.specs.Machine.{Machine, Stand, over, inside, next, refuse, Place, at, run, step, guard}
 use Rattle.grammar.specs.Forms.{eq?}
-use Rattle.grammar.specs.Statements.{Kind, Statement, Position, point-id, double-yellow, solid-yellow, numbered}
+use Rattle.grammar.specs.Statements.{Kind, Position, point-id, double-yellow, solid-yellow, numbered}
 use Rattle.grammar.specs.Network.{Network, Lane, GoodLane, SpellsNetwork}
 use Rattle.grammar.specs.Mission.{Mission, GoodMission, SpellsMission}
 use Rattle.grammar.specs.MissionStatements as M
@@ -21,7 +19,7 @@ use Rattle.grammar.specs.MissionPlaces.{mdf}
 use Rattle.grammar.specs.MissionPlaces as M-at
 use Rattle.grammar.specs.PlaceTable.{rndf-table, mdf-table, cell}
 use Rattle.grammar.specs.PlaceRows.{kind-row, rndf-row, mission-kind-row, mdf-row}
-use Rattle.grammar.proofs.Tabled.{Tabled, Comes, comes-by, covers, covered, refused-5}
+use Rattle.grammar.proofs.Tabled.{Tabled, comes-by, covers, covered, refused-5}
 use Rattle.grammar.proofs.RndfTable.{rndf-tabled}
 use Rattle.grammar.proofs.MdfTable.{mdf-tabled}
 use Rattle.grammar.proofs.Written.{network-written, mission-written}
@@ -39,7 +37,7 @@ module _ {L : Lang} (A : Machine L) (row : A .Base → ℕ) (last : ℕ) {Net : 
 
 -- a value whose spelling comes by every cell that is not 255 shows that no other cell is free
 module _ {L : Lang} (A : Machine L) (Tb : Tabled A) {Net : Type 0} (Spells : Net → List (S L) → Type 0) (start : A .Base) (last : ℕ) where
-  pub shown : (rows : ℕ) (n : Net) (w : List (S L)) → Spells n w → T (covers A Tb rows (at A start) w) → (i : ℕ) → i < rows → (k : L .Kind) → NoSpelling A (Tb .row) last Spells start i k → cell (Tb .table) i (Tb .code k) ≡ 255
+  pub shown : (rows : ℕ) (n : Net) (w : List (S L)) → Spells n w → covers A Tb rows (at A start) w ≡ true → (i : ℕ) → i < rows → (k : L .Kind) → NoSpelling A (Tb .row) last Spells start i k → cell (Tb .table) i (Tb .code k) ≡ 255
   shown rows n w sp t i h k never = go (eq? (cell (Tb .table) i (Tb .code k)) 255)
     where
       same : (k j : L .Kind) → Tb .code j ≡ Tb .code k → j ≡ k
@@ -84,9 +82,9 @@ module _ {N : Type 0} (some-name : N) where
   good : GoodNetwork everything
   good = record { some-segment = omega arith; count = omega arith; segments = (record { count = omega arith; lanes = (good-road, (good-road, tt)) }, (record { count = omega arith; lanes = (good-road, tt) }, tt)); zones = (record { count = omega arith; border = omega arith; spots = omega arith }, tt) }
 
-  all-cells : T (covers (rndf N) (rndf-tabled N) 27 (at (rndf N) name-due) (house-network everything))
+  all-cells : covers (rndf N) (rndf-tabled N) 27 (at (rndf N) name-due) (house-network everything) ≡ true
   unfolding comes-by rndf-table step guard numbered house-network file-options house-segment segment-options house-lane lane-options house-zone zone-options house-perimeter perimeter-options house-spot spot-options
-  all-cells = tt
+  all-cells = refl
 
   -- RNDF: a cell is 5 exactly where no spelling has that statement at that place
   pub rndf-cell-5 : (i : ℕ) → i < 27 → (k : Kind) → (cell rndf-table i (kind-row k) ≡ 255 → NoSpelling (rndf N) rndf-row 26 SpellsNetwork name-due i k) × (NoSpelling (rndf N) rndf-row 26 SpellsNetwork name-due i k → cell rndf-table i (kind-row k) ≡ 255)
@@ -101,9 +99,9 @@ module _ {N : Type 0} (some-name : N) where
   good-errand : GoodMission errand
   good-errand = omega arith
 
-  all-orders : T (covers (mdf N) (mdf-tabled N) 12 (at (mdf N) M-at.name-due) (house-mission errand))
+  all-orders : covers (mdf N) (mdf-tabled N) 12 (at (mdf N) M-at.name-due) (house-mission errand) ≡ true
   unfolding comes-by mdf-table step guard house-mission mission-options
-  all-orders = tt
+  all-orders = refl
 
   -- MDF: the same
   pub mdf-cell-5 : (i : ℕ) → i < 12 → (k : M.Kind) → (cell mdf-table i (mission-kind-row k) ≡ 255 → NoSpelling (mdf N) mdf-row 11 SpellsMission M-at.name-due i k) × (NoSpelling (mdf N) mdf-row 11 SpellsMission M-at.name-due i k → cell mdf-table i (mission-kind-row k) ≡ 255)

@@ -16,3 +16,4 @@ pub mod PlaceTable
 pub mod PlaceRows
 pub mod Names
 pub mod Stands
+pub mod Renamed

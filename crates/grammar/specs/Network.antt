@@ -75,7 +75,7 @@ pub record GoodEntry (e : PointId) : Type 0 where
   pub y : e .y ≤ largest
   pub z : Between 1 largest (e .z)
 
--- 01: "The waypoint named by .. the first of an exit, is one of this lane", which has w
+-- 01: "and the first of an exit, is one of this lane", which has w
 pub record GoodExit (w : ℕ) (e : Exit) : Type 0 where
   pub waypoint : Between 1 w (e .waypoint)
   pub entry : GoodEntry (e .entry)

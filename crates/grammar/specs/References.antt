@@ -42,7 +42,7 @@ module _ {N : Type 0} where
   abbrev pub parts : Network N → ℕ
   parts n = length (n .segments) + length (n .zones)
 
-  -- 01, refusals 14 to 18: "MDF's RNDF name is not this RNDF's"; "goal not a checkpoint of the RNDF"; "limit's id not in the RNDF"; "limit's id already given"; "some id has no limit"
+  -- 01, refusals 14 to 18: "MDF's RNDF name is not this RNDF's"; "goal not a checkpoint of the RNDF"; "limit's id not in the RNDF"; "limit's id already given"; "some id has no limit". Names are compared as they are: to be asked of names that are bytes, not of places in two texts.
   pub record Fits (n : Network N) (m : Mission N) : Type 0 where
     pub name : m .rndf ≡ n .name
     pub goals : Each (λ g. Among g (all-numbers n)) (m .goals)

@@ -68,13 +68,14 @@ abbrev pub feet : Option ℕ → ℕ
 feet none = 65535
 feet (some w) = w
 
--- 01: "A missing boundary is 0."
+-- 01: "(1 to 4 in the order above)"
 abbrev pub colour : Boundary → ℕ
 colour double-yellow = 1
 colour solid-yellow = 2
 colour solid-white = 3
 colour broken-white = 4
 
+-- 01: "A missing boundary is 0."
 abbrev pub side : Option Boundary → ℕ
 side none = 0
 side (some b) = colour b

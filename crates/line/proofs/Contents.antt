@@ -12,7 +12,8 @@ use lib.Dec.{ltb}
 use Rattle.terms.specs.Ascii.{Bytes, ascii}
 use Rattle.scan.specs.Allowed.{separates, outside, inside, all}
 use Rattle.scan.specs.Reach.{upTo}
-use Rattle.scan.proofs.Bytes.{no, both, and, or-right, separator-inside, outside-inside, star-not-outside, lf-not-inside, cr-not-inside, all-imp, all-append, all-parts}
+use Rattle.terms.proofs.Tests.{clash, both, and, or-right}
+use Rattle.scan.proofs.Bytes.{separator-inside, outside-inside, star-not-outside, lf-not-inside, cr-not-inside, all-imp, all-append, all-parts}
 use Rattle.line.specs.Text.{lf, cr, Lacks, Ended}
 use Rattle.line.specs.Text as T
 use Rattle.line.specs.Content.{Without, Comment, Field, longest, Content}
@@ -26,7 +27,7 @@ use Rattle.line.proofs.Spelled.{fields-allowed, fields-are, are-fields}
 pub all-lacks : (t : ℕ → Bool) (x : ℕ) → t x ≡ false → (l : Bytes) → all t l ≡ true → Lacks x l
 unfolding all
 all-lacks t x h [] e = T.none
-all-lacks t x h (b ∷ l) e = let p = both (t b) (all t l) e in T.more (λ q. no (sym (p .0) ∙ ap t q ∙ h)) (all-lacks t x h l (p .1))
+all-lacks t x h (b ∷ l) e = let p = both (t b) (all t l) e in T.more (λ q. clash (sym (p .0) ∙ ap t q ∙ h)) (all-lacks t x h l (p .1))
 
 -- what is allowed outside has no `/*`
 pub outer-without : (l : Bytes) → all outside l ≡ true → Without (ascii "/*") l
@@ -35,7 +36,7 @@ outer-without l h before behind e =
     let p = all-parts outside before (47 ∷ 42 ∷ behind) (ap (all outside) (sym e) ∙ h) in
     let q = both (outside 47) (outside 42 && all outside behind) (p .1) in
     let r = both (outside 42) (all outside behind) (q .1) in
-    no (sym (r .0) ∙ star-not-outside)
+    clash (sym (r .0) ∙ star-not-outside)
 
 -- ## Where the comment begins
 slash-star : _≡_ {A = ℕ} 47 42 → ⊥
@@ -176,7 +177,7 @@ comment-is c e f = go (ltb (upTo opens c) (length c)) refl
 
     shuts-too : u < length c → (x : Bool) → ltb v (length rest) ≡ x → Comment (noteOf c)
     shuts-too h true q = made h (ltb-true v (length rest) q)
-    shuts-too h false q = no (sym e ∙ shut-some c h ∙ closes-none rest (ltb-false v (length rest) q))
+    shuts-too h false q = clash (sym e ∙ shut-some c h ∙ closes-none rest (ltb-false v (length rest) q))
 
     go : (x : Bool) → ltb u (length c) ≡ x → (noteOf c ≡ []) ⊎ Comment (noteOf c)
     go false q = inl (note-at c ∙ drop-of-length-le c (ltb-false u (length c) q))

@@ -1,6 +1,6 @@
 -- Laws of `Cut`: every text has lines, and one cut only; lines written back; the line at a place and the next place. Assumes nothing.
 use mathlib.Core.Path.{_≡_, refl, sym, ap, subst, _∙_}
-use mathlib.Core.List.{List, [], _∷_, _++_, append-assoc, append-nil, head-eq-of-cons-eq, tail-eq-of-cons-eq}
+use mathlib.Core.List.{List, [], _∷_, _++_, append-assoc, append-nil, head-eq-of-cons-eq, tail-eq-of-cons-eq, nil≢cons}
 use mathlib.Core.Bool.{Bool, true, false}
 use mathlib.Core.Logic.{_⊎_, inl, inr}
 use Prim.Native.Nat.{ℕ, suc, _+_, _-_, _≤_, _<_}
@@ -80,9 +80,9 @@ lines-written ls h = cut-is (cut-written ls h)
 -- the lines that come first are the lines of what comes first
 pub first : {t : Bytes} {ms : List Bytes} → Cut t ms → (ls rs : List Bytes) → ms ≡ ls ++ rs → (a b : Bytes) × (t ≡ a ++ b) × Cut a ls
 first {t} c [] rs e = ([], t, refl, nothing)
-first nothing (l ∷ ls) rs e = absurd (let z : _≡_ {A = ℕ} 0 1 = cc in omega arith)
+first nothing (l ∷ ls) rs e = absurd (nil≢cons e)
 first (unfinished {b = b} {l = k} h) (l ∷ []) rs e = (b ∷ k, [], sym (append-nil (b ∷ k)), rw (← head-eq-of-cons-eq e) (unfinished h))
-first (unfinished h) (l ∷ m ∷ ls) rs e = absurd (let q = tail-eq-of-cons-eq e in let z : _≡_ {A = ℕ} 0 1 = cc in omega arith)
+first (unfinished h) (l ∷ m ∷ ls) rs e = absurd (nil≢cons (tail-eq-of-cons-eq e))
 first (line {l = k} {text = t} h c) (l ∷ ls) rs e = go (head-eq-of-cons-eq e) (first c ls rs (tail-eq-of-cons-eq e))
   where
     go : k ≡ l → (a b : Bytes) × (t ≡ a ++ b) × Cut a ls → (a b : Bytes) × (k ++ (lf ∷ t) ≡ a ++ b) × Cut a (l ∷ ls)

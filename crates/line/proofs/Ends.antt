@@ -1,6 +1,6 @@
 -- Laws of `Ended`: every line has a content, and one only; what `trimmed` answers. Assumes nothing.
 use mathlib.Core.Path.{_≡_, refl, sym, ap, subst, _∙_}
-use mathlib.Core.List.{[], _∷_, _++_, head-eq-of-cons-eq, tail-eq-of-cons-eq}
+use mathlib.Core.List.{[], _∷_, _++_, head-eq-of-cons-eq, tail-eq-of-cons-eq, nil≢cons, cons≢nil}
 use mathlib.Core.Bool.{Bool, true, false}
 use Prim.Native.Nat.{ℕ, suc, _-_, _≤_}
 use native.Mathlib.Omega.{arith}
@@ -12,14 +12,11 @@ use Rattle.terms.specs.Words.{pick}
 use Rattle.line.specs.Text.{lf, cr, Lacks, none, more, Ended, dropped, bare}
 use Rattle.line.specs.Lines.{dropCr, trimOf}
 
-no-cons : {b : ℕ} {t : Bytes} {X : Type 0} → _≡_ {A = Bytes} (b ∷ t) [] → X
-no-cons e = absurd (let z : _≡_ {A = ℕ} 0 1 = cc in omega arith)
-
 longer : (b d : ℕ) (t c : Bytes) → Ended (d ∷ t) c → Ended (b ∷ d ∷ t) (b ∷ c)
 longer b d t c h = go h refl
   where
     not-so : ((c : Bytes) → d ∷ t ≡ c ++ (cr ∷ []) → ⊥) → (c : Bytes) → b ∷ d ∷ t ≡ c ++ (cr ∷ []) → ⊥
-    not-so n [] e = no-cons (tail-eq-of-cons-eq e)
+    not-so n [] e = cons≢nil (tail-eq-of-cons-eq e)
     not-so n (x ∷ c) e = n c (tail-eq-of-cons-eq e)
 
     go : {l c : Bytes} → Ended l c → l ≡ d ∷ t → Ended (b ∷ l) (b ∷ c)
@@ -32,14 +29,14 @@ unfolding dropCr
 ended [] = bare nothing-left
   where
     nothing-left : (c : Bytes) → [] ≡ c ++ (cr ∷ []) → ⊥
-    nothing-left [] e = no-cons (sym e)
-    nothing-left (x ∷ c) e = no-cons (sym e)
+    nothing-left [] e = nil≢cons e
+    nothing-left (x ∷ c) e = nil≢cons e
 ended (b ∷ []) = go (eqb b cr) refl
   where
     not-cr : eqb b cr ≡ false → (c : Bytes) → b ∷ [] ≡ c ++ (cr ∷ []) → ⊥
     not-cr q [] e = eqb-false b cr q (head-eq-of-cons-eq e)
-    not-cr q (x ∷ []) e = no-cons (sym (tail-eq-of-cons-eq e))
-    not-cr q (x ∷ y ∷ c) e = no-cons (sym (tail-eq-of-cons-eq e))
+    not-cr q (x ∷ []) e = nil≢cons (tail-eq-of-cons-eq e)
+    not-cr q (x ∷ y ∷ c) e = nil≢cons (tail-eq-of-cons-eq e)
 
     go : (x : Bool) → eqb b cr ≡ x → Ended (b ∷ []) (pick x [] (b ∷ []))
     go true e = rw (eqb-true b cr e) (dropped {content = []})

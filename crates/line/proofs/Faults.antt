@@ -12,7 +12,7 @@ use Rattle.terms.specs.Ascii.{Bytes, ascii}
 use Rattle.terms.specs.Words.{pick}
 use Rattle.scan.specs.Allowed.{separates, outside, inside, all}
 use Rattle.scan.specs.Reach.{upTo}
-use Rattle.scan.proofs.Bytes.{no, or-right}
+use Rattle.terms.proofs.Tests.{clash, or-right}
 use Rattle.scan.proofs.Reach.{upTo-le}
 use Rattle.line.specs.Content.{Field, longest, Content}
 use Rattle.line.specs.Faults.{Opened, Unclosed, never, more, BadComment, BadByte, plain, before, in-comment, FormFault, long, comment, byte}
@@ -46,7 +46,7 @@ module _ (c : Bytes) where
       go true q =
           let h = ltb-true (upTo opens c) (length c) q in
           record { outer = take (upTo opens c) c; rest = drop (upTo opens c + 2) c; opened = opened-here h; unclosed = unclosed-here (drop (upTo opens c + 2) c) (sym (shut-some c h) ∙ e) }
-      go false q = no (sym (shut-none c (ltb-false (upTo opens c) (length c) q)) ∙ e)
+      go false q = clash (sym (shut-none c (ltb-false (upTo opens c) (length c) q)) ∙ e)
 
   pub comment-bad : BadComment c → shut c ≡ false
   comment-bad b = opened-shut c (b .outer) (b .rest) (b .opened .spelled) (b .opened .first) ∙ go (b .unclosed)
@@ -62,7 +62,7 @@ module _ (c : Bytes) where
     where
       second : (a b : Bool) → a ≡ true → (a && b) ≡ false → b ≡ false
       second true b h e = e
-      second false b h e = no (sym h)
+      second false b h e = clash (sym h)
 
       go : (x : Bool) → ltb (upTo opens c) (length c) ≡ x → (y : Bool) → all outside (outerOf c) ≡ y → BadByte c
       go true q false f =
@@ -79,7 +79,7 @@ module _ (c : Bytes) where
           plain w (ap (all outside) (sym (plain-outer c w)) ∙ f)
       go false q true f =
           let w = find-none 47 42 c (ltb-false (upTo opens c) (length c) q) in
-          no (ap (all inside) (sym (plain-note c w)) ∙ second (all outside (outerOf c)) (all inside (noteOf c)) f e)
+          clash (ap (all inside) (sym (plain-note c w)) ∙ second (all outside (outerOf c)) (all inside (noteOf c)) f e)
 
   pub byte-bad : BadByte c → clean c ≡ false
   unfolding ascii all
@@ -98,7 +98,7 @@ module _ (c : Bytes) where
       go : (x y z : Bool) → leb (length c) longest ≡ x → shut c ≡ y → clean c ≡ z → pick x (pick y (pick z (Body (upTo opens c)) (Bad 4)) (Bad 3)) (Bad 2) ≡ Bad n → FormFault c n
       go false y z p q r e = let m : 2 ≡ n = cc in subst (FormFault c) m (long (leb-false (length c) longest p))
       go true false z p q r e = let m : 3 ≡ n = cc in subst (FormFault c) m (comment (leb-true (length c) longest p) (bad-comment q))
-      go true true false p q r e = let m : 4 ≡ n = cc in subst (FormFault c) m (byte (leb-true (length c) longest p) (λ b. no (sym q ∙ comment-bad b)) (bad-byte r))
+      go true true false p q r e = let m : 4 ≡ n = cc in subst (FormFault c) m (byte (leb-true (length c) longest p) (λ b. clash (sym q ∙ comment-bad b)) (bad-byte r))
       go true true true p q r e = absurd (let z : _≡_ {A = ℕ} 0 1 = cc in omega arith)
 
   -- and when it is answered

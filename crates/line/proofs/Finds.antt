@@ -12,14 +12,14 @@ use Rattle.terms.specs.Ascii.{Bytes}
 use Rattle.terms.specs.Words.{pick}
 use Rattle.scan.specs.Reach.{upTo, first, two, stopsBy}
 use Rattle.scan.specs.declared.Until.the-variants.{Two}
-use Rattle.scan.proofs.Bytes.{no, both, and}
+use Rattle.terms.proofs.Tests.{clash, both, and}
 use Rattle.scan.proofs.Reach.{upTo-le, upTo-go, upTo-stop, upTo-hit, upTo-before}
 use Rattle.line.specs.Content.{Without}
 
 two-is : (x y : ℕ) (l : Bytes) → two x y l ≡ true → l ≡ x ∷ y ∷ drop 2 l
 unfolding two first
-two-is x y [] e = no (sym e)
-two-is x y (b ∷ []) e = no (sym (both (eqb b x) false e .1))
+two-is x y [] e = clash (sym e)
+two-is x y (b ∷ []) e = clash (sym (both (eqb b x) false e .1))
 two-is x y (b ∷ d ∷ r) e = let p = both (eqb b x) (eqb d y) e in rw (eqb-true b x (p .0), eqb-true d y (p .1))
 
 two-here : (x y : ℕ) (l : Bytes) → two x y (x ∷ y ∷ l) ≡ true
@@ -36,7 +36,7 @@ module _ (x y : ℕ) where
       there = ap (λ (l : Bytes). two x y (drop (length before) l)) e ∙ ap (two x y) (drop-append-seam before (x ∷ y ∷ behind)) ∙ two-here x y behind
 
       go : (z : Bool) → ltb (length before) (upTo (two x y) l) ≡ z → upTo (two x y) l ≤ length before
-      go true q = no (sym there ∙ upTo-before (two x y) l (length before) (ltb-true (length before) (upTo (two x y) l) q))
+      go true q = clash (sym there ∙ upTo-before (two x y) l (length before) (ltb-true (length before) (upTo (two x y) l) q))
       go false q = ltb-false (length before) (upTo (two x y) l) q
 
   -- a scan that stops inside: there they stand, and not before

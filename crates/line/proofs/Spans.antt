@@ -124,38 +124,39 @@ fields-within s =
     let c = span-within s (spanAt s (spanAt s 0 .stop) .stop) (b .inside) in
     record { first = a; second = b; third = c }
 
+-- the first four spans
+abbrev span-one : Bytes → Span
+span-one s = spanAt s 0
+
+abbrev span-two : Bytes → Span
+span-two s = spanAt s (span-one s .stop)
+
+abbrev span-three : Bytes → Span
+span-three s = spanAt s (span-two s .stop)
+
+abbrev span-four : Bytes → Span
+span-four s = spanAt s (span-three s .stop)
+
 -- the answer stands for the line's fields
 pub fields-listed : (n : ℕ) (s : Bytes) → fieldsAt n s ≡ listed n s (fieldsIn s) (fieldsIn s .count)
 unfolding fieldsIn countOf
 fields-listed n s =
-    ap (λ (k : ℕ). fieldsAt k s) (sym (add-zero n)) ∙ go (filled a) (filled b) (filled c) (filled d) refl refl refl refl
+    ap (λ (k : ℕ). fieldsAt k s) (sym (add-zero n)) ∙ go (filled (span-one s)) (filled (span-two s)) (filled (span-three s)) (filled (span-four s)) refl refl refl refl
   where
-    a : Span
-    a = spanAt s 0
-
-    b : Span
-    b = spanAt s (a .stop)
-
-    c : Span
-    c = spanAt s (b .stop)
-
-    d : Span
-    d = spanAt s (c .stop)
-
     r : Fields
     r = fieldsIn s
 
-    go : (x y z w : Bool) → filled a ≡ x → filled b ≡ y → filled c ≡ z → filled d ≡ w → fieldsAt (n + 0) s ≡ listed n s r (pick x (pick y (pick z (pick w 4 3) 2) 1) 0)
+    go : (x y z w : Bool) → filled (span-one s) ≡ x → filled (span-two s) ≡ y → filled (span-three s) ≡ z → filled (span-four s) ≡ w → fieldsAt (n + 0) s ≡ listed n s r (pick x (pick y (pick z (pick w 4 3) 2) 1) 0)
     go false y z w e f g h = span-none n s 0 e
-    go true false z w e f g h = span-some n s 0 e ∙ ap (_∷_ (fieldIn n s a)) (span-none n s (a .stop) f)
-    go true true false w e f g h = span-some n s 0 e ∙ ap (_∷_ (fieldIn n s a)) (span-some n s (a .stop) f ∙ ap (_∷_ (fieldIn n s b)) (span-none n s (b .stop) g))
-    go true true true false e f g h = span-some n s 0 e ∙ ap (_∷_ (fieldIn n s a)) (span-some n s (a .stop) f ∙ ap (_∷_ (fieldIn n s b)) (span-some n s (b .stop) g ∙ ap (_∷_ (fieldIn n s c)) (span-none n s (c .stop) h)))
-    go true true true true e f g h = span-some n s 0 e ∙ ap (_∷_ (fieldIn n s a)) (span-some n s (a .stop) f ∙ ap (_∷_ (fieldIn n s b)) (span-some n s (b .stop) g))
+    go true false z w e f g h = span-some n s 0 e ∙ ap (_∷_ (fieldIn n s (span-one s))) (span-none n s (span-one s .stop) f)
+    go true true false w e f g h = span-some n s 0 e ∙ ap (_∷_ (fieldIn n s (span-one s))) (span-some n s (span-one s .stop) f ∙ ap (_∷_ (fieldIn n s (span-two s))) (span-none n s (span-two s .stop) g))
+    go true true true false e f g h = span-some n s 0 e ∙ ap (_∷_ (fieldIn n s (span-one s))) (span-some n s (span-one s .stop) f ∙ ap (_∷_ (fieldIn n s (span-two s))) (span-some n s (span-two s .stop) g ∙ ap (_∷_ (fieldIn n s (span-three s))) (span-none n s (span-three s .stop) h)))
+    go true true true true e f g h = span-some n s 0 e ∙ ap (_∷_ (fieldIn n s (span-one s))) (span-some n s (span-one s .stop) f ∙ ap (_∷_ (fieldIn n s (span-two s))) (span-some n s (span-two s .stop) g))
 
 -- the count is 4 at most
 pub count-le : (s : Bytes) → fieldsIn s .count ≤ 4
 unfolding fieldsIn countOf
-count-le s = go (filled (spanAt s 0)) (filled (spanAt s (spanAt s 0 .stop))) (filled (spanAt s (spanAt s (spanAt s 0 .stop) .stop))) (filled (spanAt s (spanAt s (spanAt s (spanAt s 0 .stop) .stop) .stop)))
+count-le s = go (filled (span-one s)) (filled (span-two s)) (filled (span-three s)) (filled (span-four s))
   where
     go : (x y z w : Bool) → pick x (pick y (pick z (pick w 4 3) 2) 1) 0 ≤ 4
     go false y z w = omega arith
@@ -166,22 +167,10 @@ count-le s = go (filled (spanAt s 0)) (filled (spanAt s (spanAt s 0 .stop))) (fi
 
 behind : (n : ℕ) (s : Bytes) → fieldsIn s .count ≡ 4 → (g : Field) × (gs : List Field) × (fieldsAt (n + fieldsIn s .c .stop) (drop (fieldsIn s .c .stop) s) ≡ g ∷ gs)
 unfolding fieldsIn countOf
-behind n s h = go (filled a) (filled b) (filled c) (filled d) refl h
+behind n s h = go (filled (span-one s)) (filled (span-two s)) (filled (span-three s)) (filled (span-four s)) refl h
   where
-    a : Span
-    a = spanAt s 0
-
-    b : Span
-    b = spanAt s (a .stop)
-
-    c : Span
-    c = spanAt s (b .stop)
-
-    d : Span
-    d = spanAt s (c .stop)
-
-    go : (x y z w : Bool) → filled d ≡ w → _≡_ {A = ℕ} (pick x (pick y (pick z (pick w 4 3) 2) 1) 0) 4 → (g : Field) × (gs : List Field) × (fieldsAt (n + c .stop) (drop (c .stop) s) ≡ g ∷ gs)
-    go true true true true e h = (fieldIn n s d, fieldsAt (n + d .stop) (drop (d .stop) s), span-some n s (c .stop) e)
+    go : (x y z w : Bool) → filled (span-four s) ≡ w → _≡_ {A = ℕ} (pick x (pick y (pick z (pick w 4 3) 2) 1) 0) 4 → (g : Field) × (gs : List Field) × (fieldsAt (n + span-three s .stop) (drop (span-three s .stop) s) ≡ g ∷ gs)
+    go true true true true e h = (fieldIn n s (span-four s), fieldsAt (n + span-four s .stop) (drop (span-four s .stop) s), span-some n s (span-three s .stop) e)
     go true true true false e h = absurd (omega arith)
     go true true false w e h = absurd (omega arith)
     go true false z w e h = absurd (omega arith)

@@ -8,7 +8,8 @@ use lib.ListN.{length}
 use Rattle.terms.specs.Ascii.{Bytes}
 use Rattle.terms.specs.Words.{pick, Each}
 use Rattle.scan.specs.Allowed.{separates, fieldByte, outside, all}
-use Rattle.scan.proofs.Bytes.{no, both, and, field-no-separator, field-outside, separator-outside, all-imp, all-append}
+use Rattle.terms.proofs.Tests.{clash, both, and}
+use Rattle.scan.proofs.Bytes.{field-no-separator, field-outside, separator-outside, all-imp, all-append}
 use Rattle.line.specs.Content.{Field, at, IsField, parted, SpellsFields, nothing, separator, field}
 use Rattle.line.specs.Forms.{glue, fieldsAt}
 
@@ -51,8 +52,8 @@ fields-one p q = sym (fields-are p) ∙ fields-are q
 
 lengthen : {a b : ℕ} {l : Bytes} {fs : List Field} → fieldByte b ≡ true → SpellsFields (suc a) l fs → parted l ≡ false → SpellsFields a (b ∷ l) (glue false a b fs)
 unfolding parted
-lengthen h nothing e = no e
-lengthen h (separator q p) e = no (sym q ∙ e)
+lengthen h nothing e = clash e
+lengthen h (separator q p) e = clash (sym q ∙ e)
 lengthen {a} {b} h (field {bytes = f} {rest = r} {fields = fs} w q p) e =
     let n : suc a + length f ≡ a + suc (length f) = omega arith in
     field {bytes = b ∷ f} (record { some = omega arith; allowed = unfold all in and h (w .allowed) }) q (subst (λ (k : ℕ). SpellsFields k r fs) n p)

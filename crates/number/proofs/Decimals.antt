@@ -11,7 +11,7 @@ use lib.Dec.{ltb, eqb}
 use Rattle.terms.specs.Ascii.{Bytes}
 use Rattle.terms.specs.Words.{pick}
 use Rattle.scan.specs.Allowed.{digit, all}
-use Rattle.scan.proofs.Bytes.{both}
+use Rattle.terms.proofs.Tests.{clash, both}
 use Rattle.number.specs.Decimal.{digitOf, spell, decimal, padded}
 use Rattle.number.specs.Executable.{worth, digits, plain}
 use Rattle.number.proofs.Digits.{digit-in, digit-range, worth-snoc, digits-snoc, plain-other}
@@ -69,7 +69,7 @@ spelled v (b ∷ t) p e =
 -- a plain list of digits is the decimal of what it is worth
 pub plain-decimal : (s : Bytes) → plain s ≡ true → s ≡ decimal (worth 0 s)
 unfolding plain worth all
-plain-decimal [] e = absurd (let z : _≡_ {A = ℕ} 0 1 = cc in omega arith)
+plain-decimal [] e = clash (sym e)
 plain-decimal (b ∷ t) e = go (eqb b 48) refl t e
   where
     go : (x : Bool) → eqb b 48 ≡ x → (t : Bytes) → pick x (eqb (length t) 0) (digits (b ∷ t)) ≡ true → b ∷ t ≡ decimal (worth (0 * 10 + (b - 48)) t)

@@ -1,5 +1,5 @@
 -- Laws of digits: how a loop meets them, what they are worth. Assumes nothing.
-use mathlib.Core.Path.{_≡_, refl}
+use mathlib.Core.Path.{_≡_, refl, sym}
 use mathlib.Core.List.{[], _∷_, _++_}
 use mathlib.Core.Bool.{Bool, true, false}
 use Prim.Native.Nat.{ℕ, suc, _+_, _-_, _*_, _^_, _≤_, _<_}
@@ -13,7 +13,8 @@ use lib.Dec.{eqb, lit<}
 use Rattle.terms.specs.Ascii.{Bytes}
 use Rattle.terms.specs.Words.{pick}
 use Rattle.scan.specs.Allowed.{digit, all}
-use Rattle.scan.proofs.Bytes.{both, within-is}
+use Rattle.terms.proofs.Tests.{clash, both}
+use Rattle.scan.proofs.Bytes.{within-is}
 use Rattle.number.specs.Executable.{worth, digits, plain, numberOf, plainOf}
 use Rattle.number.specs.declared.Number.the-variants as N
 
@@ -73,7 +74,7 @@ plain-other (b ∷ t) h n = rw (ne-eqb b 48 n)
 
 pub plain-digits : (s : Bytes) → plain s ≡ true → digits s ≡ true
 unfolding plain all
-plain-digits [] e = absurd (let z : _≡_ {A = ℕ} 0 1 = cc in omega arith)
+plain-digits [] e = clash (sym e)
 plain-digits (b ∷ t) e = go (eqb b 48) refl t e
   where
     go : (x : Bool) → eqb b 48 ≡ x → (t : Bytes) → pick x (eqb (length t) 0) (digits (b ∷ t)) ≡ true → digits (b ∷ t) ≡ true
@@ -83,7 +84,7 @@ plain-digits (b ∷ t) e = go (eqb b 48) refl t e
 
 pub plain-long : (s : Bytes) → plain s ≡ true → 0 < length s
 unfolding plain
-plain-long [] e = absurd (let z : _≡_ {A = ℕ} 0 1 = cc in omega arith)
+plain-long [] e = clash (sym e)
 plain-long (b ∷ t) e = omega arith
 
 -- ## Worth

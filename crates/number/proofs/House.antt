@@ -11,7 +11,8 @@ use lib.Dec.{eqb}
 use Rattle.terms.specs.Ascii.{Bytes, ascii}
 use Rattle.scan.specs.Allowed.{digit, fieldByte, all}
 use Rattle.scan.specs.Reach.{begins}
-use Rattle.scan.proofs.Bytes.{both, all-imp, all-append}
+use Rattle.terms.proofs.Tests.{both}
+use Rattle.scan.proofs.Bytes.{all-imp, all-append}
 use Rattle.number.specs.Decimal.{decimal}
 use Rattle.number.specs.Spelling.{SpellsInteger, SpellsPair, SpellsTriple}
 use Rattle.number.specs.House.{numberByte, houseInteger, housePair, houseTriple}

@@ -14,7 +14,7 @@ use Rattle.terms.specs.Words.{pick}
 use Rattle.scan.specs.Allowed.{digit, all}
 use Rattle.scan.specs.Reach.{upTo, first, stopsBy}
 use Rattle.scan.specs.declared.Until.the-variants.{Byte}
-use Rattle.scan.proofs.Bytes.{both}
+use Rattle.terms.proofs.Tests.{clash, both}
 use Rattle.scan.proofs.Reach.{upTo-hit}
 use Rattle.number.specs.Decimal.{decimal}
 use Rattle.number.specs.Spelling.{SpellsPair, SpellsTriple}
@@ -44,7 +44,7 @@ dot-at (b ∷ x) y e =
 -- a dot comes first
 first-is : (x : ℕ) (l : Bytes) → first x l ≡ true → getD l 0 0 ≡ x
 unfolding first
-first-is x [] e = absurd (let z : _≡_ {A = ℕ} 0 1 = cc in omega arith)
+first-is x [] e = clash (sym e)
 first-is x (b ∷ l) e = eqb-true b x e
 
 -- where there is one, the field is what stands before it, the dot, and what stands behind it

@@ -1,17 +1,13 @@
 -- Laws of the length of a name and of the range of integers: each test says what its definition says. Assumes nothing.
-use mathlib.Core.Path.{_≡_, sym, _∙_}
-use mathlib.Core.Bool.{Bool, true, false}
+use mathlib.Core.Path.{_≡_}
+use mathlib.Core.Bool.{true, false}
 use Prim.Native.Nat.{ℕ}
 use borrow.Author.Tests.{le-leb, leb-true}
 use lib.Dec.{leb}
-use Rattle.scan.proofs.Bytes.{no, both, and}
+use Rattle.terms.proofs.Tests.{refused, both, and}
 use Rattle.number.specs.Spelling.{NameLength}
 use Rattle.number.specs.Ranges.{IntegerInRange}
 use Rattle.number.specs.Executable.{isNameLength, integerInRange}
-
--- a test that fails is none that holds
-pub refused : {x : Bool} {A : Type 0} → (A → x ≡ true) → x ≡ false → A → ⊥
-refused f e a = no (sym (f a) ∙ e)
 
 -- ## Names
 pub name-right : (n : ℕ) → isNameLength n ≡ true → NameLength n

@@ -7,22 +7,8 @@ use native.Mathlib.Omega.{arith}
 use borrow.Author.Tests.{ne-eqb, le-leb, leb-true}
 use lib.Dec.{eqb, leb}
 use Rattle.terms.specs.Ascii.{Bytes}
+use Rattle.terms.proofs.Tests.{clash, both, and, or-right}
 use Rattle.scan.specs.Allowed.{within, separates, fieldByte, outside, inside, all}
-
--- ## Tests
-pub no : {X : Type 0} → true ≡ false → X
-no e = absurd (let z : _≡_ {A = ℕ} 0 1 = cc in omega arith)
-
-pub both : (a b : Bool) → (a && b) ≡ true → (a ≡ true) × (b ≡ true)
-both true b e = (refl, e)
-both false b e = no (sym e)
-
-pub and : {a b : Bool} → a ≡ true → b ≡ true → (a && b) ≡ true
-and p q = rw (p, q)
-
-pub or-right : (a : Bool) {b : Bool} → b ≡ true → (a || b) ≡ true
-or-right true e = refl
-or-right false e = e
 
 -- ## Classes
 pub within-is : (m n b : ℕ) → within m n b ≡ true → (m ≤ b) × (b ≤ n)
@@ -31,7 +17,7 @@ within-is m n b e = let p = both (leb m b) (leb b n) e in (leb-true m b (p .0), 
 -- a byte of a field does not separate fields
 pub field-no-separator : (b : ℕ) → fieldByte b ≡ true → separates b ≡ false
 unfolding separates
-field-no-separator b e = ne-eqb b _ (λ q. no (sym (rw q at e)))
+field-no-separator b e = ne-eqb b _ (λ q. clash (sym (rw q at e)))
 
 pub field-outside : (b : ℕ) → fieldByte b ≡ true → outside b ≡ true
 field-outside b e = or-right (separates b) e

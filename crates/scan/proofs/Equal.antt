@@ -10,13 +10,13 @@ use lib.Seq.{drop-cons}
 use lib.Dec.{eqb}
 use Rattle.terms.specs.Ascii.{Bytes}
 use Rattle.scan.specs.Reach.{sameBytes}
-use Rattle.scan.proofs.Bytes.{no, both, and}
+use Rattle.terms.proofs.Tests.{clash, both, and}
 
 pub same-equal : (a b : Bytes) → sameBytes a b ≡ true → a ≡ b
 unfolding sameBytes
 same-equal [] [] e = refl
-same-equal [] (y ∷ b) e = no (sym e)
-same-equal (x ∷ a) [] e = no (sym e)
+same-equal [] (y ∷ b) e = clash (sym e)
+same-equal (x ∷ a) [] e = clash (sym e)
 same-equal (x ∷ a) (y ∷ b) e = let p = both (eqb x y) (sameBytes a b) e in ap₂ _∷_ (eqb-true x y (p .0)) (same-equal a b (p .1))
 
 pub same-itself : (a : Bytes) → sameBytes a a ≡ true
@@ -35,7 +35,7 @@ same-false a b n = go (sameBytes a b) refl
     go false e = refl
 
 pub false-differ : (a b : Bytes) → sameBytes a b ≡ false → a ≡ b → ⊥
-false-differ a b e q = no (sym (equal-same a b q) ∙ e)
+false-differ a b e q = clash (sym (equal-same a b q) ∙ e)
 
 -- ## What the loop goes by
 pub lengths-differ : (a b : Bytes) → (length a ≡ length b → ⊥) → sameBytes a b ≡ false

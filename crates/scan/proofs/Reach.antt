@@ -13,9 +13,9 @@ use lib.Dec.{eqb, eqb·suc-suc}
 use Rattle.terms.specs.Ascii.{Bytes}
 use Rattle.terms.specs.Words.{pick}
 use Rattle.scan.specs.Allowed.{separates, outside, inside, digit, all}
-use Rattle.scan.specs.Reach.{upTo, reach, fails, first, two, stopsBy}
+use Rattle.scan.specs.Reach.{upTo, reach, begins, fails, first, two, stopsBy}
 use Rattle.scan.specs.declared.Until.the-variants.{Byte, Two, NotSeparator, NotOutside, NotInside, NotDigit}
-use Rattle.scan.proofs.Bytes.{no, both, and}
+use Rattle.terms.proofs.Tests.{clash, both, and}
 
 -- what comes next, at a place of the whole
 pub head-drop : (s : Bytes) (i : ℕ) → getD (drop i s) 0 0 ≡ getD s i 0
@@ -120,11 +120,27 @@ all-before test t h (b ∷ l) = rw (h (b ∷ l)) (go (t b) refl (all-before test
     go true e h = and e h
     go false e h = refl
 
+-- ## The first byte
+pub begins-none : (t : ℕ → Bool) (l : Bytes) → length l ≡ 0 → begins t l ≡ false
+unfolding begins
+begins-none t [] e = refl
+begins-none t (b ∷ l) e = absurd (omega arith)
+
+pub begins-at : (t : ℕ → Bool) (l : Bytes) → 0 < length l → begins t l ≡ t (getD l 0 0)
+unfolding begins
+begins-at t [] h = absurd (omega arith)
+begins-at t (b ∷ l) h = refl
+
+pub begins-some : (t : ℕ → Bool) (l : Bytes) → begins t l ≡ true → 0 < length l
+unfolding begins
+begins-some t [] e = clash (sym e)
+begins-some t (b ∷ l) e = omega arith
+
 -- ## Two bytes
 two-long : (x y : ℕ) (l : Bytes) → two x y l ≡ true → 2 ≤ length l
 unfolding two first
-two-long x y [] e = no (sym e)
-two-long x y (b ∷ []) e = no (sym (both (eqb b x) false e .1))
+two-long x y [] e = clash (sym e)
+two-long x y (b ∷ []) e = clash (sym (both (eqb b x) false e .1))
 two-long x y (b ∷ d ∷ t) e = omega arith
 
 -- two bytes that are found fit in
@@ -161,5 +177,5 @@ byte-here x l h =
     starts (drop u l) (upTo-hit (first x) l h) ∙ ap (_∷_ x) (drop-drop 1 u l)
   where
     starts : (r : Bytes) → first x r ≡ true → r ≡ x ∷ drop 1 r
-    starts [] e = no (sym (unfold first in e))
+    starts [] e = clash (sym (unfold first in e))
     starts (b ∷ r) e = ap (λ (b : ℕ). b ∷ r) (eqb-true b x (unfold first in e))

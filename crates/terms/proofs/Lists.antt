@@ -1,11 +1,20 @@
 -- Laws of `Each` and of lists that the logic's libraries lack. Assumes nothing.
 use mathlib.Core.Path.{_≡_, refl, ap}
 use mathlib.Core.List.{List, [], _∷_, _++_, map}
+use Prim.Native.Nat.{ℕ, zero, suc, _<_}
+use native.Mathlib.Nat.{le-of-suc-le-suc, not-suc-le-zero}
+use lib.ListN.{length, getD}
 use Rattle.terms.specs.Words.{Each}
 
 pub map-id : {A : Type 0} (l : List A) → map (λ a. a) l ≡ l
 map-id [] = refl
 map-id (a ∷ l) = ap (_∷_ a) (map-id l)
+
+-- inside a list it does not matter what would stand behind its end
+pub getD-inside : {A : Type 0} (l : List A) (i : ℕ) (d d′ : A) → i < length l → getD l i d ≡ getD l i d′
+getD-inside [] i d d′ h = absurd (not-suc-le-zero h)
+getD-inside (a ∷ l) zero d d′ h = refl
+getD-inside (a ∷ l) (suc i) d d′ h = getD-inside l i d d′ (le-of-suc-le-suc h)
 
 -- anything is so of each
 pub each-any : {A : Type 0} (l : List A) → Each (λ a. Unit {0}) l

@@ -1,6 +1,6 @@
 -- A line is judged faulty with a number exactly if it has that fault. For every file. Assumes nothing.
 use mathlib.Core.Path.{_≡_, refl, sym, ap, subst, _∙_}
-use mathlib.Core.List.{List, [], _∷_, _++_}
+use mathlib.Core.List.{List, [], _∷_}
 use mathlib.Core.Option.{Option, none, some}
 use mathlib.Core.Bool.{Bool, true, false}
 use mathlib.Core.Logic.{_⊎_, inl, inr}
@@ -10,9 +10,8 @@ use borrow.Author.Tests.{eqb-true, eqb-false, eq-eqb, ne-eqb}
 use lib.ListN.{length, take}
 use lib.Dec.{eqb}
 use Rattle.terms.specs.Ascii.{Bytes}
-use Rattle.line.specs.Text.{Ended}
+use Rattle.terms.proofs.Tests.{nothing}
 use Rattle.line.specs.Content.{Field, Content}
-use Rattle.line.specs.Faults.{FormFault}
 use Rattle.line.specs.Lines.{dropCr}
 use Rattle.line.specs.Forms.{formOf, fieldsAt}
 use Rattle.line.specs.declared.Form.{Form}
@@ -24,10 +23,10 @@ use Rattle.grammar.specs.Machine.{Out, next, refuse, Machine, Place, step}
 use Rattle.grammar.specs.Stands.{stands, ofRow, asDue, given}
 use Rattle.grammar.specs.Machine.{over, inside}
 use Rattle.text.specs.Said.{Said, SpellFields}
-use Rattle.text.specs.Judge.{Vals, readAll, Verdict, fault, good, check, Lexis, kindAt, args, taken, valued, standing, ofKind, known, tell, told, formed, judge}
-use Rattle.text.specs.Faults.{Fielded, MayStand, Fault, form, unknown, misplaced, given-again, miscounted, misspelt, forbidden}
-use Rattle.text.proofs.FieldReading.{nothing, said, all-right, all-only}
-use Rattle.text.proofs.Telling.{Lawful, in-front, spelled-args, args-spelled}
+use Rattle.text.specs.Judge.{Vals, readAll, Verdict, fault, good, check, Lexis, kindAt, args, taken, valued, standing, known, tell, told, formed, judge}
+use Rattle.text.specs.Faults.{Fielded, Fault, form, unknown, misplaced, given-again, miscounted, misspelt, forbidden}
+use Rattle.text.proofs.FieldReading.{said, all-right, all-only}
+use Rattle.text.proofs.Telling.{Lawful, line-is, spelled-args, args-spelled}
 
 failed : {S P : Type 0} (b : Bool) (m n : ℕ) (v : Verdict S P) → check b m v ≡ fault n → ((b ≡ false) × (m ≡ n)) ⊎ ((b ≡ true) × (v ≡ fault n))
 failed true m n v e = inr (refl, e)
@@ -62,7 +61,7 @@ module _ {L : Lang} (A : Machine L) (X : Lexis L) (line-of : (k : L .Kind) → L
     module _ (n : ℕ) (f : Field) (fs : List Field) (h : Fielded a l f fs) where
       in-value : (k : Kind) (q : kindAt A X p f ≡ some k) → stands A p k ≡ none → length (args A X (keyword k) f fs) ≡ length (sorts k)
           → (x : Option (Vals (sorts k))) → readAll (sorts k) (args A X (keyword k) f fs) ≡ x → valued A X p k x ≡ fault n → Fault A X line-of p a l n
-      in-value k q s c none r e = by 8 n (same-fault e) (misspelt (record { fields = h; is = q; here = s }) c λ v w. nothing (sym r ∙ all-only (sorts k) (args A X (keyword k) f fs) (W .parts k v) (args-spelled A X line-of W p f fs k q (W .parts k v) (subst (SpellFields (f ∷ fs)) (W .line-is k v) w)) .0))
+      in-value k q s c none r e = by 8 n (same-fault e) (misspelt (record { fields = h; is = q; here = s }) c λ v w. nothing (sym r ∙ all-only (sorts k) (args A X (keyword k) f fs) (W .parts k v) (args-spelled A X line-of W p f fs k q (W .parts k v) (subst (SpellFields (f ∷ fs)) (line-is A X line-of W k v) w)) .0))
       in-value k q s c (some w) r e = go (step A p (say L k (make k w))) refl e
         where
           go : (o : Out (Place A)) → step A p (say L k (make k w)) ≡ o → taken A X (say L k (make k w)) o ≡ fault n → Fault A X line-of p a l n
@@ -133,5 +132,5 @@ module _ {L : Lang} (A : Machine L) (X : Lexis L) (line-of : (k : L .Kind) → L
       misread (sorts k) (args A X (keyword k) f fs) (λ w s. m (make k w) (spelled-args A X line-of W p f fs k (h .is) w s)),
     )
     fault-only n (forbidden {f = f} {fs = fs} {k = k} h v s m) =
-        let x = all-only (sorts k) (args A X (keyword k) f fs) (W .parts k v) (args-spelled A X line-of W p f fs k (h .is) (W .parts k v) (subst (SpellFields (f ∷ fs)) (W .line-is k v) s)) in
+        let x = all-only (sorts k) (args A X (keyword k) f fs) (W .parts k v) (args-spelled A X line-of W p f fs k (h .is) (W .parts k v) (subst (SpellFields (f ∷ fs)) (line-is A X line-of W k v) s)) in
         passes (h .fields) ∙ rw (h .is, h .here, eq-eqb (length (args A X (keyword k) f fs)) (length (sorts k)) (x .1), x .0, W .made k v) (refused-9 k v m)

@@ -1,14 +1,14 @@
 -- A field, and the fields behind a keyword, are read exactly as they are spelled. Assumes nothing.
-use mathlib.Core.Path.{_≡_, refl, sym, ap, subst, _∙_}
-use mathlib.Core.List.{List, [], _∷_, _++_}
+use mathlib.Core.Path.{_≡_, refl, ap, subst, _∙_}
+use mathlib.Core.List.{List, [], _∷_}
 use mathlib.Core.Option.{Option, none, some}
 use mathlib.Core.Bool.{Bool, true, false}
-use Prim.Native.Nat.{ℕ, zero, suc, _≤_, _<_}
+use Prim.Native.Nat.{ℕ, zero, suc, _<_}
 use native.Mathlib.Omega.{arith}
 use lib.ListN.{length}
 use lib.IntN.{ℤ}
-use Rattle.terms.specs.Ascii.{Bytes}
-use Rattle.terms.specs.Words.{pick, Between}
+use Rattle.terms.specs.Words.{pick}
+use Rattle.terms.proofs.Tests.{nothing}
 use Rattle.line.specs.Content.{Field}
 use Rattle.number.specs.Executable.{integerOf, pairOf, tripleOf, isNameLength}
 use Rattle.number.specs.declared.Number as DN
@@ -29,11 +29,8 @@ use Rattle.word.specs.Number.{boundary-number}
 use Rattle.word.proofs.Boundary.{boundary-only, boundary-all}
 use Rattle.grammar.specs.Statements.{Boundary, double-yellow, solid-yellow, solid-white, broken-white, PartId, PointId}
 use Rattle.grammar.specs.Tables.{colour}
-use Rattle.text.specs.Said.{Said, word, name, integer, pair, triple, coordinate, boundary, SpellsField, SpellFields}
+use Rattle.text.specs.Said.{Said, name, integer, pair, triple, coordinate, boundary, SpellsField, SpellFields}
 use Rattle.text.specs.Judge.{Sort, a-name, an-integer, a-pair, a-triple, a-coordinate, a-boundary, Val, number, pair-from, triple-from, degrees, boundary-from, read, Vals, both, readAll}
-
-pub nothing : {A : Type 0} {X : Type 0} {v : A} → none ≡ some v → X
-nothing e = absurd (let z : _≡_ {A = ℕ} 0 1 = cc in omega arith)
 
 -- what a value of a sort says
 abbrev pub says : (s : Sort) → Val s → Said

@@ -1,29 +1,23 @@
 -- The house writing of a line is a line, and spells what it was written for, with each name at its new place. Assumes nothing.
-use mathlib.Core.Path.{_≡_, refl, sym, ap, subst, _∙_}
-use mathlib.Core.List.{List, [], _∷_, _++_, map, append-nil}
-use mathlib.Core.Option.{Option, none, some}
-use mathlib.Core.Bool.{Bool, true, false, not, _&&_}
-use mathlib.Core.Logic.{_⊎_, inl, inr}
-use Prim.Native.Nat.{ℕ, zero, suc, _+_, _*_, _≤_, _<_}
+use mathlib.Core.Path.{_≡_, refl, sym, subst}
+use mathlib.Core.List.{List, [], _∷_, map, append-nil}
+use mathlib.Core.Option.{some}
+use mathlib.Core.Logic.{inl}
+use Prim.Native.Nat.{ℕ, suc, _+_, _*_, _≤_, _<_}
 use native.Mathlib.Omega.{arith}
-use borrow.Author.Tests.{ne-eqb, le-leb}
 use lib.ListN.{length, length-append}
-use lib.Dec.{eqb}
 use lib.IntN.{natAbs, pos, negsuc}
 use Rattle.terms.specs.Ascii.{Bytes, ascii}
 use Rattle.terms.specs.Words.{Each, Between}
-use Rattle.scan.specs.Allowed.{fieldByte, digit, separates, all}
-use Rattle.scan.specs.Reach.{begins}
-use Rattle.line.specs.Text.{Ended}
+use Rattle.scan.specs.Allowed.{digit, separates}
+use Rattle.scan.proofs.Reach.{begins-some}
 use Rattle.line.specs.Content.{Field, at, IsField, parted, SpellsFields, nothing, separator, field, Content}
 use Rattle.line.proofs.Contents.{content-ended}
-use Rattle.number.specs.Spelling.{NameLength}
-use Rattle.number.specs.House.{houseInteger, housePair, houseTriple, numberByte}
+use Rattle.number.specs.House.{houseInteger, housePair, houseTriple}
 use Rattle.number.proofs.House.{numbers-field, house-integer-spells, house-integer-short, house-integer-bytes, house-integer-first, house-pair-spells, house-pair-short, house-pair-bytes, house-pair-first, house-triple-spells, house-triple-short, house-triple-bytes, house-triple-first}
 use Rattle.coordinate.specs.House.{houseDegrees, houseCoordinate}
 use Rattle.coordinate.proofs.House.{house-coordinate-spells, house-coordinate-short, house-coordinate-bytes}
-use Rattle.word.specs.Keywords.{FieldByte, ShortField, boundary-of}
-use Rattle.word.specs.Keywords as Word
+use Rattle.word.specs.Keywords.{ShortField, boundary-of}
 use Rattle.word.proofs.Boundary.{boundary-word-field}
 use Rattle.grammar.specs.Statements.{Boundary, double-yellow, solid-yellow, solid-white, broken-white}
 use Rattle.grammar.specs.Tables.{colour}
@@ -41,11 +35,6 @@ Writable (triple i) = (i .x ≤ 99999) × (i .y ≤ 99999) × (i .z ≤ 99999)
 Writable (coordinate z) = natAbs z ≤ 999999999
 Writable (boundary b) = Unit {0}
 
-some-first : (l : Bytes) → begins digit l ≡ true → 0 < length l
-unfolding begins
-some-first [] e = absurd (let z : _≡_ {A = ℕ} 0 1 = cc in omega arith)
-some-first (b ∷ l) e = omega arith
-
 some-degrees : (m : ℕ) → 0 < length (houseDegrees m)
 unfolding houseDegrees ascii
 some-degrees m = simp length-append (omega arith)
@@ -61,28 +50,17 @@ colours solid-yellow = record { low = omega arith; high = omega arith }
 colours solid-white = record { low = omega arith; high = omega arith }
 colours broken-white = record { low = omega arith; high = omega arith }
 
-not-that : (b x : ℕ) → (b ≡ x → ⊥) → not (eqb b x) ≡ true
-not-that b x n = rw (ne-eqb b x n)
-
-field-byte : (b : ℕ) → FieldByte b → fieldByte b ≡ true
-field-byte b h = rw (le-leb 33 b (h .range .low), le-leb b 126 (h .range .high), not-that b 92 (h .no-backslash), not-that b 42 (h .no-star))
-
-field-bytes : (w : Bytes) → Each FieldByte w → all fieldByte w ≡ true
-unfolding all
-field-bytes [] h = refl
-field-bytes (b ∷ w) h = rw (field-byte b (h .0), field-bytes w (h .1))
-
 pub short-field : (w : Bytes) → ShortField w → IsField w × (length w ≤ 20)
-short-field w h = (record { some = h .some; allowed = field-bytes w (h .bytes) }, h .short)
+short-field w h = (record { some = h .some; allowed = h .allowed }, h .short)
 
 -- ## A written field
 pub house-is-field : (s : Said) → Writable s → IsField (house-field s)
 unfolding house-field
 house-is-field (word w) h = h .0
 house-is-field (name f) h = h .0
-house-is-field (integer n) h = record { some = some-first (houseInteger n) (house-integer-first n); allowed = numbers-field (houseInteger n) (house-integer-bytes n) }
-house-is-field (pair i) h = record { some = some-first (housePair (i .m) (i .n)) (house-pair-first (i .m) (i .n)); allowed = numbers-field (housePair (i .m) (i .n)) (house-pair-bytes (i .m) (i .n)) }
-house-is-field (triple i) h = record { some = some-first (houseTriple (i .x) (i .y) (i .z)) (house-triple-first (i .x) (i .y) (i .z)); allowed = numbers-field (houseTriple (i .x) (i .y) (i .z)) (house-triple-bytes (i .x) (i .y) (i .z)) }
+house-is-field (integer n) h = record { some = begins-some digit (houseInteger n) (house-integer-first n); allowed = numbers-field (houseInteger n) (house-integer-bytes n) }
+house-is-field (pair i) h = record { some = begins-some digit (housePair (i .m) (i .n)) (house-pair-first (i .m) (i .n)); allowed = numbers-field (housePair (i .m) (i .n)) (house-pair-bytes (i .m) (i .n)) }
+house-is-field (triple i) h = record { some = begins-some digit (houseTriple (i .x) (i .y) (i .z)) (house-triple-first (i .x) (i .y) (i .z)); allowed = numbers-field (houseTriple (i .x) (i .y) (i .z)) (house-triple-bytes (i .x) (i .y) (i .z)) }
 house-is-field (coordinate z) h = record { some = some-coordinate z; allowed = numbers-field (houseCoordinate z) (house-coordinate-bytes z) }
 house-is-field (boundary b) h = short-field (boundary-of (colour b)) (boundary-word-field (colour b) (colours b)) .0
 

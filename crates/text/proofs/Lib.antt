@@ -4,6 +4,8 @@ pub mod LineJudging
 pub mod FaultLaws
 pub mod TextReading
 pub mod HouseLines
+pub mod KeywordRows
+pub mod Leaving
 pub mod RndfText
 pub mod MdfText
 pub mod Theorems

@@ -1,30 +1,21 @@
 -- The RNDF's words, and a line that leads on from each of its places. Assumes nothing.
 use mathlib.Core.Path.{_≡_, refl, sym, ap, subst, _∙_}
 use mathlib.Core.List.{List, [], _∷_, _++_}
-use mathlib.Core.Option.{Option, none, some}
-use mathlib.Core.Bool.{Bool, true, false}
+use mathlib.Core.Option.{none}
+use mathlib.Core.Bool.{true}
 use Prim.Native.Nat.{ℕ, zero, suc, _+_, _≤_, _<_}
 use native.Mathlib.Omega.{arith}
-use borrow.Author.Tests.{lt-ltb, ltb-true, ltb-false, eqb-true}
 use lib.ListN.{length, getD}
-use lib.Dec.{T, ltb, eqb, ltb→lt}
-use lib.IntN.{pos}
-use Rattle.terms.specs.Ascii.{Bytes, ascii}
-use Rattle.terms.specs.Words.{pick, Each, Between}
+use lib.Dec.{T, ltb→lt}
+use Rattle.terms.specs.Ascii.{ascii}
+use Rattle.terms.proofs.Lists.{getD-inside}
 use Rattle.line.specs.Content.{Field, at, IsField}
-use Rattle.scan.specs.Allowed.{digit, all}
-use Rattle.scan.specs.Reach.{begins}
-use Rattle.number.specs.Spelling.{SpellsTriple}
-use Rattle.number.specs.House.{houseTriple}
+use Rattle.scan.specs.Allowed.{digit}
 use Rattle.number.proofs.House.{house-triple-one, house-triple-first}
 use Rattle.word.specs.Keywords.{rndf-keywords}
-use Rattle.word.specs.Number.{indexOf, digit-first}
-use Rattle.word.proofs.Table.{below}
-use Rattle.word.proofs.Index.{index-most, index-word}
-use Rattle.word.proofs.Keywords.{rndf-length, rndf-own, rndf-word-field, rndf-word-no-digit}
-use Rattle.grammar.specs.Language.{say}
+use Rattle.word.specs.Number.{digit-first}
+use Rattle.word.proofs.Keywords.{rndf-length, rndf-differ, rndf-word-field, rndf-word-no-digit}
 use Rattle.grammar.specs.Statements.{Kind, Says, lines, RNDF-name, num-segments, num-zones, format-version, creation-date, segment, num-lanes, segment-name, end-segment, lane, num-waypoints, lane-width, left-boundary, right-boundary, checkpoint, stop, exit, end-lane, zone, num-spots, zone-name, end-zone, perimeter, num-perimeterpoints, end-perimeter, spot, spot-width, end-spot, end-file, point}
-use Rattle.grammar.specs.Machine.{Machine}
 use Rattle.grammar.specs.Forms.{tested}
 use Rattle.grammar.specs.Permitted.{counted, upto, atMost}
 use Rattle.grammar.specs.Places.{rndf, Base, opts, due, name-due, num-segments-due, num-zones-due, first-segment-due, part-due, num-lanes-due, first-lane-due, lane-due, num-waypoints-due, first-waypoint-due, waypoint-due, num-spots-due, perimeter-due, num-perimeterpoints-due, first-perimeterpoint-due, perimeterpoint-due, spot-due, first-of-spot-due, second-of-spot-due, end-spot-due}
@@ -32,18 +23,19 @@ use Rattle.grammar.specs.PlaceRows.{kinds, kind-row}
 use Rattle.grammar.proofs.FormLaws as Form
 use Rattle.grammar.proofs.Keeping.{GoodNext}
 use Rattle.grammar.proofs.RndfTable.{coded, short}
-use Rattle.grammar.proofs.MachineLaws as Ml
 use Rattle.grammar.proofs.NetworkReading as Net
-use Rattle.text.specs.Said.{Said, word, name, integer, pair, triple, coordinate, SpellFields}
+use Rattle.text.specs.Said.{SpellFields}
 use Rattle.text.specs.RndfLines.{rndf-line}
-use Rattle.text.specs.HouseLine.{house-field, house-line}
+use Rattle.text.specs.HouseLine.{house-field}
 use Rattle.text.specs.Judge.{Vals}
-use Rattle.text.specs.RndfWords.{word-at, kind-at, rndf-sorts, rndf-make, rndf-lexis}
-use Rattle.text.specs.Spelling.{SpellsLine}
-use Rattle.text.proofs.FieldReading.{nothing, said}
+use Rattle.text.specs.RndfWords.{word-at, rndf-sorts, rndf-make, rndf-lexis}
+use Rattle.text.proofs.FieldReading.{said}
 use Rattle.text.proofs.Telling.{in-front, worded, Lawful}
-use Rattle.text.proofs.TextReading.{Leaves, Cheaper}
-use Rattle.text.proofs.HouseLines.{Writable, short-field, moved, placed, house-says}
+use Rattle.text.proofs.TextReading.{Leaves}
+use Rattle.text.proofs.HouseLines.{short-field}
+use Rattle.text.proofs.KeywordRows.{no-row, Rowed, lookup-right, lookup-only, no-digit}
+use Rattle.text.proofs.Leaving.{x, by-name, By}
+use Rattle.text.proofs.Leaving as Leaving
 
 -- ## The words
 abbrev pub rndf-parts : (k : Kind) → Says Field k → Vals (rndf-sorts k)
@@ -110,39 +102,6 @@ rndf-made end-spot v = refl
 rndf-made end-file v = refl
 rndf-made point v = refl
 
-pub rndf-line-is : (k : Kind) (v : Says Field k) → rndf-line k v ≡ in-front (word-at (kind-row k)) ++ said (rndf-sorts k) (rndf-parts k v)
-unfolding rndf-line rndf-keywords
-rndf-line-is RNDF-name v = refl
-rndf-line-is num-segments v = refl
-rndf-line-is num-zones v = refl
-rndf-line-is format-version v = refl
-rndf-line-is creation-date v = refl
-rndf-line-is segment v = refl
-rndf-line-is num-lanes v = refl
-rndf-line-is segment-name v = refl
-rndf-line-is end-segment v = refl
-rndf-line-is lane v = refl
-rndf-line-is num-waypoints v = refl
-rndf-line-is lane-width v = refl
-rndf-line-is left-boundary v = refl
-rndf-line-is right-boundary v = refl
-rndf-line-is checkpoint v = refl
-rndf-line-is stop v = refl
-rndf-line-is exit v = refl
-rndf-line-is end-lane v = refl
-rndf-line-is zone v = refl
-rndf-line-is num-spots v = refl
-rndf-line-is zone-name v = refl
-rndf-line-is end-zone v = refl
-rndf-line-is perimeter v = refl
-rndf-line-is num-perimeterpoints v = refl
-rndf-line-is end-perimeter v = refl
-rndf-line-is spot v = refl
-rndf-line-is spot-width v = refl
-rndf-line-is end-spot v = refl
-rndf-line-is end-file v = refl
-rndf-line-is point v = refl
-
 pub rndf-line-made : (k : Kind) (w : Vals (rndf-sorts k)) → rndf-line k (rndf-make k w) ≡ in-front (word-at (kind-row k)) ++ said (rndf-sorts k) w
 unfolding rndf-line rndf-keywords
 rndf-line-made RNDF-name w = refl
@@ -176,87 +135,16 @@ rndf-line-made end-spot w = refl
 rndf-line-made end-file w = refl
 rndf-line-made point w = refl
 
--- a row with a keyword
-at-row : (i : ℕ) (w : Bytes) → word-at i ≡ some w → (i < 29) × (getD rndf-keywords i [] ≡ w)
-at-row i w e = go (ltb i 29) refl e
-  where
-    go : (b : Bool) → ltb i 29 ≡ b → pick b (some (getD rndf-keywords i [])) none ≡ some w → (i < 29) × (getD rndf-keywords i [] ≡ w)
-    go true q e = (ltb-true i 29 q, cc)
-    go false q e = nothing e
-
-row-of : (i : ℕ) (k : Kind) → kind-at i ≡ some k → (i < 29) × (getD kinds i point ≡ k)
-row-of i k e = go (ltb i 29) refl e
-  where
-    go : (b : Bool) → ltb i 29 ≡ b → pick b (some (getD kinds i point)) none ≡ some k → (i < 29) × (getD kinds i point ≡ k)
-    go true q e = (ltb-true i 29 q, cc)
-    go false q e = nothing e
-
--- the row of the kind of a row
-back : (i : ℕ) → i < 30 → kind-row (getD kinds i point) ≡ i
-back i h = eqb-true (kind-row (getD kinds i point)) i (below (λ j. eqb (kind-row (getD kinds j point)) j) 30 refl i h)
-
-coded-point : (k : Kind) → getD kinds (kind-row k) point ≡ k
-coded-point RNDF-name = refl
-coded-point num-segments = refl
-coded-point num-zones = refl
-coded-point format-version = refl
-coded-point creation-date = refl
-coded-point segment = refl
-coded-point num-lanes = refl
-coded-point segment-name = refl
-coded-point end-segment = refl
-coded-point lane = refl
-coded-point num-waypoints = refl
-coded-point lane-width = refl
-coded-point left-boundary = refl
-coded-point right-boundary = refl
-coded-point checkpoint = refl
-coded-point stop = refl
-coded-point exit = refl
-coded-point end-lane = refl
-coded-point zone = refl
-coded-point num-spots = refl
-coded-point zone-name = refl
-coded-point end-zone = refl
-coded-point perimeter = refl
-coded-point num-perimeterpoints = refl
-coded-point end-perimeter = refl
-coded-point spot = refl
-coded-point spot-width = refl
-coded-point end-spot = refl
-coded-point end-file = refl
-coded-point point = refl
-
-lookup-right : (w : Bytes) (k : Kind) → kind-at (indexOf w rndf-keywords) ≡ some k → word-at (kind-row k) ≡ some w
-lookup-right w k e =
-    let x = row-of (indexOf w rndf-keywords) k e in
-    let i : kind-row k ≡ indexOf w rndf-keywords = ap kind-row (sym (x .1)) ∙ back (indexOf w rndf-keywords) (omega arith) in
-    rw (i, lt-ltb (indexOf w rndf-keywords) 29 (x .0)) (ap some (sym (index-word w rndf-keywords (let l = rndf-length in let h = x .0 in omega arith))))
-
-lookup-only : (w : Bytes) (k : Kind) → word-at (kind-row k) ≡ some w → kind-at (indexOf w rndf-keywords) ≡ some k
-lookup-only w k e =
-    let x = at-row (kind-row k) w e in
-    rw (sym (x .1)) (rw (rndf-own (kind-row k) (x .0), lt-ltb (kind-row k) 29 (x .0)) (ap some (coded-point k)))
-
-no-digit : (w : Bytes) (k : Kind) → word-at (kind-row k) ≡ some w → digit-first w ≡ false
-no-digit w k e = let x = at-row (kind-row k) w e in rw (sym (x .1)) (rndf-word-no-digit (kind-row k) (x .0))
+rowed : Rowed 29 rndf-keywords kinds kind-row point
+rowed = record { many = rndf-length; differ = rndf-differ; first = rndf-word-no-digit; back = refl; coded = λ k. getD-inside kinds (kind-row k) point RNDF-name (ltb→lt (kind-row k) (length kinds) (short k)) ∙ coded k }
 
 -- the one kind without a keyword is a point's, and its line begins with a digit
 only-point : (k : Kind) → word-at (kind-row k) ≡ none → point ≡ k
-only-point k e = go (ltb (kind-row k) 29) refl e
-  where
-    go : (b : Bool) → ltb (kind-row k) 29 ≡ b → pick b (some (getD rndf-keywords (kind-row k) [])) none ≡ none → point ≡ k
-    go true q e = nothing (sym e)
-    go false q e =
-        let h : 29 ≤ kind-row k = ltb-false (kind-row k) 29 q in
-        let l = ltb→lt (kind-row k) 30 (short k) in
-        let i : kind-row k ≡ 29 = omega arith in
-        sym (ap (λ (j : ℕ). getD kinds j point) i) ∙ coded-point k
-
-pub begins-first : (s : Bytes) → begins digit s ≡ true → digit-first s ≡ true
-unfolding begins digit-first
-begins-first [] e = e
-begins-first (b ∷ s) e = e
+only-point k e =
+    let h = no-row 29 rndf-keywords [] (kind-row k) e in
+    let l = ltb→lt (kind-row k) 30 (short k) in
+    let i : kind-row k ≡ 29 = omega arith in
+    sym (ap (λ (j : ℕ). getD kinds j point) i) ∙ rowed .coded k
 
 digit-line : (k : Kind) → word-at (kind-row k) ≡ none → (fs : List Field) (v : Vals (rndf-sorts k)) → SpellFields fs (said (rndf-sorts k) v) → (f : Field) × (gs : List Field) × (fs ≡ f ∷ gs) × (digit-first (f .bytes) ≡ true)
 digit-line k e = subst (λ (k : Kind). (fs : List Field) (v : Vals (rndf-sorts k)) → SpellFields fs (said (rndf-sorts k) v) → (f : Field) × (gs : List Field) × (fs ≡ f ∷ gs) × (digit-first (f .bytes) ≡ true)) (only-point k e) points
@@ -265,7 +153,7 @@ digit-line k e = subst (λ (k : Kind). (fs : List Field) (v : Vals (rndf-sorts k
     points [] v h = absurd h
     points (f ∷ fs) v h =
         let i = v .0 in
-        (f, fs, refl, begins-first (f .bytes) (rw (house-triple-one (i .x) (i .y) (i .z) (f .bytes) (h .0)) (house-triple-first (i .x) (i .y) (i .z))))
+        (f, fs, refl, rw (house-triple-one (i .x) (i .y) (i .z) (f .bytes) (h .0)) (house-triple-first (i .x) (i .y) (i .z)))
 
 options : (b : Base) → T (worded (lines Field) (λ k. word-at (kind-row k)) (opts Field b))
 options name-due = tt
@@ -290,7 +178,7 @@ options (second-of-spot-due m z n s) = tt
 options (end-spot-due m z n s) = tt
 
 pub rndf-lawful : Lawful (rndf Field) rndf-lexis rndf-line
-rndf-lawful = record { parts = rndf-parts; made = rndf-made; line-is = rndf-line-is; line-made = rndf-line-made; lookup-right = lookup-right; lookup-only = lookup-only; no-digit = no-digit; digit = digit-line; options = options }
+rndf-lawful = record { parts = rndf-parts; made = rndf-made; line-made = rndf-line-made; lookup-right = lookup-right 29 rndf-keywords kinds kind-row point rowed; lookup-only = lookup-only 29 rndf-keywords kinds kind-row point rowed; no-digit = no-digit 29 rndf-keywords kinds kind-row point rowed; digit = digit-line; options = options }
 
 -- ## A line that leads on from each place
 -- identifiers and what is owed stay within 32,768
@@ -351,45 +239,13 @@ keeps (end-spot-due m z n s) y v t = (y .0, omega arith)
 kw : (i : ℕ) → i < 29 → IsField (getD rndf-keywords i []) × (length (getD rndf-keywords i []) ≤ 20)
 kw i h = short-field (getD rndf-keywords i []) (rndf-word-field i h)
 
--- a name of one byte
-abbrev pub x : Bytes
-x = ascii "x"
-
-pub x-field : IsField (ascii "x")
-unfolding ascii all
-x-field = record { some = omega arith; allowed = refl }
-
-pub x-short : length (ascii "x") ≤ 128
-unfolding ascii
-x-short = omega arith
-
-abbrev v-of : (b : Base) → Net.Good Field b → Says Field (due Field b .on)
-v-of b g = Net.goes-on Field (at 0 x) b g .v
-
 -- the house line of the sample that the grammar has for a base
-by : (b : Base) (g : Net.Good Field b) → Each Writable (rndf-line (due Field b .on) (v-of b g)) → length (rndf-line (due Field b .on) (v-of b g)) ≤ 3
-    → ((a : ℕ) → rndf-line (due Field b .on) (v-of b g) ≡ placed a (rndf-line (due Field b .on) (v-of b g))) → Leaves (rndf Field) rndf-line (Net.cost Field) b
-by b g h n e =
-    let k = due Field b .on in
-    let s = Net.goes-on Field (at 0 x) b g in
-    record { v = λ a. s .v; line = house-line (rndf-line k (s .v)); said = λ a. house-says rndf-line a k (s .v) (s .v) h n (e a); ok = λ a. s .ok; less = λ a. same (due Field b .then (s .v)) (s .less) }
-  where
-    same : (o : Option Base) → Ml.Cheaper (rndf Field) (Net.Good Field) (Net.cost Field) (Net.cost Field b) o → Cheaper (Net.cost Field) (Net.cost Field b) o
-    same none l = tt
-    same (some c) l = l
+by : (b : Base) (g : Net.Good Field b) → By (rndf Field) rndf-line (Net.Good Field) (Net.cost Field) (Net.goes-on Field (at 0 x)) b g
+by = Leaving.by (rndf Field) rndf-line (Net.Good Field) (Net.cost Field) (Net.goes-on Field (at 0 x))
 
 pub leaves : (b : Base) → Bounded b → Leaves (rndf Field) rndf-line (Net.cost Field) b
 unfolding rndf-line rndf-keywords Net.goes-on house-field
-leaves name-due y = record {
-  v = λ a. at (suc (a + length (ascii "RNDF_name"))) x;
-  line = house-line (rndf-line RNDF-name (at 0 x));
-  said = λ a. house-says rndf-line a RNDF-name (at 0 x) (at (suc (a + length (ascii "RNDF_name"))) x) (kw 0 (omega arith), ((x-field, x-short), tt)) (omega arith) (named a);
-  ok = λ a. tt;
-  less = λ a. omega arith;
-}
-  where
-    named : (a : ℕ) → rndf-line RNDF-name (at (suc (a + length (ascii "RNDF_name"))) x) ≡ placed a (rndf-line RNDF-name (at 0 x))
-    named a = refl
+leaves name-due y = by-name (rndf Field) rndf-line (Net.Good Field) (Net.cost Field) name-due (ascii "RNDF_name") (λ f. f) (λ f. refl) (kw 0 (omega arith)) (λ f. tt) (λ f. omega arith)
 leaves num-segments-due y = by num-segments-due tt (kw 1 (omega arith), (omega arith, tt)) (omega arith) (λ a. refl)
 leaves (num-zones-due o) y = by (num-zones-due o) (y .1) (kw 2 (omega arith), (omega arith, tt)) (omega arith) (λ a. refl)
 leaves (first-segment-due o z) y = by (first-segment-due o z) tt (kw 5 (omega arith), (omega arith, tt)) (omega arith) (λ a. refl)

@@ -8,18 +8,19 @@ use native.Mathlib.Omega.{arith}
 use borrow.Author.Tests.{eq-eqb}
 use lib.ListN.{length}
 use lib.Dec.{T, eqb}
+use lib.Ieee.Fits.{and-l, and-r}
 use Rattle.terms.specs.Ascii.{Bytes}
+use Rattle.terms.proofs.Tests.{nothing}
 use Rattle.terms.specs.Words.{pick}
 use Rattle.line.specs.Content.{Field}
 use Rattle.word.specs.Number.{digit-first}
 use Rattle.grammar.specs.Language.{Lang, S, say}
 use Rattle.grammar.specs.Machine.{Out, next, refuse, Opt, Machine, over, inside, Place, step}
 use Rattle.grammar.specs.Stands.{given, asDue, ofRow, stands}
-use Rattle.grammar.proofs.LanguageLaws.{and-l, and-r}
 use Rattle.grammar.proofs.StandLaws.{stands-all}
 use Rattle.text.specs.Said.{Said, word, SpellFields}
 use Rattle.text.specs.Judge.{Vals, readAll, Verdict, fault, good, check, Lexis, dueAt, numbered, kindAt, args, taken, valued, standing, ofKind, known, tell}
-use Rattle.text.proofs.FieldReading.{nothing, said, all-right, all-only}
+use Rattle.text.proofs.FieldReading.{said, all-right, all-only}
 
 pub passed : {S P : Type 0} (b : Bool) (n : ℕ) (v : Verdict S P) (o : Option S) (q : P) → check b n v ≡ good o q → (b ≡ true) × (v ≡ good o q)
 passed true n v o q e = (refl, e)
@@ -42,7 +43,6 @@ worded L keyword (o ∷ row) = hasWord (keyword (o .on)) && worded L keyword row
 pub record Lawful {L : Lang} (A : Machine L) (X : Lexis L) (line-of : (k : L .Kind) → L .Pay k → List Said) : Type 1 where
   pub parts : (k : L .Kind) → L .Pay k → Vals (X .sorts k)
   pub made : (k : L .Kind) (v : L .Pay k) → X .make k (parts k v) ≡ v
-  pub line-is : (k : L .Kind) (v : L .Pay k) → line-of k v ≡ in-front (X .keyword k) ++ said (X .sorts k) (parts k v)
   pub line-made : (k : L .Kind) (w : Vals (X .sorts k)) → line-of k (X .make k w) ≡ in-front (X .keyword k) ++ said (X .sorts k) w
   pub lookup-right : (w : Bytes) (k : L .Kind) → X .lookup w ≡ some k → X .keyword k ≡ some w
   pub lookup-only : (w : Bytes) (k : L .Kind) → X .keyword k ≡ some w → X .lookup w ≡ some k
@@ -54,6 +54,9 @@ module _ {L : Lang} (A : Machine L) (X : Lexis L) (line-of : (k : L .Kind) → L
   open Lang L using (Kind, Pay, disc)
   open Lexis X using (keyword, sorts, make, lookup)
   open Machine A using (Base, opts, due)
+
+  pub line-is : (k : Kind) (v : Pay k) → line-of k v ≡ in-front (keyword k) ++ said (sorts k) (W .parts k v)
+  line-is k v = ap (line-of k) (sym (W .made k v)) ∙ W .line-made k (W .parts k v)
 
   -- how fields spell a statement
   abbrev pub Says : List Field → S L → Type 0
@@ -161,7 +164,7 @@ module _ {L : Lang} (A : Machine L) (X : Lexis L) (line-of : (k : L .Kind) → L
 
   pub tell-only : (p : Place A) (fs : List Field) (s : S L) (q : Place A) → Says fs s → step A p s ≡ next q → (f : Field) × (gs : List Field) × (fs ≡ f ∷ gs) × (tell A X p f gs ≡ good (some s) q)
   unfolding tell
-  tell-only p fs s q h e = go (keyword k) refl fs (subst (SpellFields fs) (W .line-is k v) h)
+  tell-only p fs s q h e = go (keyword k) refl fs (subst (SpellFields fs) (line-is k v) h)
     where
       k : Kind
       k = s .kind

@@ -10,13 +10,15 @@ use lib.Dec.{T}
 use lib.ListN.{length}
 use Rattle.terms.specs.Ascii.{Bytes}
 use Rattle.terms.specs.Words.{pick, Each}
+use Rattle.terms.proofs.Tests.{clash}
 use Rattle.line.specs.Text.{lf, Lacks, Cut}
 use Rattle.line.specs.Lines.{linesOf, writeLines}
 use Rattle.line.proofs.Cuts.{cut, cut-one, cut-written}
 use Rattle.grammar.specs.Language.{Lang, S, say}
 use Rattle.grammar.specs.Machine.{Out, next, refuse, Machine, over, inside, andThen, Place, at, enter, step, run, Accepts}
-use Rattle.grammar.proofs.Keeping.{GoodNext, GoodPlace, GoodOut, run-good}
-use Rattle.grammar.proofs.MachineLaws.{run-nil}
+use Rattle.grammar.proofs.Keeping.{GoodNext, GoodOut, run-good}
+use Rattle.grammar.proofs.MachineLaws.{Cheaper, refused, run-nil}
+use Rattle.grammar.proofs.MachineLaws as Ml
 use Rattle.grammar.proofs.StandLaws.{step-due}
 use Rattle.text.specs.Said.{Said}
 use Rattle.text.specs.Spelling.{SpellsLine, SpellsLines, done, blank-line, statement, SpellsText}
@@ -36,17 +38,8 @@ module _ {L : Lang} (A : Machine L) (X : Lexis L) (line-of : (k : L .Kind) → L
   mixed : {Y : Type 0} {i c : ℕ} {ss : List (S L)} {p : Place A} → _≡_ {A = Walk (S L) (Place A)} (stopped i c) (through ss p) → Y
   mixed e = absurd (let z : _≡_ {A = ℕ} 0 1 = cc in omega arith)
 
-  refused : {Y : Type 0} {c : ℕ} {p : Place A} → _≡_ {A = Out (Place A)} (refuse c) (next p) → Y
-  refused e = absurd (let z : _≡_ {A = ℕ} 0 1 = cc in omega arith)
-
   run-append : (p : Place A) (l r : List (S L)) (q : Place A) → run A p l ≡ next q → run A p (l ++ r) ≡ run A q r
-  unfolding run
-  run-append p [] r q e = ap (λ (p : Place A). run A p r) (cc)
-  run-append p (s ∷ l) r q e = go (step A p s) e (λ p′. run-append p′ l r q)
-    where
-      go : (o : Out (Place A)) → andThen o (λ q. run A q l) ≡ next q → ((p′ : Place A) → run A p′ l ≡ next q → run A p′ (l ++ r) ≡ run A q r) → andThen o (λ q. run A q (l ++ r)) ≡ run A q r
-      go (next p′) e ih = ih p′ e
-      go (refuse c) e ih = refused e
+  run-append p l r q e = Ml.run-append A p l r ∙ ap (λ (o : Out (Place A)). andThen o (λ q. run A q r)) e
 
   -- the first statement's step, and the rest
   run-split : (p q : Place A) (o : Option (S L)) (ss : List (S L)) → run A p (listed o ++ ss) ≡ next q → (p′ : Place A) × (advance A X line-of W p o ≡ next p′) × (run A p′ ss ≡ next q)
@@ -182,10 +175,6 @@ module _ {L : Lang} (A : Machine L) (X : Lexis L) (line-of : (k : L .Kind) → L
           rw (ih p′ (x .0) (x .1) (rw z at f), y)
 
 -- ## A file: its grammar, which its places read, and a line that leads on from every place that is reached
-abbrev pub Cheaper : {Base : Type 0} → (Base → ℕ) → ℕ → Option Base → Type 0
-Cheaper cost c none = Unit {0}
-Cheaper cost c (some b) = cost b < c
-
 -- a line by which a base is left, wherever the line starts, for one that is nearer to the end
 pub record Leaves {L : Lang} (A : Machine L) (line-of : (k : L .Kind) → L .Pay k → List Said) (cost : A .Base → ℕ) (b : A .Base) : Type 0 where
   pub v : ℕ → L .Pay (A .due b .on)
@@ -276,7 +265,7 @@ module _ {L : Lang} (A : Machine L) (X : Lexis L) (line-of : (k : L .Kind) → L
 
   over-is : (p : Place A) → isOver A X p ≡ true → p ≡ over
   over-is over e = refl
-  over-is (inside b g) e = absurd (let z : _≡_ {A = ℕ} 0 1 = cc in omega arith)
+  over-is (inside b g) e = clash (sym e)
 
   -- what is answered is so
   pub means : (t : Bytes) → Means t (readText A X first t)

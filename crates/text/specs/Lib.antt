@@ -7,6 +7,7 @@ pub mod Judge
 pub mod Answers
 pub mod Refusals
 pub mod HouseLine
+pub mod KeywordRows
 pub mod RndfWords
 pub mod MdfWords
 pub mod Faults

@@ -1,23 +1,21 @@
 -- Executable: how the statements of an MDF are made out. Assumes nothing.
 use mathlib.Core.List.{List, [], _∷_}
-use mathlib.Core.Option.{Option, none, some}
+use mathlib.Core.Option.{Option}
 use Prim.Native.Nat.{ℕ}
-use lib.ListN.{getD}
-use lib.Dec.{ltb}
 use Rattle.terms.specs.Ascii.{Bytes}
-use Rattle.terms.specs.Words.{pick}
 use Rattle.line.specs.Content.{Field}
 use Rattle.word.specs.Keywords.{mdf-keywords}
 use Rattle.word.specs.Number.{indexOf}
 use Rattle.grammar.specs.MissionStatements.{Kind, Says, orders, MDF-name, RNDF, format-version, creation-date, checkpoints, num-checkpoints, end-checkpoints, speed-limits, num-speed-limits, end-speed-limits, end-file, goal, limit}
 use Rattle.grammar.specs.PlaceRows.{mission-kinds, mission-kind-row}
+use Rattle.text.specs.KeywordRows.{of-row}
 use Rattle.text.specs.Judge.{Sort, a-name, an-integer, Vals, Lexis}
 
 abbrev pub word-at : ℕ → Option Bytes
-word-at i = pick (ltb i 11) (some (getD mdf-keywords i [])) none
+word-at i = of-row 11 mdf-keywords [] i
 
 abbrev pub kind-at : ℕ → Option Kind
-kind-at i = pick (ltb i 11) (some (getD mission-kinds i limit)) none
+kind-at i = of-row 11 mission-kinds limit i
 
 abbrev pub mdf-sorts : Kind → List Sort
 mdf-sorts MDF-name = a-name ∷ []

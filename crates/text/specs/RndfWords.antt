@@ -1,24 +1,22 @@
 -- Executable: how the statements of an RNDF are made out. Assumes nothing.
 use mathlib.Core.List.{List, [], _∷_}
-use mathlib.Core.Option.{Option, none, some}
+use mathlib.Core.Option.{Option}
 use Prim.Native.Nat.{ℕ}
-use lib.ListN.{getD}
-use lib.Dec.{ltb}
 use Rattle.terms.specs.Ascii.{Bytes}
-use Rattle.terms.specs.Words.{pick}
 use Rattle.line.specs.Content.{Field}
 use Rattle.word.specs.Keywords.{rndf-keywords}
 use Rattle.word.specs.Number.{indexOf}
 use Rattle.grammar.specs.Statements.{Kind, Says, lines, RNDF-name, num-segments, num-zones, format-version, creation-date, segment, num-lanes, segment-name, end-segment, lane, num-waypoints, lane-width, left-boundary, right-boundary, checkpoint, stop, exit, end-lane, zone, num-spots, zone-name, end-zone, perimeter, num-perimeterpoints, end-perimeter, spot, spot-width, end-spot, end-file, point}
 use Rattle.grammar.specs.PlaceRows.{kinds, kind-row}
+use Rattle.text.specs.KeywordRows.{of-row}
 use Rattle.text.specs.Judge.{Sort, a-name, an-integer, a-pair, a-triple, a-coordinate, a-boundary, Vals, Lexis}
 
 -- the keyword of a row; the rows behind the keywords have none
 abbrev pub word-at : ℕ → Option Bytes
-word-at i = pick (ltb i 29) (some (getD rndf-keywords i [])) none
+word-at i = of-row 29 rndf-keywords [] i
 
 abbrev pub kind-at : ℕ → Option Kind
-kind-at i = pick (ltb i 29) (some (getD kinds i point)) none
+kind-at i = of-row 29 kinds point i
 
 abbrev pub rndf-sorts : Kind → List Sort
 rndf-sorts RNDF-name = a-name ∷ []

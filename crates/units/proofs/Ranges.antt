@@ -6,6 +6,7 @@ use native.Mathlib.Omega.{arith}
 use lib.Dec.{leb}
 use borrow.Author.Tests.{le-leb, lt-leb, leb-true}
 use Rattle.terms.specs.Words.{pick, Between}
+use Rattle.terms.proofs.Tests.{clash}
 use Rattle.units.specs.Range.{largest, missing, Width, Speed, Numbered, Identified}
 use Rattle.units.specs.Made.{within, feet, mph, checkpointNumber, segmentId, feetOf, mphOf, checkpointNumberOf, segmentIdOf}
 use Rattle.units.specs.declared.Feet.{Feet}
@@ -37,7 +38,7 @@ only-inside low n = go (leb low n) refl
   where
     go : (t : Bool) → leb low n ≡ t → pick t (leb n largest) false ≡ true → Between low largest n
     go true e h = record { low = leb-true low n e; high = leb-true n largest h }
-    go false e h = absurd (let z : _≡_ {A = Bool} false true = h in let y : _≡_ {A = ℕ} 0 1 = cc in omega arith)
+    go false e h = clash (sym h)
 
 -- an answer by such a test: if it is an accepted value, the test said yes and the value is the one that it stands for
 picked : {A K : Type 0} (is : K → A) (refused : A) (k v : K) → ((u : K) → refused ≡ is u → ⊥) → ((u w : K) → is u ≡ is w → u ≡ w) → (t : Bool) → pick t (is k) refused ≡ is v → (t ≡ true) × (v ≡ k)

@@ -10,14 +10,15 @@ use lib.ListN.{length, getD}
 use lib.Dec.{eqb}
 use Rattle.terms.specs.Ascii.{Bytes}
 use Rattle.terms.specs.Words.{pick, Among}
-use Rattle.word.specs.Number.{same, indexOf}
-use Rattle.word.proofs.Same.{same-true, same-eq}
-use Rattle.word.proofs.Table.{allBelow, below}
+use Rattle.terms.proofs.Computed.{allBelow, below}
+use Rattle.scan.specs.Reach.{sameBytes}
+use Rattle.scan.proofs.Equal.{same-equal, equal-same}
+use Rattle.word.specs.Number.{indexOf}
 
 pub index-most : (s : Bytes) (ws : List Bytes) → indexOf s ws ≤ length ws
 unfolding indexOf
 index-most s [] = omega arith
-index-most s (w ∷ ws) = go (same s w) (index-most s ws)
+index-most s (w ∷ ws) = go (sameBytes s w) (index-most s ws)
   where
     go : (x : Bool) → indexOf s ws ≤ length ws → pick x 0 (suc (indexOf s ws)) ≤ suc (length ws)
     go true ih = omega arith
@@ -27,28 +28,28 @@ index-most s (w ∷ ws) = go (same s w) (index-most s ws)
 pub index-word : (s : Bytes) (ws : List Bytes) → indexOf s ws < length ws → s ≡ getD ws (indexOf s ws) []
 unfolding indexOf
 index-word s [] h = absurd (omega arith)
-index-word s (w ∷ ws) h = go (same s w) refl h (index-word s ws)
+index-word s (w ∷ ws) h = go (sameBytes s w) refl h (index-word s ws)
   where
-    go : (x : Bool) → same s w ≡ x → pick x 0 (suc (indexOf s ws)) < suc (length ws) → (indexOf s ws < length ws → s ≡ getD ws (indexOf s ws) [])
+    go : (x : Bool) → sameBytes s w ≡ x → pick x 0 (suc (indexOf s ws)) < suc (length ws) → (indexOf s ws < length ws → s ≡ getD ws (indexOf s ws) [])
         → s ≡ getD (w ∷ ws) (pick x 0 (suc (indexOf s ws))) []
-    go true e h ih = same-true s w e
+    go true e h ih = same-equal s w e
     go false e h ih = ih (omega arith)
 
 -- so s is one of the words exactly where its number is below the list's length
 pub index-among : (s : Bytes) (ws : List Bytes) → indexOf s ws < length ws → Among s ws
 unfolding indexOf
 index-among s [] h = absurd (omega arith)
-index-among s (w ∷ ws) h = go (same s w) refl h (index-among s ws)
+index-among s (w ∷ ws) h = go (sameBytes s w) refl h (index-among s ws)
   where
-    go : (x : Bool) → same s w ≡ x → pick x 0 (suc (indexOf s ws)) < suc (length ws) → (indexOf s ws < length ws → Among s ws) → Among s (w ∷ ws)
-    go true e h ih = inl (same-true s w e)
+    go : (x : Bool) → sameBytes s w ≡ x → pick x 0 (suc (indexOf s ws)) < suc (length ws) → (indexOf s ws < length ws → Among s ws) → Among s (w ∷ ws)
+    go true e h ih = inl (same-equal s w e)
     go false e h ih = inr (ih (omega arith))
 
 pub among-index : (s : Bytes) (ws : List Bytes) → Among s ws → indexOf s ws < length ws
 unfolding indexOf
 among-index s [] m = absurd m
-among-index s (w ∷ ws) (inl e) = rw (same-eq s w e) (omega arith)
-among-index s (w ∷ ws) (inr m) = go (same s w) (among-index s ws m)
+among-index s (w ∷ ws) (inl e) = rw (equal-same s w e) (omega arith)
+among-index s (w ∷ ws) (inr m) = go (sameBytes s w) (among-index s ws m)
   where
     go : (x : Bool) → indexOf s ws < length ws → pick x 0 (suc (indexOf s ws)) < suc (length ws)
     go true ih = omega arith

@@ -1,20 +1,20 @@
 -- What callers cite of the keywords: each list's words differ, each can be a field, none begins with a digit. Assumes nothing.
 use mathlib.Core.Path.{_≡_, refl, ap, _∙_}
-use mathlib.Core.List.{[], _∷_}
-use mathlib.Core.Bool.{Bool, true, false, _&&_, not, and-eq-true-iff}
+use mathlib.Core.List.{[]}
+use mathlib.Core.Bool.{true, false, not}
 use Prim.Native.Nat.{ℕ, _<_}
 use native.Mathlib.Omega.{arith}
-use borrow.Author.Tests.{leb-true, eqb-false, not-true}
-use lib.Dec.{eqb, leb}
+use borrow.Author.Tests.{not-true}
 use lib.ListN.{length, getD}
 use Rattle.terms.specs.Ascii.{Bytes, ascii}
-use Rattle.terms.specs.Words.{Each}
-use Rattle.word.specs.Keywords.{rndf-keywords, mdf-keywords, boundary-words, FieldByte, ShortField}
-use Rattle.word.specs.Number.{same, indexOf, digit-first}
+use Rattle.terms.proofs.Computed.{below}
+use Rattle.scan.specs.Allowed.{fieldByte, all}
+use Rattle.scan.specs.Reach.{begins, sameBytes}
+use Rattle.word.specs.Keywords.{rndf-keywords, mdf-keywords, boundary-words, ShortField}
+use Rattle.word.specs.Number.{indexOf, digit-first}
 use Rattle.word.specs.Table.{words, wordAt}
 use Rattle.word.proofs.Index.{allDiffer, own-place, word-index, index-word}
 use Rattle.word.proofs.Rows.{row-word, found-size, rndf-in-row, mdf-in-row, boundary-in-row}
-use Rattle.word.proofs.Table.{below}
 
 pub rndf-length : length rndf-keywords ≡ 29
 unfolding rndf-keywords
@@ -30,15 +30,15 @@ boundary-length = refl
 
 -- no word stands twice in its list
 pub rndf-differ : allDiffer rndf-keywords ≡ true
-unfolding rndf-keywords ascii indexOf same
+unfolding rndf-keywords ascii indexOf sameBytes
 rndf-differ = refl
 
 pub mdf-differ : allDiffer mdf-keywords ≡ true
-unfolding mdf-keywords ascii indexOf same
+unfolding mdf-keywords ascii indexOf sameBytes
 mdf-differ = refl
 
 pub boundary-differ : allDiffer boundary-words ≡ true
-unfolding boundary-words ascii indexOf same
+unfolding boundary-words ascii indexOf sameBytes
 boundary-differ = refl
 
 -- a keyword's number is k exactly where the field is the k-th keyword
@@ -63,36 +63,12 @@ module _ (k : ℕ) (h : k < 11) where
   mdf-only s e = index-word s mdf-keywords (omega (arith, mdf-length)) ∙ ap (λ (j : ℕ). getD mdf-keywords j []) e
 
 -- every word of the table can be a field: one test, computed over all rows
-abbrev fieldByte : ℕ → Bool
-fieldByte b = leb 33 b && (leb b 126 && (not (eqb b 92) && not (eqb b 42)))
-
-abbrev fieldBytes : Bytes → Bool
-fieldBytes [] = true
-fieldBytes (b ∷ l) = fieldByte b && fieldBytes l
-
-field-byte : (b : ℕ) → fieldByte b ≡ true → FieldByte b
-field-byte b e =
-    let t = and-eq-true-iff (leb 33 b) _ .0 e in
-    let u = and-eq-true-iff (leb b 126) _ .0 (t .1) in
-    let v = and-eq-true-iff (not (eqb b 92)) (not (eqb b 42)) .0 (u .1) in
-    record {
-      range = record { low = leb-true 33 b (t .0); high = leb-true b 126 (u .0) };
-      no-backslash = eqb-false b 92 (not-true (eqb b 92) (v .0));
-      no-star = eqb-false b 42 (not-true (eqb b 42) (v .1));
-    }
-
-field-bytes : (l : Bytes) → fieldBytes l ≡ true → Each FieldByte l
-field-bytes [] e = tt
-field-bytes (b ∷ l) e =
-    let t = and-eq-true-iff (fieldByte b) (fieldBytes l) .0 e in
-    (field-byte b (t .0), field-bytes l (t .1))
-
-row-bytes : (k : ℕ) → k < 41 → fieldBytes (wordAt k) ≡ true
-unfolding words rndf-keywords mdf-keywords boundary-words ascii
-row-bytes k h = below (λ k. fieldBytes (wordAt k)) 41 refl k h
+row-allowed : (k : ℕ) → k < 41 → all fieldByte (wordAt k) ≡ true
+unfolding words rndf-keywords mdf-keywords boundary-words ascii all
+row-allowed k h = below (λ k. all fieldByte (wordAt k)) 41 refl k h
 
 row-no-digit : (k : ℕ) → k < 41 → digit-first (wordAt k) ≡ false
-unfolding words rndf-keywords mdf-keywords boundary-words ascii digit-first
+unfolding words rndf-keywords mdf-keywords boundary-words ascii begins
 row-no-digit k h = not-true _ (below (λ k. not (digit-first (wordAt k))) 41 refl k h)
 
 module _ (s : Bytes) (h : indexOf s words < 41) where
@@ -101,7 +77,7 @@ module _ (s : Bytes) (h : indexOf s words < 41) where
       record {
         some = omega (arith, found-size s h .low);
         short = found-size s h .high;
-        bytes = field-bytes s (ap fieldBytes (row-word s h) ∙ row-bytes (indexOf s words) h);
+        allowed = ap (all fieldByte) (row-word s h) ∙ row-allowed (indexOf s words) h;
       }
 
   word-no-digit : digit-first s ≡ false

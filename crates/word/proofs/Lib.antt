@@ -1,6 +1,5 @@
--- Laws of the words. `Index`, `Keywords`, `Boundary` and `Digit` are what callers cite; `Same`, `Table` and `Rows` are what those and the
--- functions' proofs rest on.
-pub mod Same
+-- Laws of the words. `Index`, `Keywords`, `Boundary` and `Digit` are what callers cite; `Table`, `Rows` and `Places` are what those and
+-- the functions' proofs rest on.
 pub mod Index
 pub mod Table
 pub mod Rows

@@ -5,11 +5,11 @@ use native.Mathlib.Nat.{mod-lt}
 use borrow.Author.Tests.{eqb-true, ltb-true}
 use lib.Dec.{eqb, ltb, lit<}
 use Rattle.terms.specs.Ascii.{Bytes, ascii}
+use Rattle.terms.proofs.Computed.{allBelow, below}
 use Rattle.word.specs.Keywords.{rndf-keywords, mdf-keywords, boundary-words}
 use Rattle.word.specs.Number.{indexOf}
 use Rattle.word.specs.Table.{words, wordAt, across, down, places, placeAt, OnlyRow}
 use Rattle.word.proofs.Rows.{row-word}
-use Rattle.word.proofs.Table.{allBelow, below}
 
 pub place-small : (x y : ℕ) → x < 16 → y < 16 → placeAt x y < 41
 unfolding places words rndf-keywords mdf-keywords boundary-words ascii

@@ -2,7 +2,7 @@
 use mathlib.Core.Path.{_≡_, refl, sym, ap, _∙_}
 use mathlib.Core.Logic.{_⊎_, inl, inr}
 use mathlib.Core.List.{List, []}
-use mathlib.Core.Bool.{true, false, _&&_, and-eq-true-iff}
+use mathlib.Core.Bool.{true, false, _&&_}
 use Prim.Native.Nat.{ℕ, _<_}
 use native.Mathlib.Omega.{arith}
 use native.Mathlib.Nat.{eq-or-lt-of-le}
@@ -11,12 +11,14 @@ use lib.Dec.{ltb, leb, lit<}
 use lib.ListN.{length, getD}
 use Rattle.terms.specs.Ascii.{Bytes, ascii}
 use Rattle.terms.specs.Words.{Between}
+use Rattle.terms.proofs.Tests.{clash, both}
+use Rattle.terms.proofs.Computed.{allBelow, below}
+use Rattle.scan.specs.Reach.{sameBytes}
+use Rattle.scan.proofs.Equal.{same-equal, equal-same}
 use Rattle.word.specs.Keywords.{rndf-keywords, mdf-keywords, boundary-words}
-use Rattle.word.specs.Number.{same, indexOf, fromOne}
+use Rattle.word.specs.Number.{indexOf, fromOne}
 use Rattle.word.specs.Table.{words, wordAt, facts, OnlyRow}
-use Rattle.word.proofs.Same.{same-true, same-eq}
 use Rattle.word.proofs.Index.{index-most, index-word, allDiffer, own-place}
-use Rattle.word.proofs.Table.{allBelow, below}
 
 pub words-length : length words ≡ 41
 unfolding words rndf-keywords mdf-keywords boundary-words
@@ -26,7 +28,7 @@ pub row-below : (s : Bytes) → indexOf s words < 42
 row-below s = omega (arith, words-length, index-most s words)
 
 pub words-differ : allDiffer words ≡ true
-unfolding words rndf-keywords mdf-keywords boundary-words ascii indexOf same
+unfolding words rndf-keywords mdf-keywords boundary-words ascii indexOf sameBytes
 words-differ = refl
 
 -- the word of a row is found there
@@ -41,7 +43,7 @@ row-word s h = index-word s words (omega (arith, words-length))
 pub row-size : (k : ℕ) → k < 41 → Between 4 20 (length (wordAt k))
 unfolding words rndf-keywords mdf-keywords boundary-words ascii
 row-size k h =
-    let t = and-eq-true-iff (leb 4 (length (wordAt k))) (leb (length (wordAt k)) 20) .0
+    let t = both (leb 4 (length (wordAt k))) (leb (length (wordAt k)) 20)
     (below (λ k. leb 4 (length (wordAt k)) && leb (length (wordAt k)) 20) 41 refl k h) in
     record { low = leb-true _ _ (t .0); high = leb-true _ _ (t .1) }
 
@@ -54,10 +56,10 @@ size-row s n = record { in-table = lit< tt; only = λ h. absurd (n (found-size s
 
 -- with the only row at hand, one comparison decides
 module _ (s : Bytes) (k : ℕ) (o : OnlyRow s k) where
-  pub row-here : same s (wordAt k) ≡ true → k ≡ indexOf s words
-  row-here e = sym (row-own k (o .in-table)) ∙ ap (λ (w : Bytes). indexOf w words) (sym (same-true s (wordAt k) e))
+  pub row-here : sameBytes s (wordAt k) ≡ true → k ≡ indexOf s words
+  row-here e = sym (row-own k (o .in-table)) ∙ ap (λ (w : Bytes). indexOf w words) (sym (same-equal s (wordAt k) e))
 
-  pub row-nowhere : same s (wordAt k) ≡ false → 41 ≡ indexOf s words
+  pub row-nowhere : sameBytes s (wordAt k) ≡ false → 41 ≡ indexOf s words
   row-nowhere e = go (eq-or-lt-of-le (index-most s words))
     where
       go : (indexOf s words ≡ length words) ⊎ (indexOf s words < length words) → 41 ≡ indexOf s words
@@ -65,8 +67,7 @@ module _ (s : Bytes) (k : ℕ) (o : OnlyRow s k) where
       go (inr q) =
           let h : indexOf s words < 41 = omega (arith, words-length) in
           let w : s ≡ wordAt k = row-word s h ∙ ap wordAt (sym (o .only h)) in
-          let t : same s (wordAt k) ≡ true = same-eq s (wordAt k) w in
-          absurd (let z : _≡_ {A = ℕ} 0 1 = cc in omega arith)
+          clash (sym (equal-same s (wordAt k) w) ∙ e)
 
 pub row-behind : wordAt 41 ≡ []
 unfolding words rndf-keywords mdf-keywords boundary-words
@@ -102,25 +103,25 @@ module _ (ws : List Bytes) (in-table : allBelow (λ j. ltb (indexOf (getD ws j [
 -- what is known of the row that the field is in is so of the field, in each of the three lists
 module _ (s : Bytes) where
   pub rndf-number : getD (facts (indexOf s words)) 1 0 ≡ indexOf s rndf-keywords
-  unfolding words rndf-keywords mdf-keywords boundary-words ascii indexOf same
+  unfolding words rndf-keywords mdf-keywords boundary-words ascii indexOf sameBytes
   rndf-number = number-by-row rndf-keywords refl refl s
 
   pub mdf-number : getD (facts (indexOf s words)) 2 0 ≡ indexOf s mdf-keywords
-  unfolding words rndf-keywords mdf-keywords boundary-words ascii indexOf same
+  unfolding words rndf-keywords mdf-keywords boundary-words ascii indexOf sameBytes
   mdf-number = number-by-row mdf-keywords refl refl s
 
   pub boundary-number-at : getD (facts (indexOf s words)) 3 0 ≡ fromOne (indexOf s boundary-words)
-  unfolding words rndf-keywords mdf-keywords boundary-words ascii indexOf same
+  unfolding words rndf-keywords mdf-keywords boundary-words ascii indexOf sameBytes
   boundary-number-at = ap fromOne (number-by-row boundary-words refl refl s)
 
   pub rndf-in-row : indexOf s rndf-keywords < length rndf-keywords → indexOf s words < 41
-  unfolding words rndf-keywords mdf-keywords boundary-words ascii indexOf same
+  unfolding words rndf-keywords mdf-keywords boundary-words ascii indexOf sameBytes
   rndf-in-row = in-row rndf-keywords refl refl s
 
   pub mdf-in-row : indexOf s mdf-keywords < length mdf-keywords → indexOf s words < 41
-  unfolding words rndf-keywords mdf-keywords boundary-words ascii indexOf same
+  unfolding words rndf-keywords mdf-keywords boundary-words ascii indexOf sameBytes
   mdf-in-row = in-row mdf-keywords refl refl s
 
   pub boundary-in-row : indexOf s boundary-words < length boundary-words → indexOf s words < 41
-  unfolding words rndf-keywords mdf-keywords boundary-words ascii indexOf same
+  unfolding words rndf-keywords mdf-keywords boundary-words ascii indexOf sameBytes
   boundary-in-row = in-row boundary-words refl refl s

@@ -2,11 +2,13 @@
 -- with a digit. Assumes nothing.
 use mathlib.Core.Path.{_≡_}
 use mathlib.Core.List.{List, [], _∷_}
+use mathlib.Core.Bool.{true}
 use Prim.Native.Nat.{ℕ, _≤_, _<_}
 use Prim.Native.Char.{code}
 use lib.ListN.{length, getD}
 use Rattle.terms.specs.Ascii.{Bytes, ascii}
-use Rattle.terms.specs.Words.{Between, Each}
+use Rattle.terms.specs.Words.{Between}
+use Rattle.scan.specs.Allowed.{fieldByte, all}
 
 -- 01, "The order of an RNDF", and: "Any other first field is a keyword of that file, byte for byte, or the line gets 5". The words that an
 -- RNDF's statements begin with. A keyword's number is its place here, from 0.
@@ -49,14 +51,8 @@ BeginsWithDigit [] = ⊥
 BeginsWithDigit (b ∷ rest) = Between (code "0") (code "9") b
 
 -- 01: "Outside comments the bytes are 33 to 126 and tab, but no backslash and no `*`", and "Fields are separated by one or more tabs":
--- a byte that can stand in a field
-pub record FieldByte (b : ℕ) : Type 0 where
-  pub range : Between 33 126 b
-  pub no-backslash : b ≡ code "\\" → ⊥
-  pub no-star : b ≡ code "*" → ⊥
-
--- the word can be a field: it has a byte, and each of its bytes can stand in a field; and it is short
+-- the word can be a field, for it has a byte, and each of its bytes can stand in a field; and it is short
 pub record ShortField (w : Bytes) : Type 0 where
   pub some : 0 < length w
   pub short : length w ≤ 20
-  pub bytes : Each FieldByte w
+  pub allowed : all fieldByte w ≡ true

@@ -1,12 +1,13 @@
 // Keywords: which keyword of an RNDF, which of an MDF, which boundary word a field is, and whether a field begins with a digit.
 // All words stand in one table, a word to a row, each once though both files may have it. A field's length and three of its bytes leave one
 // row that it can be; one comparison with that row decides. So the cost of a field does not grow with the number of words.
-// The contracts speak of the lists of words alone, not of the table. Rests on `terms`.
+// The contracts speak of the lists of words alone, not of the table. Rests on `scan` and `terms`.
 ghost use mathlib.Core.Path.{_≡_};
 ghost use Prim.Native.Nat.{_<_, _≤_};
 ghost use lib.ListN.{getD};
 ghost use Rattle.word.specs.Keywords.{rndf-keywords, mdf-keywords};
-ghost use Rattle.word.specs.Number.{same, indexOf, boundary-number, digit-first};
+ghost use Rattle.scan.specs.Reach.{sameBytes};
+ghost use Rattle.word.specs.Number.{indexOf, boundary-number, digit-first};
 ghost use Rattle.word.specs.Table.{words, wordAt, facts, foldedOf, placeAt, OnlyRow};
 
 // The words, 20 bytes to a row, zeros behind each: the keywords of an RNDF, then those that only an MDF has, then the boundary words.
@@ -153,7 +154,7 @@ fn place(x: usize, y: usize) -> u8
 // The field is the word of this row.
 fn is_row(s: &[u8], row: usize) -> bool
     requires { ⌜ row < 41 ⌝ }
-    ensures { λ r. ⌜ r ≡ same (now (s .entry)) (wordAt row) ⌝ }
+    ensures { λ r. ⌜ r ≡ sameBytes (now (s .entry)) (wordAt row) ⌝ }
 {
     let n = fact(row, SIZE) as usize;
     if s.len() == n {
@@ -230,6 +231,5 @@ pub fn begins_with_digit(s: &[u8]) -> bool
     if s.len() == 0 {
         return false;
     }
-    let b = s[0];
-    if b < b'0' { false } else { b <= b'9' }
+    scan::is_digit(s[0])
 }

@@ -4,22 +4,22 @@ use Rattle.read_rows.proofs.lane_at.Statement.{statement}
 use Rattle.read_rows.proofs.lane_at.Tie as tie
 
 row-words-requires : tie.Need-row-words-requires
-row-words-requires c κs = search needs
+row-words-requires c κs = tt
 
 word-requires : tie.Need-word-requires
-word-requires c κs = search needs
+word-requires c κs = tt
 
 word-requires-2 : tie.Need-word-requires-2
-word-requires-2 c κs = search needs
+word-requires-2 c κs = tt
 
 short-requires : tie.Need-short-requires
-short-requires c κs = search needs
+short-requires c κs = tt
 
 byte-requires : tie.Need-byte-requires
-byte-requires c κs = search needs
+byte-requires c κs = tt
 
 byte-requires-2 : tie.Need-byte-requires-2
-byte-requires-2 c κs = search needs
+byte-requires-2 c κs = tt
 
 returns : tie.Need-returns
 returns c = cc

@@ -4,16 +4,16 @@ use Rattle.read_rows.proofs.limit_at.Statement.{statement}
 use Rattle.read_rows.proofs.limit_at.Tie as tie
 
 row-words-requires : tie.Need-row-words-requires
-row-words-requires c κs = search needs
+row-words-requires c κs = tt
 
 short-requires : tie.Need-short-requires
-short-requires c κs = search needs
+short-requires c κs = tt
 
 short-requires-2 : tie.Need-short-requires-2
-short-requires-2 c κs = search needs
+short-requires-2 c κs = tt
 
 short-requires-3 : tie.Need-short-requires-3
-short-requires-3 c κs = search needs
+short-requires-3 c κs = tt
 
 returns : tie.Need-returns
 returns c = cc

@@ -15,7 +15,7 @@ use Rattle.read_rows.proofs.point_at.Statement.{statement}
 use Rattle.read_rows.proofs.point_at.Tie as tie
 
 rows-of-requires : tie.Need-rows-of-requires
-rows-of-requires c κs = search needs
+rows-of-requires c κs = tt
 
 mul-at : tie.Need-mul-at
 mul-at c = search needs

@@ -1,6 +1,6 @@
 -- `read_rows::row_words` meets its contract. Assumes nothing.
-use mathlib.Core.Path.{sym}
-use Prim.Native.Nat.{_<_}
+use mathlib.Core.Path.{_≡_, sym}
+use Prim.Native.Nat.{ℕ, _+_, _*_, _≤_, _<_}
 use native.Mathlib.Nat.{add-sub-cancel-left}
 use native.Mathlib.Omega.{arith}
 use lib.ListN.{length}
@@ -10,28 +10,29 @@ use Rattle.rows.proofs.Lay.{row-fits, row-inside, row-outside}
 use Rattle.read_rows.proofs.row_words.Statement.{statement}
 use Rattle.read_rows.proofs.row_words.Tie as tie
 
+-- a row that the test lets through lies inside
+fits : (len stride row : ℕ) {n : ℕ} → n ≡ rowsOf len stride → row < n → row * stride + stride ≤ len
+fits len stride row e h = row-fits len stride row (rw e at h)
+
 rows-of-requires : tie.Need-rows-of-requires
-rows-of-requires c κs = search needs
+rows-of-requires c κs = tt
 
 mul-at : tie.Need-mul-at
 mul-at c =
     let a = c .before .before .before .args in
-    let h : a .row < rowsOf (length (a .t .now)) (a .stride) = rw (c .before .rows-of .ensures) at (c .if1 .taken) in
-    let f = row-fits (length (a .t .now)) (a .stride) (a .row) h in
+    let f = fits (length (a .t .now)) (a .stride) (a .row) (c .before .rows-of .ensures) (c .if1 .taken) in
     omega arith
 
 add-behind : tie.Need-add-behind
 add-behind c =
     let a = c .before .before .before .args in
-    let h : a .row < rowsOf (length (a .t .now)) (a .stride) = rw (c .before .rows-of .ensures) at (c .if1 .taken) in
-    let f = row-fits (length (a .t .now)) (a .stride) (a .row) h in
+    let f = fits (length (a .t .now)) (a .stride) (a .row) (c .before .rows-of .ensures) (c .if1 .taken) in
     omega arith
 
 mul-result : tie.Need-mul-result
 mul-result c =
     let a = c .before .before .before .args in
-    let h : a .row < rowsOf (length (a .t .now)) (a .stride) = rw (c .before .rows-of .ensures) at (c .if1 .taken) in
-    let f = row-fits (length (a .t .now)) (a .stride) (a .row) h in
+    let f = fits (length (a .t .now)) (a .stride) (a .row) (c .before .rows-of .ensures) (c .if1 .taken) in
     omega arith
 
 sub-result : tie.Need-sub-result
@@ -43,8 +44,7 @@ part-result-start c = search needs
 part-result-end : tie.Need-part-result-end
 part-result-end c =
     let a = c .before .before .before .args in
-    let h : a .row < rowsOf (length (a .t .now)) (a .stride) = rw (c .before .rows-of .ensures) at (c .if1 .taken) in
-    let f = row-fits (length (a .t .now)) (a .stride) (a .row) h in
+    let f = fits (length (a .t .now)) (a .stride) (a .row) (c .before .rows-of .ensures) (c .if1 .taken) in
     omega arith
 
 slice-aggregate-result : tie.Need-slice-aggregate-result

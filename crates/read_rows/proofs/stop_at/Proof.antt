@@ -4,10 +4,10 @@ use Rattle.read_rows.proofs.stop_at.Statement.{statement}
 use Rattle.read_rows.proofs.stop_at.Tie as tie
 
 row-words-requires : tie.Need-row-words-requires
-row-words-requires c κs = search needs
+row-words-requires c κs = tt
 
 word-requires : tie.Need-word-requires
-word-requires c κs = search needs
+word-requires c κs = tt
 
 returns : tie.Need-returns
 returns c = cc

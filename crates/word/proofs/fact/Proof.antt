@@ -5,10 +5,11 @@ use Prim.Native.Nat.{ℕ}
 use borrow.Author.Needs.{needs}
 use lib.ListN.{getD}
 use Rattle.terms.specs.Ascii.{ascii}
+use Rattle.terms.proofs.Computed.{tab-at}
+use Rattle.scan.specs.Reach.{sameBytes}
 use Rattle.word.specs.Keywords.{rndf-keywords, mdf-keywords, boundary-words}
-use Rattle.word.specs.Number.{same, indexOf}
+use Rattle.word.specs.Number.{indexOf}
 use Rattle.word.specs.Table.{words, facts}
-use Rattle.word.proofs.Table.{tab-at}
 use Rattle.word.proofs.fact.Statement.{statement}
 use Rattle.word.proofs.fact.Tie as tie
 
@@ -22,7 +23,7 @@ index-2-result : tie.Need-index-2-result
 index-2-result c = search needs
 
 returns : tie.Need-returns
-unfolding words rndf-keywords mdf-keywords boundary-words ascii indexOf same
+unfolding words rndf-keywords mdf-keywords boundary-words ascii indexOf sameBytes
 returns c = ap (λ (l : List ℕ). getD l (c .before .args .column) 0) (tab-at facts [] 42 (c .before .args .row) (search needs))
 
 pub fact-spec : {M : Type 1} → statement M

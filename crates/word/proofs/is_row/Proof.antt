@@ -4,15 +4,15 @@ use Prim.Native.Nat.{_≤_, _-_}
 use native.Mathlib.Omega.{arith}
 use borrow.Author.Needs.{needs}
 use lib.ListN.{length, drop}
-use Rattle.word.specs.Number.{same}
+use Rattle.scan.specs.Reach.{sameBytes}
+use Rattle.scan.proofs.Equal.{lengths-differ, same-go, same-stop, same-end}
 use Rattle.word.specs.Table.{wordAt}
-use Rattle.word.proofs.Same.{same-go, same-stop, same-end, other-length}
 use Rattle.word.proofs.Rows.{row-size}
 use Rattle.word.proofs.is_row.Statement.{statement}
 use Rattle.word.proofs.is_row.Tie as tie
 
 abbrev Inv-loop : tie.InvT-loop
-Inv-loop s k n i₀ i = (i ≤ length s) × (same (drop i s) (drop i (wordAt k)) ≡ same s (wordAt k))
+Inv-loop s k n i₀ i = (i ≤ length s) × (sameBytes (drop i s) (drop i (wordAt k)) ≡ sameBytes s (wordAt k))
 
 abbrev μ-loop : tie.MeasureT-loop
 μ-loop s k n i₀ i = length s - i
@@ -62,7 +62,7 @@ returns-2 c =
 returns-3 : tie.Need-returns-3 Inv-loop μ-loop
 returns-3 c =
     let g = c .before .before .before .args in
-    sym (other-length (g .s .now) (wordAt (g .row)) (λ e. c .if1 .left (e ∙ sym (c .before .fact .ensures))))
+    sym (lengths-differ (g .s .now) (wordAt (g .row)) (λ e. c .if1 .left (e ∙ sym (c .before .fact .ensures))))
 
 pub is-row-spec : {M : Type 1} → statement M
 is-row-spec =
