@@ -1,0 +1,9 @@
+pub mod Filling
+pub mod NetworkRows
+pub mod Counts
+pub mod Tally
+pub mod Resolve
+pub mod Faults
+pub mod FirstFaults
+pub mod MissionRows
+pub mod FirstLines
