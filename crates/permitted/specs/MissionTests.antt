@@ -1,0 +1,12 @@
+-- Executable: which values a speed limit may have, as the grammar decides it. Assumes nothing.
+use Prim.Native.Nat.{ℕ}
+use mathlib.Core.Bool.{Bool}
+use Rattle.grammar.specs.Forms.{yes?, tested}
+use Rattle.grammar.specs.MissionPlaces.{not-above?, limited}
+
+-- 01: "A speed limit's minimum is not above its maximum"
+unfoldable pub isNotAbove : (minimum maximum : ℕ) → Bool
+isNotAbove minimum maximum = yes? (not-above? minimum maximum)
+
+unfoldable pub isLimit : (id minimum maximum : ℕ) → Bool
+isLimit id minimum maximum = tested limited (record { id = id; minimum = minimum; maximum = maximum })

@@ -1,0 +1,65 @@
+-- `place::Open::exits` meets its contract. Assumes nothing.
+use borrow.Author.Needs.{needs}
+use Rattle.place.proofs.Open.exits.Statement.{statement}
+use Rattle.place.proofs.Open.exits.Tie as tie
+
+enum-told : tie.Need-enum-told
+enum-told c = search needs
+
+enum-told-2 : tie.Need-enum-told-2
+enum-told-2 c = search needs
+
+enum-known-self : tie.Need-enum-known-self
+enum-known-self c = search needs
+
+own-exit-requires : tie.Need-own-exit-requires
+own-exit-requires c κs = search needs
+
+enum-told-3 : tie.Need-enum-told-3
+enum-told-3 c = search needs
+
+enum-known-self-2 : tie.Need-enum-known-self-2
+enum-known-self-2 c = search needs
+
+perimeter-exit-requires : tie.Need-perimeter-exit-requires
+perimeter-exit-requires c κs = search needs
+
+enum-told-4 : tie.Need-enum-told-4
+enum-told-4 c = search needs
+
+returns : tie.Need-returns
+returns c = search needs
+
+returns-2 : tie.Need-returns-2
+returns-2 c = search needs
+
+returns-3 : tie.Need-returns-3
+returns-3 c = rw (c .before .before .self .given .1) (c .own-exit .ensures)
+
+returns-4 : tie.Need-returns-4
+returns-4 c = search needs
+
+returns-5 : tie.Need-returns-5
+returns-5 c = rw (c .before .before .self2 .given .1) (c .perimeter-exit .ensures)
+
+returns-6 : tie.Need-returns-6
+returns-6 c = search needs
+
+pub exits-spec : {M : Type 1} → statement M
+exits-spec =
+    tie.close
+    (tie.spec
+    enum-told
+    enum-told-2
+    enum-known-self
+    own-exit-requires
+    enum-told-3
+    enum-known-self-2
+    perimeter-exit-requires
+    enum-told-4
+    returns
+    returns-2
+    returns-3
+    returns-4
+    returns-5
+    returns-6)

@@ -1,0 +1,3 @@
+-- The laws of statements and orders.
+pub mod Laws
+pub mod MissionLaws
