@@ -1,0 +1,67 @@
+-- Executable: what a line gets at a place, in document 01's order of faults, over a program's own statements and places. For every file. Assumes nothing.
+use mathlib.Core.Option.{Option, none, some}
+use Prim.Native.Nat.{ℕ}
+use lib.ListN.{take}
+use lib.Dec.{eqb, ltb}
+use Rattle.terms.specs.Ascii.{Bytes}
+use Rattle.terms.specs.Words.{pick}
+use Rattle.line.specs.Lines.{trimOf}
+use Rattle.line.specs.Forms.{formOf, fieldsIn, part}
+use Rattle.line.specs.declared.Form as Form
+use Rattle.line.specs.declared.Form.the-variants.{Bad, Body}
+use Rattle.line.specs.declared.Fields.{Fields}
+
+-- a refusal's number; nothing is said; a statement and the next place
+pub data Got (St Pl : Type 0) : Type 0 where
+  bad : ℕ → Got St Pl
+  blank : Got St Pl
+  said : St → Pl → Got St Pl
+
+-- A program for a file: its statements and places; the kind of a line with a given first field, as a row; how many kinds there are; 5, 6 or 0 by the kind alone;
+-- how many fields the line of a kind has; the statement that fields make (from where their text stands); the place behind a statement.
+pub record Judging : Type 1 where
+  pub St : Type 0
+  pub Pl : Type 0
+  pub kinds : ℕ
+  pub kindOf : Pl → Bytes → ℕ
+  pub refuses : Pl → ℕ → ℕ
+  pub needs : ℕ → ℕ
+  pub made : Bytes → ℕ → Fields → ℕ → Option St
+  pub steps : Pl → St → Option Pl
+
+module _ (J : Judging) where
+  open Judging J using (St, Pl, kinds, kindOf, refuses, needs, made, steps)
+
+  -- 01: 9 "a value or identifier that is not permitted"
+  abbrev pub taken : St → Option Pl → Got St Pl
+  taken s (some q) = said s q
+  taken s none = bad 9
+
+  -- 01: 8 "a field that is not of its kind"
+  abbrev pub valued : Pl → Option St → Got St Pl
+  valued p (some s) = taken s (steps p s)
+  valued p none = bad 8
+
+  -- 01: 5 and 6 by the kind alone, then 7 "wrong number of fields"
+  unfoldable pub ofKind : Bytes → ℕ → Fields → Pl → ℕ → Got St Pl
+  ofKind s base f p k = pick (eqb (refuses p k) 0) (pick (eqb (f .count) (needs k)) (valued p (made s base f k)) (bad 7)) (bad (refuses p k))
+
+  -- 01: 5 also for a word that is no keyword of the file
+  unfoldable pub known : Bytes → ℕ → Fields → Pl → ℕ → Got St Pl
+  known s base f p k = pick (ltb k kinds) (ofKind s base f p k) (bad 5)
+
+  -- what stands before a comment
+  unfoldable pub told : Bytes → ℕ → Pl → Got St Pl
+  told s base p = pick (eqb (fieldsIn s .count) 0) blank (known s base (fieldsIn s) p (kindOf p (part s (fieldsIn s .a))))
+
+  -- 01: 2, 3 and 4 by the line's form
+  abbrev pub formed : Bytes → ℕ → Pl → Form.Form → Got St Pl
+  formed s base p (Bad n) = bad n
+  formed s base p (Body e) = told (take e s) base p
+
+  unfoldable pub content : Bytes → ℕ → Pl → Got St Pl
+  content s base p = formed s base p (formOf s)
+
+  -- a line that starts at `base` in the text
+  unfoldable pub line : Bytes → ℕ → Pl → Got St Pl
+  line s base p = content (take (trimOf s) s) base p

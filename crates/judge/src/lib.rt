@@ -1,0 +1,120 @@
+// One line at a place: blank, a statement with the next place, or one number of document 01, 2 to 9.
+// The faults are told in document 01's order: 2, 3, 4 by the line's form; 5 and 6 by the kind alone; 7 by the count of fields; 8 over every field; 9 last.
+//
+// specs/Judging: the same, executable, for every file. proofs/: it is what `text` says of the line (RndfTies).
+//
+// Rests on `line`, `word`, `made_out`, `place`, `statement` and what they rest on.
+use line::Fields;
+use line::Form;
+use line::fields_of;
+use line::form_of;
+use line::trimmed;
+use made_out::Made;
+use made_out::fields_needed;
+use made_out::made_out;
+use place::Outcome;
+use place::Place;
+use statement::Statement;
+use word::begins_with_digit;
+use word::rndf_keyword;
+ghost use mathlib.Core.Path.{_≡_};
+ghost use Prim.Native.Nat.{_≤_, _<_, _+_};
+ghost use lib.ListN.{length};
+ghost use Rattle.line.specs.Forms.{FieldsWithin};
+ghost use Rattle.made_out.specs.Made.{made-from};
+ghost use Rattle.judge.specs.Judging.{taken, valued, ofKind, known, told, content};
+ghost use Rattle.judge.specs.RndfLine.{rndfKind, next-from, rndf-judging, verdict, lineOf};
+
+// What a line of an RNDF gets.
+pub enum Verdict {
+    Blank,
+    Said(Statement, Place),
+    Bad(u8),
+}
+
+// The kind of a line by its first field: its row; 30 for a word that is no keyword.
+fn kind_of(s: &[u8]) -> u8
+    ensures { λ r. ⌜ r ≡ rndfKind (now (s .entry)) ⌝ }
+{
+    if begins_with_digit(s) {
+        return 29;
+    }
+    let i = rndf_keyword(s);
+    if i < 29 { i } else { 30 }
+}
+
+// 9, or the next place.
+fn taken_told(s: Statement, o: Outcome) -> Verdict
+    ensures { λ r. ⌜ r ≡ verdict (taken rndf-judging s (next-from o)) ⌝ }
+{
+    match o {
+        Outcome::Next(q) => Verdict::Said(s, q),
+        Outcome::Refused(_) => Verdict::Bad(9),
+    }
+}
+
+// 8, or what comes of the statement.
+fn values_told(p: Place, m: Made) -> Verdict
+    ensures { λ r. ⌜ r ≡ verdict (valued rndf-judging p (made-from m)) ⌝ }
+{
+    let Made::Is(s) = m else {
+        return Verdict::Bad(8);
+    };
+    taken_told(s, p.step(s))
+}
+
+// 5 or 6 by the kind alone, then 7.
+fn kind_told(s: &[u8], base: usize, f: Fields, p: Place, kind: u8) -> Verdict
+    requires { ⌜ FieldsWithin (now s) f × (base + length (now s) < 4294967296) × (kind < 30) ⌝ }
+    ensures { λ r. ⌜ r ≡ verdict (ofKind rndf-judging (now (s .entry)) base f p kind) ⌝ }
+{
+    let c = p.refuses(kind);
+    if c != 0 {
+        return Verdict::Bad(c);
+    }
+    if f.count == fields_needed(kind) {
+        values_told(p, made_out(s, base, f, kind))
+    } else {
+        Verdict::Bad(7)
+    }
+}
+
+// The fields, cut once: blank, or a line of its kind.
+fn fields_told(s: &[u8], base: usize, p: Place) -> Verdict
+    requires { ⌜ base + length (now s) < 4294967296 ⌝ }
+    ensures { λ r. ⌜ r ≡ verdict (told rndf-judging (now (s .entry)) base p) ⌝ }
+{
+    let f = fields_of(s);
+    if f.count == 0 {
+        return Verdict::Blank;
+    }
+    let first = f.a;
+    let a = first.start;
+    let e = first.stop;
+    let kind = kind_of(&s[a..e]);
+    if kind < 30 {
+        kind_told(s, base, f, p, kind)
+    } else {
+        Verdict::Bad(5)
+    }
+}
+
+// 2, 3, 4, or the fields before a comment.
+fn content_told(s: &[u8], base: usize, p: Place) -> Verdict
+    requires { ⌜ base + length (now s) < 4294967296 ⌝ }
+    ensures { λ r. ⌜ r ≡ verdict (content rndf-judging (now (s .entry)) base p) ⌝ }
+{
+    match form_of(s) {
+        Form::Bad(n) => Verdict::Bad(n),
+        Form::Body(e) => fields_told(&s[..e], base, p),
+    }
+}
+
+// A line, without its LF, that starts at `base` in the text.
+pub fn judge_line(s: &[u8], base: usize, p: Place) -> Verdict
+    requires { ⌜ base + length (now s) < 4294967296 ⌝ }
+    ensures { λ r. ⌜ r ≡ lineOf (now (s .entry)) base p ⌝ }
+{
+    let e = trimmed(s);
+    content_told(&s[..e], base, p)
+}

@@ -1,0 +1,3 @@
+-- What is made of fields is what they say.
+pub mod Ties
+pub mod MissionTies

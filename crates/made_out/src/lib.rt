@@ -1,0 +1,462 @@
+// The fields behind a keyword, made out as one statement of its kind; or a field is not of its kind (refusal 8).
+// A kind is its row in the table of places by statements. The fields are stretches of the line, which starts at `base` in the text.
+//
+// specs/Made: what is made of the fields, by the shape of the kind. proofs/Ties: it is what `text` reads of the same fields.
+//
+// Rests on `statement`, `line`, `number`, `coordinate`, `word`, `text`, `grammar`, `scan` and `terms`.
+use coordinate::Degrees;
+use coordinate::coordinate_of;
+use line::Fields;
+use line::Span;
+use number::Number;
+use number::Pair;
+use number::Triple;
+use number::integer_of;
+use number::is_name_length;
+use number::pair_of;
+use number::triple_of;
+use statement::Id;
+use statement::Order;
+use statement::Statement;
+use word::boundary_word;
+ghost use mathlib.Core.Path.{_≡_};
+ghost use Prim.Native.Nat.{_≤_, _<_, _+_};
+ghost use lib.ListN.{length, getD};
+ghost use Rattle.line.specs.Forms.{part, SpanWithin, FieldsWithin};
+ghost use Rattle.number.specs.Executable.{integerOf, pairOf, tripleOf};
+ghost use Rattle.coordinate.specs.Executable.{coordinateOf};
+ghost use Rattle.word.specs.Number.{boundary-number};
+ghost use Rattle.made_out.specs.Made.{shapes, needs-of, bareOf, namedOf, numberedOf, pairedOf, sidedOf, nameMade, numberMade, pairMade, sideMade, checkpointMade, stopMade, exitMade, pointMade, madeOf};
+ghost use Rattle.made_out.specs.MadeOrders.{order-shapes, order-needs, bareOrder, namedOrder, numberedOrder, nameOrdered, numberOrdered, limitOrdered, orderMadeOf};
+
+// What the fields are, as one statement.
+pub enum Made {
+    Is(Statement),
+    No,
+}
+
+// What stands behind the keyword of each kind, in the order of kinds: 0 nothing, 1 a name, 2 an integer, 3 an identifier m.n, 4 a boundary,
+// 5 an identifier x.y.z and an integer, 6 an identifier x.y.z, 7 two of them; 8: no keyword, an identifier x.y.z and two coordinates.
+const SHAPE: [u8; 30] = [
+    1,
+    2,
+    2,
+    1,
+    1,
+    2,
+    2,
+    1,
+    0,
+    3,
+    2,
+    2,
+    4,
+    4,
+    5,
+    6,
+    7,
+    0,
+    2,
+    2,
+    1,
+    0,
+    3,
+    2,
+    0,
+    3,
+    2,
+    0,
+    0,
+    8,
+];
+
+fn shape_of(kind: usize) -> u8
+    requires { ⌜ kind < 30 ⌝ }
+    ensures { λ r. ⌜ r ≡ getD shapes kind 0 ⌝ }
+{
+    SHAPE[kind]
+}
+
+fn bare(kind: u8) -> Statement
+    ensures { λ r. ⌜ r ≡ bareOf kind ⌝ }
+{
+    match kind {
+        8 => Statement::EndSegment,
+        17 => Statement::EndLane,
+        21 => Statement::EndZone,
+        24 => Statement::EndPerimeter,
+        27 => Statement::EndSpot,
+        _ => Statement::EndFile,
+    }
+}
+
+fn named(kind: u8, start: u32, length: u32) -> Statement
+    ensures { λ r. ⌜ r ≡ namedOf kind start length ⌝ }
+{
+    match kind {
+        0 => Statement::RndfName(start, length),
+        3 => Statement::FormatVersion(start, length),
+        4 => Statement::CreationDate(start, length),
+        7 => Statement::SegmentName(start, length),
+        _ => Statement::ZoneName(start, length),
+    }
+}
+
+fn numbered(kind: u8, n: u32) -> Statement
+    ensures { λ r. ⌜ r ≡ numberedOf kind n ⌝ }
+{
+    match kind {
+        1 => Statement::NumSegments(n),
+        2 => Statement::NumZones(n),
+        5 => Statement::Segment(n),
+        6 => Statement::NumLanes(n),
+        10 => Statement::NumWaypoints(n),
+        11 => Statement::LaneWidth(n),
+        18 => Statement::Zone(n),
+        19 => Statement::NumSpots(n),
+        23 => Statement::NumPerimeterpoints(n),
+        _ => Statement::SpotWidth(n),
+    }
+}
+
+fn paired(kind: u8, m: u32, n: u32) -> Statement
+    ensures { λ r. ⌜ r ≡ pairedOf kind m n ⌝ }
+{
+    match kind {
+        9 => Statement::Lane(m, n),
+        22 => Statement::Perimeter(m, n),
+        _ => Statement::Spot(m, n),
+    }
+}
+
+fn sided(kind: u8, b: u8) -> Statement
+    ensures { λ r. ⌜ r ≡ sidedOf kind b ⌝ }
+{
+    if kind == 12 {
+        Statement::LeftBoundary(b)
+    } else {
+        Statement::RightBoundary(b)
+    }
+}
+
+// A field's value, by its stretch of the line.
+fn integer_in(s: &[u8], f: Span) -> Number
+    requires { ⌜ SpanWithin (now s) f ⌝ }
+    ensures { λ r. ⌜ r ≡ integerOf (part (now (s .entry)) f) ⌝ }
+{
+    let a = f.start;
+    let e = f.stop;
+    integer_of(&s[a..e])
+}
+
+fn pair_in(s: &[u8], f: Span) -> Pair
+    requires { ⌜ SpanWithin (now s) f ⌝ }
+    ensures { λ r. ⌜ r ≡ pairOf (part (now (s .entry)) f) ⌝ }
+{
+    let a = f.start;
+    let e = f.stop;
+    pair_of(&s[a..e])
+}
+
+fn triple_in(s: &[u8], f: Span) -> Triple
+    requires { ⌜ SpanWithin (now s) f ⌝ }
+    ensures { λ r. ⌜ r ≡ tripleOf (part (now (s .entry)) f) ⌝ }
+{
+    let a = f.start;
+    let e = f.stop;
+    triple_of(&s[a..e])
+}
+
+fn coordinate_in(s: &[u8], f: Span) -> Degrees
+    requires { ⌜ SpanWithin (now s) f ⌝ }
+    ensures { λ r. ⌜ r ≡ coordinateOf (part (now (s .entry)) f) ⌝ }
+{
+    let a = f.start;
+    let e = f.stop;
+    coordinate_of(&s[a..e])
+}
+
+fn boundary_in(s: &[u8], f: Span) -> u8
+    requires { ⌜ SpanWithin (now s) f ⌝ }
+    ensures { λ r. ⌜ r ≡ boundary-number (part (now (s .entry)) f) ⌝ }
+{
+    let a = f.start;
+    let e = f.stop;
+    boundary_word(&s[a..e])
+}
+
+// The statement of each shape.
+fn name_made(kind: u8, base: usize, f: Span) -> Made
+    requires { ⌜ (f .start ≤ f .stop) × (base + f .stop < 4294967296) ⌝ }
+    ensures { λ r. ⌜ r ≡ nameMade kind base f ⌝ }
+{
+    let a = f.start;
+    let e = f.stop;
+    let n = e - a;
+    if is_name_length(n) {
+        Made::Is(named(kind, (base + a) as u32, n as u32))
+    } else {
+        Made::No
+    }
+}
+
+fn number_made(kind: u8, n: Number) -> Made
+    ensures { λ r. ⌜ r ≡ numberMade kind n ⌝ }
+{
+    let Number::Is(v) = n else {
+        return Made::No;
+    };
+    Made::Is(numbered(kind, v))
+}
+
+fn pair_made(kind: u8, p: Pair) -> Made
+    ensures { λ r. ⌜ r ≡ pairMade kind p ⌝ }
+{
+    let Pair::Is(m, n) = p else {
+        return Made::No;
+    };
+    Made::Is(paired(kind, m, n))
+}
+
+fn side_made(kind: u8, b: u8) -> Made
+    ensures { λ r. ⌜ r ≡ sideMade kind b ⌝ }
+{
+    if b == 0 {
+        Made::No
+    } else {
+        Made::Is(sided(kind, b))
+    }
+}
+
+fn checkpoint_made(i: Triple, n: Number) -> Made
+    ensures { λ r. ⌜ r ≡ checkpointMade i n ⌝ }
+{
+    let Triple::Is(w) = i else {
+        return Made::No;
+    };
+    let Number::Is(v) = n else {
+        return Made::No;
+    };
+    Made::Is(Statement::Checkpoint(
+        Id {
+            x: w.x,
+            y: w.y,
+            z: w.z,
+        },
+        v,
+    ))
+}
+
+fn stop_made(i: Triple) -> Made
+    ensures { λ r. ⌜ r ≡ stopMade i ⌝ }
+{
+    let Triple::Is(w) = i else {
+        return Made::No;
+    };
+    Made::Is(Statement::Stop(Id {
+        x: w.x,
+        y: w.y,
+        z: w.z,
+    }))
+}
+
+fn exit_made(i: Triple, j: Triple) -> Made
+    ensures { λ r. ⌜ r ≡ exitMade i j ⌝ }
+{
+    let Triple::Is(w) = i else {
+        return Made::No;
+    };
+    let Triple::Is(e) = j else {
+        return Made::No;
+    };
+    Made::Is(Statement::Exit(
+        Id {
+            x: w.x,
+            y: w.y,
+            z: w.z,
+        },
+        Id {
+            x: e.x,
+            y: e.y,
+            z: e.z,
+        },
+    ))
+}
+
+fn point_made(i: Triple, a: Degrees, o: Degrees) -> Made
+    ensures { λ r. ⌜ r ≡ pointMade i a o ⌝ }
+{
+    let Triple::Is(w) = i else {
+        return Made::No;
+    };
+    let Degrees::Is(latitude) = a else {
+        return Made::No;
+    };
+    let Degrees::Is(longitude) = o else {
+        return Made::No;
+    };
+    Made::Is(Statement::Point(
+        Id {
+            x: w.x,
+            y: w.y,
+            z: w.z,
+        },
+        latitude,
+        longitude,
+    ))
+}
+
+// How many fields a line of the kind has, its keyword among them.
+pub fn fields_needed(kind: u8) -> u8
+    requires { ⌜ kind < 30 ⌝ }
+    ensures { λ r. ⌜ r ≡ needs-of (getD shapes kind 0) ⌝ }
+{
+    let shape = shape_of(kind as usize);
+    match shape {
+        0 => 1,
+        5 => 3,
+        7 => 3,
+        8 => 3,
+        _ => 2,
+    }
+}
+
+// The statement that the fields of a line make, given that there are as many as its kind needs.
+pub fn made_out(s: &[u8], base: usize, f: Fields, kind: u8) -> Made
+    requires { ⌜ FieldsWithin (now s) f × (base + length (now s) < 4294967296) × (kind < 30) ⌝ }
+    ensures { λ r. ⌜ r ≡ madeOf (now (s .entry)) base f kind ⌝ }
+{
+    let a = f.a;
+    let b = f.b;
+    let c = f.c;
+    let shape = shape_of(kind as usize);
+    match shape {
+        0 => Made::Is(bare(kind)),
+        1 => name_made(kind, base, b),
+        2 => number_made(kind, integer_in(s, b)),
+        3 => pair_made(kind, pair_in(s, b)),
+        4 => side_made(kind, boundary_in(s, b)),
+        5 => checkpoint_made(triple_in(s, b), integer_in(s, c)),
+        6 => stop_made(triple_in(s, b)),
+        7 => exit_made(triple_in(s, b), triple_in(s, c)),
+        _ => point_made(triple_in(s, a), coordinate_in(s, b), coordinate_in(s, c)),
+    }
+}
+
+// ## Orders of an MDF
+pub enum MadeOrder {
+    Is(Order),
+    No,
+}
+
+// What stands behind the keyword: 0 nothing, 1 a name, 2 an integer; 3 and 4: no keyword, one integer, three.
+const ORDER_SHAPE: [u8; 13] = [1, 1, 1, 1, 0, 2, 0, 0, 2, 0, 0, 3, 4];
+
+fn order_shape(kind: usize) -> u8
+    requires { ⌜ kind < 13 ⌝ }
+    ensures { λ r. ⌜ r ≡ getD order-shapes kind 0 ⌝ }
+{
+    ORDER_SHAPE[kind]
+}
+
+fn bare_order(kind: u8) -> Order
+    ensures { λ r. ⌜ r ≡ bareOrder kind ⌝ }
+{
+    match kind {
+        4 => Order::Checkpoints,
+        6 => Order::EndCheckpoints,
+        7 => Order::SpeedLimits,
+        9 => Order::EndSpeedLimits,
+        _ => Order::EndFile,
+    }
+}
+
+fn named_order(kind: u8, start: u32, length: u32) -> Order
+    ensures { λ r. ⌜ r ≡ namedOrder kind start length ⌝ }
+{
+    match kind {
+        0 => Order::MdfName(start, length),
+        1 => Order::Rndf(start, length),
+        2 => Order::FormatVersion(start, length),
+        _ => Order::CreationDate(start, length),
+    }
+}
+
+fn numbered_order(kind: u8, n: u32) -> Order
+    ensures { λ r. ⌜ r ≡ numberedOrder kind n ⌝ }
+{
+    match kind {
+        5 => Order::NumCheckpoints(n),
+        8 => Order::NumSpeedLimits(n),
+        _ => Order::Goal(n),
+    }
+}
+
+fn name_ordered(kind: u8, base: usize, f: Span) -> MadeOrder
+    requires { ⌜ (f .start ≤ f .stop) × (base + f .stop < 4294967296) ⌝ }
+    ensures { λ r. ⌜ r ≡ nameOrdered kind base f ⌝ }
+{
+    let a = f.start;
+    let e = f.stop;
+    let n = e - a;
+    if is_name_length(n) {
+        MadeOrder::Is(named_order(kind, (base + a) as u32, n as u32))
+    } else {
+        MadeOrder::No
+    }
+}
+
+fn number_ordered(kind: u8, n: Number) -> MadeOrder
+    ensures { λ r. ⌜ r ≡ numberOrdered kind n ⌝ }
+{
+    let Number::Is(v) = n else {
+        return MadeOrder::No;
+    };
+    MadeOrder::Is(numbered_order(kind, v))
+}
+
+fn limit_ordered(i: Number, a: Number, b: Number) -> MadeOrder
+    ensures { λ r. ⌜ r ≡ limitOrdered i a b ⌝ }
+{
+    let Number::Is(id) = i else {
+        return MadeOrder::No;
+    };
+    let Number::Is(minimum) = a else {
+        return MadeOrder::No;
+    };
+    let Number::Is(maximum) = b else {
+        return MadeOrder::No;
+    };
+    MadeOrder::Is(Order::Limit(id, minimum, maximum))
+}
+
+pub fn order_fields_needed(kind: u8) -> u8
+    requires { ⌜ kind < 13 ⌝ }
+    ensures { λ r. ⌜ r ≡ order-needs (getD order-shapes kind 0) ⌝ }
+{
+    let shape = order_shape(kind as usize);
+    match shape {
+        0 => 1,
+        3 => 1,
+        4 => 3,
+        _ => 2,
+    }
+}
+
+// The order that the fields of a line make, given that there are as many as its kind needs.
+pub fn order_made_out(s: &[u8], base: usize, f: Fields, kind: u8) -> MadeOrder
+    requires { ⌜ FieldsWithin (now s) f × (base + length (now s) < 4294967296) × (kind < 13) ⌝ }
+    ensures { λ r. ⌜ r ≡ orderMadeOf (now (s .entry)) base f kind ⌝ }
+{
+    let a = f.a;
+    let b = f.b;
+    let c = f.c;
+    let shape = order_shape(kind as usize);
+    match shape {
+        0 => MadeOrder::Is(bare_order(kind)),
+        1 => name_ordered(kind, base, b),
+        2 => number_ordered(kind, integer_in(s, b)),
+        3 => number_ordered(kind, integer_in(s, a)),
+        _ => limit_ordered(integer_in(s, a), integer_in(s, b), integer_in(s, c)),
+    }
+}

@@ -1,0 +1,2 @@
+-- Laws of judging a line of an MDF.
+pub mod MdfTies

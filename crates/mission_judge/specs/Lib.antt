@@ -1,0 +1,2 @@
+-- What a line of an MDF gets at a place.
+pub mod MdfLine

@@ -1,0 +1,120 @@
+// One line of an MDF at a place: blank, an order with the next place, or one number of document 01, 2 to 9.
+// The faults are told in document 01's order: 2, 3, 4 by the line's form; 5 and 6 by the kind alone; 7 by the count of fields; 8 over every field; 9 last.
+//
+// specs/MdfLine: the same, executable, from what `judge` says for every file. proofs/: it is what `text` says of the line (MdfTies).
+//
+// Rests on `line`, `word`, `made_out`, `mission_place`, `judge`, `statement` and what they rest on.
+use line::Fields;
+use line::Form;
+use line::fields_of;
+use line::form_of;
+use line::trimmed;
+use made_out::MadeOrder;
+use made_out::order_fields_needed;
+use made_out::order_made_out;
+use mission_place::MissionOutcome;
+use mission_place::MissionPlace;
+use statement::Order;
+use word::begins_with_digit;
+use word::mdf_keyword;
+ghost use mathlib.Core.Path.{_≡_};
+ghost use Prim.Native.Nat.{_≤_, _<_, _+_};
+ghost use lib.ListN.{length};
+ghost use Rattle.line.specs.Forms.{FieldsWithin};
+ghost use Rattle.made_out.specs.MadeOrders.{order-from};
+ghost use Rattle.judge.specs.Judging.{taken, valued, ofKind, known, told, content};
+ghost use Rattle.mission_judge.specs.MdfLine.{mdfKind, next-from, mdf-judging, verdict, lineOf};
+
+// What a line of an MDF gets.
+pub enum MissionVerdict {
+    Blank,
+    Said(Order, MissionPlace),
+    Bad(u8),
+}
+
+// The kind of a line by its first field: its row; 13 for a word that is no keyword.
+fn kind_of(p: MissionPlace, s: &[u8]) -> u8
+    ensures { λ r. ⌜ r ≡ mdfKind p (now (s .entry)) ⌝ }
+{
+    if begins_with_digit(s) {
+        return p.number_kind();
+    }
+    let i = mdf_keyword(s);
+    if i < 11 { i } else { 13 }
+}
+
+// 9, or the next place.
+fn taken_told(s: Order, o: MissionOutcome) -> MissionVerdict
+    ensures { λ r. ⌜ r ≡ verdict (taken mdf-judging s (next-from o)) ⌝ }
+{
+    match o {
+        MissionOutcome::Next(q) => MissionVerdict::Said(s, q),
+        MissionOutcome::Refused(_) => MissionVerdict::Bad(9),
+    }
+}
+
+// 8, or what comes of the statement.
+fn values_told(p: MissionPlace, m: MadeOrder) -> MissionVerdict
+    ensures { λ r. ⌜ r ≡ verdict (valued mdf-judging p (order-from m)) ⌝ }
+{
+    let MadeOrder::Is(s) = m else {
+        return MissionVerdict::Bad(8);
+    };
+    taken_told(s, p.step(s))
+}
+
+// 5 or 6 by the kind alone, then 7.
+fn kind_told(s: &[u8], base: usize, f: Fields, p: MissionPlace, kind: u8) -> MissionVerdict
+    requires { ⌜ FieldsWithin (now s) f × (base + length (now s) < 4294967296) × (kind < 13) ⌝ }
+    ensures { λ r. ⌜ r ≡ verdict (ofKind mdf-judging (now (s .entry)) base f p kind) ⌝ }
+{
+    let c = p.refuses(kind);
+    if c != 0 {
+        return MissionVerdict::Bad(c);
+    }
+    if f.count == order_fields_needed(kind) {
+        values_told(p, order_made_out(s, base, f, kind))
+    } else {
+        MissionVerdict::Bad(7)
+    }
+}
+
+// The fields, cut once: blank, or a line of its kind.
+fn fields_told(s: &[u8], base: usize, p: MissionPlace) -> MissionVerdict
+    requires { ⌜ base + length (now s) < 4294967296 ⌝ }
+    ensures { λ r. ⌜ r ≡ verdict (told mdf-judging (now (s .entry)) base p) ⌝ }
+{
+    let f = fields_of(s);
+    if f.count == 0 {
+        return MissionVerdict::Blank;
+    }
+    let first = f.a;
+    let a = first.start;
+    let e = first.stop;
+    let kind = kind_of(p, &s[a..e]);
+    if kind < 13 {
+        kind_told(s, base, f, p, kind)
+    } else {
+        MissionVerdict::Bad(5)
+    }
+}
+
+// 2, 3, 4, or the fields before a comment.
+fn content_told(s: &[u8], base: usize, p: MissionPlace) -> MissionVerdict
+    requires { ⌜ base + length (now s) < 4294967296 ⌝ }
+    ensures { λ r. ⌜ r ≡ verdict (content mdf-judging (now (s .entry)) base p) ⌝ }
+{
+    match form_of(s) {
+        Form::Bad(n) => MissionVerdict::Bad(n),
+        Form::Body(e) => fields_told(&s[..e], base, p),
+    }
+}
+
+// A line, without its LF, that starts at `base` in the text.
+pub fn mission_judge_line(s: &[u8], base: usize, p: MissionPlace) -> MissionVerdict
+    requires { ⌜ base + length (now s) < 4294967296 ⌝ }
+    ensures { λ r. ⌜ r ≡ lineOf (now (s .entry)) base p ⌝ }
+{
+    let e = trimmed(s);
+    content_told(&s[..e], base, p)
+}
