@@ -1,0 +1,4 @@
+-- What is written, the pen that writes it, and what the lent output holds at the end.
+pub mod Output
+pub mod Packed
+pub mod Pen

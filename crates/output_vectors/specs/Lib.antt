@@ -1,0 +1,2 @@
+-- The bytes that the writer shown here writes.
+pub mod Point

@@ -1,0 +1,1077 @@
+"""An independent reader, writer, look-up and summary for RNDF and MDF texts.
+
+Written from document 01 ("The yard reader, its writer and their rules"), the
+agreed readings (READINGS.md, quoted as R1..R18) and source 004 alone, only for
+testing.  It is plain on purpose: a descent through the grammar, line by line,
+in the words of document 01.  Quoted sentences are document 01's.
+"""
+
+import re
+
+# ---------------------------------------------------------------- constants
+
+LARGEST_TEXT = 16_777_215          # "text over 16,777,215 bytes" is refusal 1
+LARGEST_LINE = 512                 # "What is left is at most 512 bytes."
+LARGEST_INTEGER = 32_768           # "at most 32,768"
+LARGEST_NAME = 128                 # "Name: 1 to 128 bytes."
+MISSING_WIDTH = 65_535             # "A missing width is 65,535"
+NO_POINT = 4_294_967_295           # the look-up's answer for "none"
+
+# How many numbers make one row of a lent table (R16).
+STRIDE = {
+    "segments": 4, "lanes": 5, "zones": 6, "spots": 2, "points": 2,
+    "checkpoints": 2, "stops": 1, "exits": 2, "goals": 1, "limits": 3,
+}
+RNDF_TABLES = ["segments", "lanes", "zones", "spots", "points",
+               "checkpoints", "stops", "exits"]
+MDF_TABLES = ["goals", "limits"]
+TABLES = RNDF_TABLES + MDF_TABLES
+# The order in which row counts are told: "`ok`, then segments, zones, lanes,
+# points, spots, checkpoints, stops, exits, goals, limits".
+COUNT_ORDER = ["segments", "zones", "lanes", "points", "spots",
+               "checkpoints", "stops", "exits", "goals", "limits"]
+
+# "each of `double_yellow`, `solid_yellow`, `solid_white`, `broken_white`",
+# "left and right (1 to 4 in the order above)".  0 stands for a missing one.
+BOUNDARIES = [None, b"double_yellow", b"solid_yellow", b"solid_white",
+              b"broken_white"]
+
+TAB = b"\t"
+
+# "Outside comments the bytes are 33 to 126 and tab, but no backslash and no
+# `*`.  Inside, 32 to 126 and tab."
+ALLOWED_OUTSIDE = bytes(b for b in [9] + list(range(33, 127))
+                        if b not in (0x5C, 0x2A))
+ALLOWED_INSIDE = bytes([9] + list(range(32, 127)))
+
+# "Integer: 1 to 5 digits, no leading zero but `0` itself".
+_INTEGER = rb"(?:0|[1-9][0-9]{0,4})"
+INTEGER = re.compile(_INTEGER)
+# "Identifiers: integers joined by dots."
+IDENTIFIER_2 = re.compile(rb"(%s)\.(%s)" % (_INTEGER, _INTEGER))
+IDENTIFIER_3 = re.compile(rb"(%s)\.(%s)\.(%s)" % (_INTEGER, _INTEGER, _INTEGER))
+# "Coordinate: optional `-`, 1 to 3 digits with no leading zero but a single
+# `0`, a point, exactly six digits."
+COORDINATE = re.compile(rb"(-?)(0|[1-9][0-9]{0,2})\.([0-9]{6})")
+
+FIELD = re.compile(rb"[^\t]+")
+
+DIGIT_LINE = "a line whose first field begins with a digit"
+
+
+class Refused(Exception):
+    """Each refusal "gives file (1 RNDF, 2 MDF), line, number"."""
+
+    def __init__(self, file, line, number):
+        super().__init__("refused %d %d %d" % (file, line, number))
+        self.reply = (file, line, number)
+
+
+# ------------------------------------------------------- lines and statements
+
+class Line:
+    __slots__ = ("number", "fields", "starts")
+
+    def __init__(self, number, fields, starts):
+        self.number = number        # "Lines count from 1."
+        self.fields = fields        # the bytes of each field
+        self.starts = starts        # where each field begins in the text
+
+
+class Lines:
+    """The lines of one text, one at a time; only those with fields come out."""
+
+    def __init__(self, file, text):
+        self.file = file
+        self.text = text
+        self.at = 0                 # where the next line begins
+        self.count = 0              # the lines met so far
+
+    def raw(self):
+        """The next line as (start, bytes), or None behind the last one."""
+        # "A text is cut at each LF. An unfinished last line counts; after a
+        # final LF there is no further line."
+        if self.at >= len(self.text):
+            return None
+        start = self.at
+        lf = self.text.find(b"\n", start)
+        if lf < 0:
+            end = len(self.text)
+            self.at = end
+        else:
+            end = lf
+            self.at = lf + 1
+        self.count += 1
+        line = self.text[start:end]
+        # "One CR as a line's last byte is dropped."  (R4: also at the end of
+        # an unfinished last line.)
+        if line.endswith(b"\r"):
+            line = line[:-1]
+        return start, line
+
+    def next_or_none(self):
+        """The next line with fields; blank lines are passed over."""
+        while True:
+            got = self.raw()
+            if got is None:
+                return None
+            start, line = got
+            number = self.count
+            # 2 "line over 512 bytes" (R5: counted after the CR was dropped)
+            if len(line) > LARGEST_LINE:
+                raise Refused(self.file, number, 2)
+            # 3 "comment not closed, or followed by more than tabs":
+            # "A comment begins at the first `/*` and must close with the
+            # first `*/` after those two bytes, with only tabs behind it".
+            opened = line.find(b"/*")
+            if opened >= 0:
+                closed = line.find(b"*/", opened + 2)
+                if closed < 0:
+                    raise Refused(self.file, number, 3)
+                if line[closed + 2:].strip(TAB) != b"":
+                    raise Refused(self.file, number, 3)
+                outside = line[:opened]
+                inside = line[opened + 2:closed]
+            else:
+                outside = line
+                inside = b""
+            # 4 "byte not allowed"
+            if outside.translate(None, ALLOWED_OUTSIDE) != b"":
+                raise Refused(self.file, number, 4)
+            if inside.translate(None, ALLOWED_INSIDE) != b"":
+                raise Refused(self.file, number, 4)
+            # "Fields are separated by one or more tabs; leading and trailing
+            # tabs are nothing. A line without fields is blank and may stand
+            # anywhere, also after `end_file`."
+            fields = []
+            starts = []
+            for found in FIELD.finditer(outside):
+                fields.append(found.group())
+                starts.append(start + found.start())
+            if fields:
+                return Line(number, fields, starts)
+
+    def next(self):
+        line = self.next_or_none()
+        if line is None:
+            # 10 "text ends before `end_file`", line "lines + 1"
+            raise Refused(self.file, self.count + 1, 10)
+        return line
+
+    def statement(self, permitted, given=()):
+        """The next line made out as one of the permitted statements.
+
+        `given` are the single options already met at this place.
+        Answers (what, line), `what` being a keyword or DIGIT_LINE.
+        """
+        line = self.next()
+        first = line.fields[0]
+        # "A first field that begins with a digit makes a point line in an
+        # RNDF and, by its place, a goal or limit line in an MDF (5 where none
+        # is due). Any other first field is a keyword of that file, byte for
+        # byte, or the line gets 5."
+        if 0x30 <= first[0] <= 0x39:
+            what = DIGIT_LINE
+        else:
+            what = first
+        # 5 "statement unknown, or not at this place (also a wrong count of
+        # items)".  R1: whatever its fields are.
+        if what not in permitted:
+            raise Refused(self.file, line.number, 5)
+        # 6 "single option given again"
+        if what in given:
+            raise Refused(self.file, line.number, 6)
+        return what, line
+
+    def values(self, line, kinds):
+        """The line's field values; tests 7, then 8 for all, then ranges (9).
+
+        `kinds` names a kind for each field behind the keyword (for a digit
+        line: for each field).  Everything else that gives 9 is tested by the
+        caller, on this same line, hence after 8 "over all fields".
+        """
+        if 0x30 <= line.fields[0][0] <= 0x39:
+            fields, starts = line.fields, line.starts
+        else:
+            fields, starts = line.fields[1:], line.starts[1:]
+        # 7 "wrong number of fields"
+        if len(fields) != len(kinds):
+            raise Refused(self.file, line.number, 7)
+        # 8 "field not of its kind (spelling, name length, boundary word)";
+        # "all fields tried for 8 before any for 9".
+        values = []
+        for kind, field, start in zip(kinds, fields, starts):
+            value = KINDS[kind][0](field, start)
+            if value is None:
+                raise Refused(self.file, line.number, 8)
+            values.append(value)
+        # 9 "value not permitted here (range, ..)"
+        for kind, value in zip(kinds, values):
+            if not KINDS[kind][1](value):
+                raise Refused(self.file, line.number, 9)
+        return values
+
+    def permit(self, line, good):
+        """9 "value not permitted here" unless good."""
+        if not good:
+            raise Refused(self.file, line.number, 9)
+
+
+def spell_name(field, start):
+    # "Name: 1 to 128 bytes."  "A name is its start and length in the lent
+    # text".  (A field always has at least one byte.)
+    return (start, len(field)) if len(field) <= LARGEST_NAME else None
+
+
+def spell_integer(field, start):
+    return int(field) if INTEGER.fullmatch(field) else None
+
+
+def spell_identifier_2(field, start):
+    # R2: the wrong number of parts is another kind of field, so 8.
+    found = IDENTIFIER_2.fullmatch(field)
+    return tuple(int(part) for part in found.groups()) if found else None
+
+
+def spell_identifier_3(field, start):
+    found = IDENTIFIER_3.fullmatch(field)
+    return tuple(int(part) for part in found.groups()) if found else None
+
+
+def spell_coordinate(field, start):
+    # "Its value is a signed count of millionths of a degree".  "Taking the
+    # sign from the whole degrees: `-0.500000` is -500,000" is the mistake to
+    # shun; "`-0.000000` reads as 0."
+    found = COORDINATE.fullmatch(field)
+    if not found:
+        return None
+    minus, degrees, millionths = found.groups()
+    size = int(degrees) * 1_000_000 + int(millionths)
+    return -size if minus else size
+
+
+def spell_boundary(field, start):
+    for number in (1, 2, 3, 4):
+        if field == BOUNDARIES[number]:
+            return number
+    return None
+
+
+def any_value(value):
+    return True
+
+
+def range_integer(value):
+    # "at most 32,768"; "32,769 gives 9"
+    return value <= LARGEST_INTEGER
+
+
+def range_identifier(value):
+    # R3: "a part of 32,769 to 99,999 gives 9"
+    return all(part <= LARGEST_INTEGER for part in value)
+
+
+def range_latitude(value):
+    return -90_000_000 <= value <= 90_000_000
+
+
+def range_longitude(value):
+    return -180_000_000 <= value <= 180_000_000
+
+
+KINDS = {
+    "name": (spell_name, any_value),
+    "integer": (spell_integer, range_integer),
+    "m.n": (spell_identifier_2, range_identifier),
+    "x.y.z": (spell_identifier_3, range_identifier),
+    "latitude": (spell_coordinate, range_latitude),
+    "longitude": (spell_coordinate, range_longitude),
+    "boundary": (spell_boundary, any_value),
+}
+
+MISSING_NAME = (0, 0)               # "a missing name is 0, 0"
+
+
+# ----------------------------------------------------------- form of an RNDF
+
+class RndfForm:
+    """What a well-formed RNDF says, "entries still as identifiers"."""
+
+    def __init__(self):
+        self.name = self.version = self.date = MISSING_NAME
+        self.segments = []      # [first lane, lanes, name start, name length]
+        self.lanes = []         # [first point, points, width, left, right]
+        self.zones = []         # [first point, points, first spot, spots, name..]
+        self.spots = []         # [first point, width]
+        self.points = []        # [latitude, longitude]
+        self.checkpoints = []   # [number, point], and
+        self.checkpoint_lines = []  # the line of each
+        self.stops = []         # [point]
+        self.exits = []         # (point, entry (x, y, z), line)
+
+
+def form_of_rndf(text):
+    """Refusals 2 to 10 of an RNDF, or its form."""
+    lines = Lines(1, text)
+    form = RndfForm()
+
+    # "`RNDF_name` name; `num_segments` M > 0; `num_zones` N >= 0, with
+    # M + N <= 32,768; options `format_version` and `creation_date` (names);
+    # segments 1 to M; zones M+1 to M+N; `end_file`."
+    _, line = lines.statement([b"RNDF_name"])
+    form.name, = lines.values(line, ["name"])
+
+    _, line = lines.statement([b"num_segments"])
+    m, = lines.values(line, ["integer"])
+    lines.permit(line, m > 0)
+
+    _, line = lines.statement([b"num_zones"])
+    n, = lines.values(line, ["integer"])
+    lines.permit(line, m + n <= LARGEST_INTEGER)        # R10
+
+    # "Options come in any order before the first .. (.. segment ..)."
+    what, line = file_options(lines, form, b"segment")
+    for identifier in range(1, m + 1):
+        if identifier > 1:
+            what, line = lines.statement([b"segment"])
+        read_segment(lines, form, line, identifier)
+    for identifier in range(m + 1, m + n + 1):
+        what, line = lines.statement([b"zone"])
+        read_zone(lines, form, line, identifier)
+    end_of_file(lines)
+    return form
+
+
+def file_options(lines, form, closing):
+    """`format_version`, `creation_date`, each once, up to the closing keyword."""
+    given = set()
+    while True:
+        what, line = lines.statement(
+            [b"format_version", b"creation_date", closing], given)
+        if what == closing:
+            return what, line
+        name, = lines.values(line, ["name"])
+        if what == b"format_version":
+            form.version = name
+        else:
+            form.date = name
+        given.add(what)
+
+
+def end_of_file(lines):
+    _, line = lines.statement([b"end_file"])
+    lines.values(line, [])
+    # R6: lines after `end_file` are still judged for 2, 3 and 4; one with
+    # fields gives 5.
+    line = lines.next_or_none()
+    if line is not None:
+        raise Refused(lines.file, line.number, 5)
+
+
+def read_segment(lines, form, line, segment):
+    # "Segment: `segment` id; `num_lanes` > 0; option `segment_name`; lanes
+    # 1, 2, ..; `end_segment`."
+    identifier, = lines.values(line, ["integer"])
+    lines.permit(line, identifier == segment)           # the due identifier
+
+    _, line = lines.statement([b"num_lanes"])
+    lanes, = lines.values(line, ["integer"])
+    lines.permit(line, lanes > 0)
+
+    name = MISSING_NAME
+    given = set()
+    what, line = lines.statement([b"segment_name", b"lane"])
+    while what == b"segment_name":
+        name, = lines.values(line, ["name"])
+        given.add(what)
+        what, line = lines.statement([b"segment_name", b"lane"], given)
+
+    form.segments.append([len(form.lanes), lanes, name[0], name[1]])
+    for lane in range(1, lanes + 1):
+        if lane > 1:
+            what, line = lines.statement([b"lane"])
+        read_lane(lines, form, line, segment, lane)
+    _, line = lines.statement([b"end_segment"])
+    lines.values(line, [])
+
+
+def read_lane(lines, form, line, segment, lane):
+    # "Lane: `lane` m.n; `num_waypoints` > 0; options; waypoints m.n.1, m.n.2,
+    # .. each with latitude and longitude; `end_lane`."
+    identifier, = lines.values(line, ["m.n"])
+    lines.permit(line, identifier == (segment, lane))
+
+    _, line = lines.statement([b"num_waypoints"])
+    points, = lines.values(line, ["integer"])
+    lines.permit(line, points > 0)
+
+    first = len(form.points)
+    width, left, right = MISSING_WIDTH, 0, 0            # "A missing boundary is 0."
+    given = set()
+    while True:
+        what, line = lines.statement(
+            [b"lane_width", b"left_boundary", b"right_boundary",
+             b"checkpoint", b"stop", b"exit", DIGIT_LINE], given)
+        if what == DIGIT_LINE:
+            break
+        if what == b"lane_width":
+            width, = lines.values(line, ["integer"])    # >= 0
+            given.add(what)
+        elif what == b"left_boundary":
+            left, = lines.values(line, ["boundary"])
+            given.add(what)
+        elif what == b"right_boundary":
+            right, = lines.values(line, ["boundary"])
+            given.add(what)
+        elif what == b"checkpoint":
+            read_checkpoint(lines, form, line, segment, lane, points, first)
+        elif what == b"stop":
+            waypoint, = lines.values(line, ["x.y.z"])
+            own_point(lines, line, waypoint, segment, lane, points)
+            form.stops.append([first + waypoint[2] - 1])
+        else:
+            waypoint, entry = lines.values(line, ["x.y.z", "x.y.z"])
+            own_point(lines, line, waypoint, segment, lane, points)
+            # "The entry is any point identifier x.y.z with x, z > 0; y = 0
+            # names a perimeter point."
+            lines.permit(line, entry[0] > 0 and entry[2] > 0)
+            form.exits.append((first + waypoint[2] - 1, entry, line.number))
+
+    form.lanes.append([first, points, width, left, right])
+    read_points(lines, form, line, segment, lane, points)
+    _, line = lines.statement([b"end_lane"])
+    lines.values(line, [])
+
+
+def own_point(lines, line, waypoint, m, n, points):
+    # "The waypoint named by a checkpoint or stop, and the first of an exit,
+    # is one of this lane."  Likewise for a perimeter (n = 0) and a spot.
+    lines.permit(line, waypoint[0] == m and waypoint[1] == n
+                 and 1 <= waypoint[2] <= points)
+
+
+def read_checkpoint(lines, form, line, m, n, points, first):
+    waypoint, number = lines.values(line, ["x.y.z", "integer"])
+    own_point(lines, line, waypoint, m, n, points)
+    lines.permit(line, number > 0)      # "Checkpoint numbers are > 0"
+    form.checkpoints.append([number, first + waypoint[2] - 1])
+    form.checkpoint_lines.append(line.number)
+
+
+def read_points(lines, form, line, m, n, points):
+    """The points m.n.1 to m.n.points; `line` is the first one's."""
+    for due in range(1, points + 1):
+        if due > 1:
+            _, line = lines.statement([DIGIT_LINE])
+        identifier, latitude, longitude = lines.values(
+            line, ["x.y.z", "latitude", "longitude"])
+        lines.permit(line, identifier == (m, n, due))
+        form.points.append([latitude, longitude])
+
+
+def read_zone(lines, form, line, zone):
+    # "Zone: `zone` id; `num_spots` >= 0; option `zone_name`; the perimeter;
+    # spots 1, 2, ..; `end_zone`."
+    identifier, = lines.values(line, ["integer"])
+    lines.permit(line, identifier == zone)
+
+    _, line = lines.statement([b"num_spots"])
+    spots, = lines.values(line, ["integer"])
+
+    name = MISSING_NAME
+    given = set()
+    what, line = lines.statement([b"zone_name", b"perimeter"])
+    while what == b"zone_name":
+        name, = lines.values(line, ["name"])
+        given.add(what)
+        what, line = lines.statement([b"zone_name", b"perimeter"], given)
+
+    # "Perimeter: `perimeter` m.0; `num_perimeterpoints` > 0; any number of
+    # `exit`, the first a point of this perimeter, the second x.y.z with all
+    # three > 0; points m.0.1, ..; `end_perimeter`."
+    identifier, = lines.values(line, ["m.n"])
+    lines.permit(line, identifier == (zone, 0))
+    _, line = lines.statement([b"num_perimeterpoints"])
+    points, = lines.values(line, ["integer"])
+    lines.permit(line, points > 0)
+
+    first = len(form.points)
+    what, line = lines.statement([b"exit", DIGIT_LINE])
+    while what == b"exit":
+        point, entry = lines.values(line, ["x.y.z", "x.y.z"])
+        own_point(lines, line, point, zone, 0, points)
+        lines.permit(line, entry[0] > 0 and entry[1] > 0 and entry[2] > 0)
+        form.exits.append((first + point[2] - 1, entry, line.number))
+        what, line = lines.statement([b"exit", DIGIT_LINE])
+    read_points(lines, form, line, zone, 0, points)
+    _, line = lines.statement([b"end_perimeter"])
+    lines.values(line, [])
+
+    # "first spot (0 without spots)"
+    first_spot = len(form.spots) if spots > 0 else 0
+    form.zones.append([first, points, first_spot, spots, name[0], name[1]])
+    for spot in range(1, spots + 1):
+        _, line = lines.statement([b"spot"])
+        read_spot(lines, form, line, zone, spot)
+    _, line = lines.statement([b"end_zone"])
+    lines.values(line, [])
+
+
+def read_spot(lines, form, line, zone, spot):
+    # "Spot: `spot` m.n; options `spot_width` > 0 (feet) and one `checkpoint`
+    # on waypoint 1 or 2; two waypoints; `end_spot`."
+    identifier, = lines.values(line, ["m.n"])
+    lines.permit(line, identifier == (zone, spot))
+
+    first = len(form.points)
+    width = MISSING_WIDTH
+    given = set()
+    while True:
+        what, line = lines.statement(
+            [b"spot_width", b"checkpoint", DIGIT_LINE], given)
+        if what == DIGIT_LINE:
+            break
+        if what == b"spot_width":
+            width, = lines.values(line, ["integer"])
+            lines.permit(line, width > 0)
+        else:
+            read_checkpoint(lines, form, line, zone, spot, 2, first)
+        given.add(what)         # R9: a second `checkpoint` in a spot is 6
+    form.spots.append([first, width])
+    read_points(lines, form, line, zone, spot, 2)
+    _, line = lines.statement([b"end_spot"])
+    lines.values(line, [])
+
+
+# ------------------------------------------------------------ form of an MDF
+
+class MdfForm:
+    def __init__(self):
+        self.name = self.rndf = self.version = self.date = MISSING_NAME
+        self.rndf_line = 0
+        self.goals = []         # [number]
+        self.goal_lines = []
+        self.limits = []        # [id, minimum, maximum]
+        self.limit_lines = []
+        self.end_line = 0       # the line of `end_speed_limits`
+
+
+def form_of_mdf(text):
+    """Refusals 2 to 10 of an MDF, or its form."""
+    lines = Lines(2, text)
+    form = MdfForm()
+    # "`MDF_name`; `RNDF` name; options `format_version`, `creation_date`;
+    # `checkpoints`; `num_checkpoints` > 0; so many numbers > 0;
+    # `end_checkpoints`; `speed_limits`; `num_speed_limits` > 0; so many lines
+    # id > 0, minimum, maximum (miles per hour); `end_speed_limits`;
+    # `end_file`."
+    _, line = lines.statement([b"MDF_name"])
+    form.name, = lines.values(line, ["name"])
+    _, line = lines.statement([b"RNDF"])
+    form.rndf, = lines.values(line, ["name"])
+    form.rndf_line = line.number
+    _, line = file_options(lines, form, b"checkpoints")
+    lines.values(line, [])
+
+    _, line = lines.statement([b"num_checkpoints"])
+    goals, = lines.values(line, ["integer"])
+    lines.permit(line, goals > 0)
+    for _ in range(goals):
+        _, line = lines.statement([DIGIT_LINE])
+        number, = lines.values(line, ["integer"])
+        lines.permit(line, number > 0)
+        form.goals.append([number])         # "A goal may come again."
+        form.goal_lines.append(line.number)
+    _, line = lines.statement([b"end_checkpoints"])
+    lines.values(line, [])
+
+    _, line = lines.statement([b"speed_limits"])
+    lines.values(line, [])
+    _, line = lines.statement([b"num_speed_limits"])
+    limits, = lines.values(line, ["integer"])
+    lines.permit(line, limits > 0)
+    for _ in range(limits):
+        _, line = lines.statement([DIGIT_LINE])
+        identifier, minimum, maximum = lines.values(
+            line, ["integer", "integer", "integer"])
+        lines.permit(line, identifier > 0)
+        # "A speed limit's minimum is not above its maximum."  Taken to the
+        # letter, also where the maximum is 0 ("undefined").
+        lines.permit(line, minimum <= maximum)
+        form.limits.append([identifier, minimum, maximum])
+        form.limit_lines.append(line.number)
+    _, line = lines.statement([b"end_speed_limits"])
+    lines.values(line, [])
+    form.end_line = line.number
+    end_of_file(lines)
+    return form
+
+
+# ------------------------------------------------------------------- replies
+
+class Reply:
+    """The reader's answer and what is left in every lent table."""
+
+    def __init__(self):
+        self.accepted = False
+        self.refusal = None     # (file, line, number)
+        self.used = None        # rows used, by table
+        self.file = None        # RNDF: name, version, date as start, length
+        self.mission = None     # MDF: name, rndf, version, date
+        self.tables = None      # by table: all the numbers lent
+
+    def head(self):
+        if self.accepted:
+            return "ok " + " ".join(
+                str(self.used.get(t, 0)) for t in COUNT_ORDER)
+        return "refused %d %d %d" % self.refusal
+
+
+def rows_in(length, table):
+    # R16: "it has length / stride rows"
+    return length // STRIDE[table]
+
+
+def zero_tables(room, names):
+    return {t: [0] * room[t] for t in names}
+
+
+def lay_out(rows, length):
+    """The rows from index 0 on, "rows beyond are zero", over the whole length."""
+    flat = []
+    for row in rows:
+        flat.extend(row)
+    flat.extend([0] * (length - len(flat)))
+    return flat
+
+
+def judge_rndf(text, room):
+    """1 to 13 of an RNDF in order, or (form, rows by table)."""
+    # "Order: for the RNDF 1; then the first line with a fault of 2 to 9,
+    # lowest number first ..; then 10; 11; then the first line with 12 or 13."
+    if len(text) > LARGEST_TEXT:
+        raise Refused(1, 0, 1)
+    form = form_of_rndf(text)
+    # 11 "a table has fewer rows than needed".  "The rows of each table are as
+    # many as its count lines declare together ..; checkpoints, stops and
+    # exits have a row for each of their lines."
+    needed = {"segments": len(form.segments), "lanes": len(form.lanes),
+              "zones": len(form.zones), "spots": len(form.spots),
+              "points": len(form.points),
+              "checkpoints": len(form.checkpoints),
+              "stops": len(form.stops), "exits": len(form.exits)}
+    for table in RNDF_TABLES:
+        if rows_in(room[table], table) < needed[table]:
+            raise Refused(1, 0, 11)
+    # 12 "entry is no declared lane waypoint or perimeter point": only now,
+    # as "later segments are legal targets".
+    first_fault = None
+    exits = []
+    for point, entry, line in form.exits:
+        target = resolve(form, entry)
+        if target is None:
+            if first_fault is None:
+                first_fault = (line, 12)
+        else:
+            exits.append([point, target])
+    # 13 "checkpoint number already declared"
+    met = set()
+    for (number, _), line in zip(form.checkpoints, form.checkpoint_lines):
+        if number in met:
+            if first_fault is None or line < first_fault[0]:
+                first_fault = (line, 13)
+            break
+        met.add(number)
+    if first_fault is not None:
+        raise Refused(1, first_fault[0], first_fault[1])
+    rows = {"segments": form.segments, "lanes": form.lanes,
+            "zones": form.zones, "spots": form.spots, "points": form.points,
+            "checkpoints": form.checkpoints, "stops": form.stops,
+            "exits": exits}
+    return form, rows
+
+
+def resolve(form, entry):
+    """The row of the point that an entry names, or None."""
+    x, y, z = entry
+    m = len(form.segments)
+    if y > 0:
+        # "An entry with y > 0 must be a lane's waypoint; a spot's is not an
+        # entry."
+        if not 1 <= x <= m:
+            return None
+        first_lane, lanes = form.segments[x - 1][:2]
+        if y > lanes:
+            return None
+        first, points = form.lanes[first_lane + y - 1][:2]
+    else:
+        # "y = 0 names a perimeter point"
+        if not m + 1 <= x <= m + len(form.zones):
+            return None
+        first, points = form.zones[x - m - 1][:2]
+    if z > points:
+        return None
+    return first + z - 1
+
+
+def judge_mdf(text, room, rndf_text, rndf_form, rndf_rows):
+    """1 to 11 and 14 to 18 of an MDF in order, or (form, rows by table)."""
+    # "Then the MDF likewise, 14 to 18 by first line, 16 before 17."
+    if len(text) > LARGEST_TEXT:
+        raise Refused(2, 0, 1)
+    form = form_of_mdf(text)
+    if (rows_in(room["goals"], "goals") < len(form.goals)
+            or rows_in(room["limits"], "limits") < len(form.limits)):
+        raise Refused(2, 0, 11)
+    # The grammar puts these lines in this order, so the first fault met is
+    # the one on the first line.
+    # 14 "MDF's RNDF name is not this RNDF's"
+    if name_of(text, *form.rndf) != name_of(rndf_text, *rndf_form.name):
+        raise Refused(2, form.rndf_line, 14)
+    # 15 "goal not a checkpoint of the RNDF"
+    numbers = {number for number, _ in rndf_rows["checkpoints"]}
+    for (number,), line in zip(form.goals, form.goal_lines):
+        if number not in numbers:
+            raise Refused(2, line, 15)
+    # 16 "limit's id not in the RNDF", 17 "limit's id already given"
+    ids = len(rndf_rows["segments"]) + len(rndf_rows["zones"])
+    met = set()
+    for (identifier, _, _), line in zip(form.limits, form.limit_lines):
+        if identifier > ids:
+            raise Refused(2, line, 16)
+        if identifier in met:
+            raise Refused(2, line, 17)
+        met.add(identifier)
+    # 18 "some id has no limit", line `end_speed_limits`
+    if len(met) != ids:
+        raise Refused(2, form.end_line, 18)
+    return form, {"goals": form.goals, "limits": form.limits}
+
+
+def accept(reply, rows, room):
+    reply.accepted = True
+    reply.used = {table: len(rows[table]) for table in rows}
+    reply.tables = {table: lay_out(rows[table], room[table]) for table in rows}
+
+
+def refuse(reply, refused, room, names):
+    # "All lent tables .. are then zero over their whole length"
+    reply.accepted = False
+    reply.refusal = refused.reply
+    reply.used = reply.file = reply.mission = None
+    reply.tables = zero_tables(room, names)
+
+
+def read_rndf(text, room):
+    """The reader for an RNDF alone; `room` gives each table's lent length."""
+    reply = Reply()
+    try:
+        form, rows = judge_rndf(text, room)
+        accept(reply, rows, room)
+        reply.file = form.name + form.version + form.date
+    except Refused as refused:
+        refuse(reply, refused, room, RNDF_TABLES)
+    return reply
+
+
+def read_pair(rndf, mdf, room):
+    """The reader for an RNDF with its MDF."""
+    reply = Reply()
+    try:
+        # R13: everything about the RNDF comes before anything about the MDF.
+        form, rows = judge_rndf(rndf, room)
+        mission, more = judge_mdf(mdf, room, rndf, form, rows)
+        accept(reply, {**rows, **more}, room)
+        reply.file = form.name + form.version + form.date
+        reply.mission = (mission.name + mission.rndf + mission.version
+                         + mission.date)
+    except Refused as refused:
+        refuse(reply, refused, room, TABLES)
+    return reply
+
+
+# -------------------------------------------------------- names and look-up
+
+def name_of(text, start, length):
+    """"Asking for a name returns that stretch of the caller's own text, or an
+    empty part where start and length don't fit in it."""
+    if start + length > len(text):
+        return b""
+    return text[start:start + length]
+
+
+def lookup(checkpoints_table, number):
+    """"the point of the first row with that number, or 4,294,967,295 if there
+    is none or the number is 0."  Takes the flat table; a number left over
+    behind the last whole row is no row."""
+    if number == 0:
+        return NO_POINT
+    for row in range(len(checkpoints_table) // 2):
+        if checkpoints_table[2 * row] == number:
+            return checkpoints_table[2 * row + 1]
+    return NO_POINT
+
+
+# ------------------------------------------------------------ house writing
+
+class Network:
+    """"A network or mission is its tables with each name's bytes in place of
+    start and length."  Rows are tuples; a missing name is b""."""
+
+    def __init__(self, name, version, date, segments, lanes, zones, spots,
+                 points, checkpoints, stops, exits):
+        self.name, self.version, self.date = name, version, date
+        self.segments = segments        # (first lane, lanes, name)
+        self.lanes = lanes              # (first point, points, width, left, right)
+        self.zones = zones              # (first point, points, first spot, spots, name)
+        self.spots = spots              # (first point, width)
+        self.points = points            # (latitude, longitude)
+        self.checkpoints = checkpoints  # (number, point)
+        self.stops = stops              # (point,)
+        self.exits = exits              # (point, entry point)
+
+    def __eq__(self, other):
+        return vars(self) == vars(other)
+
+
+class Mission:
+    def __init__(self, name, rndf, version, date, goals, limits):
+        self.name, self.rndf = name, rndf
+        self.version, self.date = version, date
+        self.goals = goals              # (number,)
+        self.limits = limits            # (id, minimum, maximum)
+
+    def __eq__(self, other):
+        return vars(self) == vars(other)
+
+
+def table_rows(reply, table):
+    stride = STRIDE[table]
+    flat = reply.tables[table]
+    return [tuple(flat[stride * i:stride * i + stride])
+            for i in range(reply.used[table])]
+
+
+def network_of(reply, text):
+    def named(rows):
+        return [row[:-2] + (name_of(text, row[-2], row[-1]),) for row in rows]
+    f = reply.file
+    return Network(name_of(text, f[0], f[1]), name_of(text, f[2], f[3]),
+                   name_of(text, f[4], f[5]),
+                   named(table_rows(reply, "segments")),
+                   table_rows(reply, "lanes"),
+                   named(table_rows(reply, "zones")),
+                   table_rows(reply, "spots"), table_rows(reply, "points"),
+                   table_rows(reply, "checkpoints"),
+                   table_rows(reply, "stops"), table_rows(reply, "exits"))
+
+
+def mission_of(reply, text):
+    f = reply.mission
+    return Mission(name_of(text, f[0], f[1]), name_of(text, f[2], f[3]),
+                   name_of(text, f[4], f[5]), name_of(text, f[6], f[7]),
+                   table_rows(reply, "goals"), table_rows(reply, "limits"))
+
+
+def write_coordinate(value):
+    # "`0.000000` has no sign."  The sign is the whole value's.
+    sign = "-" if value < 0 else ""
+    size = abs(value)
+    return "%s%d.%06d" % (sign, size // 1_000_000, size % 1_000_000)
+
+
+def house_rndf(network):
+    """"House writing: one tab between fields, LF after every line, no comment,
+    blank line or CR; options in the order listed above, repeats in file order
+    within their kind."""
+    out = []
+
+    def put(*fields):
+        out.append(TAB.join(f if isinstance(f, bytes) else str(f).encode()
+                            for f in fields) + b"\n")
+
+    # What each point is called.  Points stand in file order.
+    called = [None] * len(network.points)
+    for s, (first_lane, lanes, _) in enumerate(network.segments, 1):
+        for l in range(1, lanes + 1):
+            first, points = network.lanes[first_lane + l - 1][:2]
+            for p in range(points):
+                called[first + p] = "%d.%d.%d" % (s, l, p + 1)
+    m = len(network.segments)
+    for z, (first, points, first_spot, spots, _) in enumerate(network.zones, m + 1):
+        for p in range(points):
+            called[first + p] = "%d.0.%d" % (z, p + 1)
+        for s in range(1, spots + 1):
+            first = network.spots[first_spot + s - 1][0]
+            called[first] = "%d.%d.1" % (z, s)
+            called[first + 1] = "%d.%d.2" % (z, s)
+
+    # The options on a part's points, by the part's first point; in file order.
+    owner = {}
+    for first, points, *_ in network.lanes:
+        for p in range(points):
+            owner[first + p] = first
+    for first, points, *_ in network.zones:
+        for p in range(points):
+            owner[first + p] = first
+    for first, _ in network.spots:
+        owner[first] = owner[first + 1] = first
+
+    def by_part(rows, which):
+        parts = {}
+        for row in rows:
+            parts.setdefault(owner[row[which]], []).append(row)
+        return parts
+    checkpoints = by_part(network.checkpoints, 1)
+    stops = by_part(network.stops, 0)
+    exits = by_part(network.exits, 0)
+
+    def put_checkpoints(first):
+        for number, point in checkpoints.get(first, []):
+            put(b"checkpoint", called[point], number)
+
+    def put_exits(first):
+        for point, entry in exits.get(first, []):
+            put(b"exit", called[point], called[entry])
+
+    def put_points(first, points):
+        for p in range(first, first + points):
+            latitude, longitude = network.points[p]
+            put(called[p], write_coordinate(latitude),
+                write_coordinate(longitude))
+
+    put(b"RNDF_name", network.name)
+    put(b"num_segments", len(network.segments))
+    put(b"num_zones", len(network.zones))
+    if network.version:
+        put(b"format_version", network.version)
+    if network.date:
+        put(b"creation_date", network.date)
+    for s, (first_lane, lanes, name) in enumerate(network.segments, 1):
+        put(b"segment", s)
+        put(b"num_lanes", lanes)
+        if name:
+            put(b"segment_name", name)
+        for l in range(1, lanes + 1):
+            first, points, width, left, right = network.lanes[first_lane + l - 1]
+            put(b"lane", "%d.%d" % (s, l))
+            put(b"num_waypoints", points)
+            if width != MISSING_WIDTH:
+                put(b"lane_width", width)
+            if left:
+                put(b"left_boundary", BOUNDARIES[left])
+            if right:
+                put(b"right_boundary", BOUNDARIES[right])
+            put_checkpoints(first)
+            for point, in stops.get(first, []):
+                put(b"stop", called[point])
+            put_exits(first)
+            put_points(first, points)
+            put(b"end_lane")
+        put(b"end_segment")
+    for z, (first, points, first_spot, spots, name) in enumerate(network.zones, m + 1):
+        put(b"zone", z)
+        put(b"num_spots", spots)
+        if name:
+            put(b"zone_name", name)
+        put(b"perimeter", "%d.0" % z)
+        put(b"num_perimeterpoints", points)
+        put_exits(first)
+        put_points(first, points)
+        put(b"end_perimeter")
+        for s in range(1, spots + 1):
+            first, width = network.spots[first_spot + s - 1]
+            put(b"spot", "%d.%d" % (z, s))
+            if width != MISSING_WIDTH:
+                put(b"spot_width", width)
+            put_checkpoints(first)
+            put_points(first, 2)
+            put(b"end_spot")
+        put(b"end_zone")
+    put(b"end_file")
+    return b"".join(out)
+
+
+def house_mdf(mission):
+    out = []
+
+    def put(*fields):
+        out.append(TAB.join(f if isinstance(f, bytes) else str(f).encode()
+                            for f in fields) + b"\n")
+    put(b"MDF_name", mission.name)
+    put(b"RNDF", mission.rndf)
+    if mission.version:
+        put(b"format_version", mission.version)
+    if mission.date:
+        put(b"creation_date", mission.date)
+    put(b"checkpoints")
+    put(b"num_checkpoints", len(mission.goals))
+    for number, in mission.goals:
+        put(number)
+    put(b"end_checkpoints")
+    put(b"speed_limits")
+    put(b"num_speed_limits", len(mission.limits))
+    for identifier, minimum, maximum in mission.limits:
+        put(identifier, minimum, maximum)
+    put(b"end_speed_limits")
+    put(b"end_file")
+    return b"".join(out)
+
+
+class Written:
+    """The writer's answer: the reader's reply, the length written, the output."""
+
+    def __init__(self, reply, written, output):
+        self.reply = reply
+        self.accepted = reply.accepted
+        self.refusal = reply.refusal
+        self.tables = reply.tables
+        self.written = written      # bytes written, None when refused
+        self.output = output        # the whole lent output
+
+
+def write_out(reply, house, file, room, names, out_len):
+    """"refuses as the reader does before any refusal of its own"; `house`
+    makes the house writing of what was read."""
+    if reply.accepted:
+        text = house()
+        # 19 "house writing over 16,777,215 bytes or longer than the lent
+        # output", line 0; "19 gives the file written".
+        if len(text) <= LARGEST_TEXT and len(text) <= out_len:
+            # "A lent output is zero behind what was written."
+            return Written(reply, len(text), text + bytes(out_len - len(text)))
+        refuse(reply, Refused(file, 0, 19), room, names)
+    # "All lent tables, and the writer's lent output, are then zero over their
+    # whole length"
+    return Written(reply, None, bytes(out_len))
+
+
+def write_rndf(text, room, out_len):
+    reply = read_rndf(text, room)
+    return write_out(reply, lambda: house_rndf(network_of(reply, text)), 1,
+                     room, RNDF_TABLES, out_len)
+
+
+def write_mdf(rndf, mdf, room, out_len):
+    reply = read_pair(rndf, mdf, room)
+    return write_out(reply, lambda: house_mdf(mission_of(reply, mdf)), 2,
+                     room, TABLES, out_len)
+
+
+# ----------------------------------------------------------------- summary
+
+SUMMARY_LARGEST = 8192              # "each up to 8,192 bytes"
+# "with 256 point rows and 128 of every other table"
+SUMMARY_ROOM = {t: STRIDE[t] * (256 if t == "points" else 128) for t in TABLES}
+
+
+def summary(network, mission):
+    """The line printed for the bytes of `network.rndf` and `mission.mdf`
+    (None: can't be opened), without the line's end."""
+    # R15: both files are loaded before either is judged.
+    for loaded in (network, mission):
+        if loaded is None:
+            return "no file"
+        if len(loaded) > SUMMARY_LARGEST:
+            return "file too big"
+    return read_pair(network, mission, SUMMARY_ROOM).head()

@@ -1,0 +1,412 @@
+"""Self-checks of the oracle.
+
+    python3 test_oracle.py            seconds
+    python3 test_oracle.py --slow     also texts of 16 MB (some minutes)
+"""
+
+import io
+import os
+import random
+import sys
+import time
+import unittest
+
+import casefile
+import generate
+import oracle
+from oracle import (RNDF_TABLES, STRIDE, TABLES, house_mdf, house_rndf, lookup,
+                    mission_of, name_of, network_of, read_pair, read_rndf,
+                    summary, write_mdf, write_rndf)
+from yards import (MDF_STATEMENTS, MISSION_B, RNDF_STATEMENTS, ROUND_1, YARD_A,
+                   YARD_B, YARD_C, ins, put, text)
+
+WIDE = {t: 50 * STRIDE[t] for t in TABLES}
+SLOW = "--slow" in sys.argv
+
+
+def said(reply):
+    return reply.head()
+
+
+class Document01(unittest.TestCase):
+    """Every example of document 01."""
+
+    def one(self, rndf_lines, mdf_lines, want):
+        r, m = text(rndf_lines), text(mdf_lines)
+        self.assertEqual(summary(r, m), want)
+        reply = read_pair(r, m, WIDE)
+        self.assertEqual(said(reply), want)
+        if not reply.accepted:
+            for t in TABLES:
+                self.assertEqual(reply.tables[t], [0] * WIDE[t])
+
+    def test_yard_a(self):
+        self.one(YARD_A, ROUND_1, "ok 1 0 1 2 0 1 0 1 1 1")
+
+    def test_proved_cases(self):
+        A, M = YARD_A, ROUND_1
+        self.one(put(A, 9, "exit>1.1.2>1.1.3"), M, "refused 1 9 12")
+        self.one(put(A, 9, "exit>1.1.3>1.1.1"), M, "refused 1 9 9")
+        self.one(put(A, 7, "num_waypoints>3"), M, "refused 1 12 5")
+        self.one(put(A, 7, "num_waypoints>1"), M, "refused 1 8 9")
+        self.one(A[:-1], M, "refused 1 14 10")
+        self.one([], M, "refused 1 1 10")
+        self.one(ins(A, 9, A[7]), M, "refused 1 9 13")
+        self.one(A, put(M, 5, "8"), "refused 2 5 15")
+        self.one(A, put(M, 9, "1>10>5"), "refused 2 9 9")
+
+    def test_run_cases(self):
+        A, M = YARD_A, ROUND_1
+        self.one(A, put(M, 2, "RNDF>yard_b"), "refused 2 2 14")
+        ok = "ok 1 0 1 2 0 1 0 1 1 1"
+        self.one(put(A, 1, "RNDF_name>" + "n" * 128),
+                 put(M, 2, "RNDF>" + "n" * 128), ok)
+        self.one(put(A, 1, "RNDF_name>" + "n" * 129), M, "refused 1 1 8")
+        self.one(put(A, 12, "end_lane/*" + "c" * 500 + "*/"), M, ok)
+        self.one(put(A, 12, "end_lane/*" + "c" * 501 + "*/"), M, "refused 1 12 2")
+        self.one(put(A, 10, "1.1.1>90.000000>-93.000000"), M, ok)
+        self.one(put(A, 10, "1.1.1>90.000001>-93.000000"), M, "refused 1 10 9")
+
+    def test_yard_a_tables(self):
+        room = {t: 2 * STRIDE[t] + 1 for t in TABLES}
+        reply = read_pair(text(YARD_A), text(ROUND_1), room)
+        self.assertEqual(reply.file, (10, 6, 0, 0, 0, 0))
+        self.assertEqual(reply.mission, (9, 7, 22, 6, 0, 0, 0, 0))
+        want = {
+            "segments": [0, 1, 0, 0] + [0] * 5,
+            "lanes": [0, 2, 65535, 0, 0] + [0] * 6,
+            "zones": [0] * 13, "spots": [0] * 5,
+            "points": [45_000_000, -93_000_000, 45_000_100, -93_000_000, 0],
+            "checkpoints": [7, 1, 0, 0, 0], "stops": [0, 0, 0],
+            "exits": [1, 0, 0, 0, 0], "goals": [7, 0, 0],
+            "limits": [1, 0, 15, 0, 0, 0, 0],
+        }
+        self.assertEqual(reply.tables, want)
+
+    def test_yard_b_tables(self):
+        r = text(YARD_B)
+        reply = read_pair(r, text(MISSION_B), WIDE)
+        self.assertEqual(said(reply), "ok 2 2 3 14 2 3 2 5 4 4")
+        net = network_of(reply, r)
+        self.assertEqual(net.segments, [(0, 2, b"Main_St"), (2, 1, b"")])
+        self.assertEqual(net.lanes, [(0, 3, 12, 1, 3), (3, 2, 65535, 0, 0),
+                                     (5, 1, 65535, 0, 0)])
+        self.assertEqual(net.zones, [(6, 3, 0, 2, b"Lot"), (13, 1, 0, 0, b"")])
+        self.assertEqual(net.spots, [(9, 9), (11, 65535)])
+        self.assertEqual(net.points[5], (-500_000, 1))
+        self.assertEqual(net.points[13], (-90_000_000, 180_000_000))
+        self.assertEqual(net.checkpoints, [(1, 1), (2, 2), (31, 10)])
+        self.assertEqual(net.stops, [(2,), (5,)])
+        self.assertEqual(net.exits, [(2, 5), (2, 7), (4, 0), (6, 3), (8, 5)])
+        self.assertEqual(house_rndf(net), r)        # it is house writing
+        self.assertEqual(house_mdf(mission_of(reply, text(MISSION_B))),
+                         text(MISSION_B))
+
+    def test_easy_to_get_wrong(self):
+        r = text(put(YARD_A, 10, "1.1.1>-0.500000>-0.000000"))
+        reply = read_rndf(r, WIDE)
+        self.assertEqual(reply.tables["points"][:2], [-500_000, 0])
+        self.assertIn(b"1.1.1\t-0.500000\t0.000000\n",
+                      house_rndf(network_of(reply, r)))
+        r = text(ins(YARD_A, 8, "lane_width>0"))
+        self.assertEqual(read_rndf(r, WIDE).tables["lanes"][2], 0)
+        r = text(put(YARD_B, 17, "exit>1.1.1>4.0.1"))
+        self.assertEqual(read_rndf(r, WIDE).tables["exits"][:2], [0, 13])
+
+    def test_digits(self):
+        # "Six digits give 8; 32,769 gives 9."
+        self.one(put(YARD_A, 7, "num_waypoints>100000"), ROUND_1, "refused 1 7 8")
+        self.one(put(YARD_A, 7, "num_waypoints>32769"), ROUND_1, "refused 1 7 9")
+
+
+class Parts(unittest.TestCase):
+    def test_summary_files(self):
+        r, m = text(YARD_A), text(ROUND_1)
+        fill = lambda t, n: t + b"\n" * (n - len(t))
+        self.assertEqual(summary(None, m), "no file")
+        self.assertEqual(summary(r, None), "no file")
+        self.assertEqual(summary(None, None), "no file")
+        self.assertEqual(summary(b"bad", None), "no file")
+        self.assertEqual(summary(fill(r, 8192), m), "ok 1 0 1 2 0 1 0 1 1 1")
+        self.assertEqual(summary(r, fill(m, 8192)), "ok 1 0 1 2 0 1 0 1 1 1")
+        self.assertEqual(summary(fill(r, 8193), m), "file too big")
+        self.assertEqual(summary(r, fill(m, 8193)), "file too big")
+        self.assertEqual(summary(fill(r, 8193), None), "file too big")
+        self.assertEqual(summary(None, fill(m, 8193)), "no file")
+        self.assertEqual(summary(b"bad", fill(m, 8193)), "file too big")
+        self.assertEqual(summary(b"bad", b"bad"), "refused 1 1 5")
+
+    def test_summary_room(self):
+        def yard(points, stops):
+            lines = (["RNDF_name>y", "num_segments>1", "num_zones>0", "segment>1",
+                      "num_lanes>1", "lane>1.1", "num_waypoints>%d" % points,
+                      "checkpoint>1.1.1>1"]
+                     + ["stop>1.1.1"] * stops
+                     + ["1.1.%d>1.000000>1.000000" % p for p in range(1, points + 1)]
+                     + ["end_lane", "end_segment", "end_file"])
+            return text(lines)
+        m = text(put(put(ROUND_1, 2, "RNDF>y"), 5, "1"))
+        self.assertEqual(summary(yard(256, 1), m), "ok 1 0 1 256 0 1 1 0 1 1")
+        self.assertEqual(summary(yard(257, 1), m), "refused 1 0 11")
+        self.assertEqual(summary(yard(1, 128), m), "ok 1 0 1 1 0 1 128 0 1 1")
+        self.assertEqual(summary(yard(1, 129), m), "refused 1 0 11")
+
+        def goals(n):
+            return text(["MDF_name>x", "RNDF>y", "checkpoints",
+                         "num_checkpoints>%d" % n] + ["1"] * n
+                        + ["end_checkpoints", "speed_limits", "num_speed_limits>1",
+                           "1>0>0", "end_speed_limits", "end_file"])
+        self.assertEqual(summary(yard(1, 0), goals(128)), "ok 1 0 1 1 0 1 0 0 128 1")
+        self.assertEqual(summary(yard(1, 0), goals(129)), "refused 2 0 11")
+
+    def test_lookup(self):
+        none = 4_294_967_295
+        self.assertEqual(lookup([7, 1, 0, 0, 0], 7), 1)
+        self.assertEqual(lookup([7, 1, 7, 2], 7), 1)
+        self.assertEqual(lookup([6, 1, 7, 2], 7), 2)
+        self.assertEqual(lookup([7, 1, 0, 5], 0), none)
+        self.assertEqual(lookup([7, 1], 8), none)
+        self.assertEqual(lookup([], 7), none)
+        self.assertEqual(lookup([7], 7), none)
+        self.assertEqual(lookup([1, 9, 7], 7), none)
+
+    def test_name(self):
+        self.assertEqual(name_of(b"abc", 0, 3), b"abc")
+        self.assertEqual(name_of(b"abc", 1, 2), b"bc")
+        self.assertEqual(name_of(b"abc", 3, 0), b"")
+        self.assertEqual(name_of(b"abc", 1, 3), b"")
+        self.assertEqual(name_of(b"abc", 4, 0), b"")
+        self.assertEqual(name_of(b"abc", 4_000_000_000, 4_000_000_000), b"")
+
+    def test_writer(self):
+        r, m = text(YARD_A), text(ROUND_1)
+        done = write_rndf(r, WIDE, len(r) + 7)
+        self.assertEqual((done.written, done.output), (len(r), r + bytes(7)))
+        self.assertEqual(done.tables, read_rndf(r, WIDE).tables)
+        self.assertEqual(write_rndf(r, WIDE, len(r)).output, r)
+        short = write_rndf(r, WIDE, len(r) - 1)
+        self.assertEqual(short.refusal, (1, 0, 19))
+        self.assertEqual(short.output, bytes(len(r) - 1))
+        self.assertEqual(short.tables, {t: [0] * WIDE[t] for t in RNDF_TABLES})
+        done = write_mdf(r, m, WIDE, len(m) + 1)
+        self.assertEqual((done.written, done.output), (len(m), m + b"\0"))
+        short = write_mdf(r, m, WIDE, len(m) - 1)
+        self.assertEqual(short.refusal, (2, 0, 19))
+        self.assertEqual(short.tables, {t: [0] * WIDE[t] for t in TABLES})
+        self.assertEqual(write_mdf(r, m, WIDE, 0).refusal, (2, 0, 19))
+        # the reader's refusals first
+        self.assertEqual(write_rndf(b"", WIDE, 0).refusal, (1, 1, 10))
+        self.assertEqual(write_mdf(r, b"", WIDE, 0).refusal, (2, 1, 10))
+        self.assertEqual(write_mdf(b"", m, WIDE, 0).refusal, (1, 1, 10))
+        self.assertEqual(write_rndf(r, dict(WIDE, points=3), 0).refusal, (1, 0, 11))
+
+    def test_house_order(self):
+        mixed = text(YARD_A[:7] + [
+            "exit>1.1.2>1.1.1", "stop>1.1.2", "checkpoint>1.1.2>9",
+            "right_boundary>broken_white", "stop>1.1.1", "exit>1.1.1>1.1.1",
+            "lane_width>0/* feet */", "checkpoint>1.1.1>3", "", "stop>1.1.2",
+            "left_boundary>double_yellow"] + YARD_A[9:], "\r\n")
+        want = text(YARD_A[:7] + [
+            "lane_width>0", "left_boundary>double_yellow",
+            "right_boundary>broken_white", "checkpoint>1.1.2>9",
+            "checkpoint>1.1.1>3", "stop>1.1.2", "stop>1.1.1", "stop>1.1.2",
+            "exit>1.1.2>1.1.1", "exit>1.1.1>1.1.1"] + YARD_A[9:])
+        got = write_rndf(mixed, WIDE, 5000)
+        self.assertEqual(got.output[:got.written], want)
+        # the tables keep the file's order, per kind
+        self.assertEqual(got.tables["stops"][:3], [1, 0, 1])
+
+
+class Places(unittest.TestCase):
+    """Which statement may stand at which place, laid out by hand: what may
+    stand before each line of Yard C and of the MDF of Yard A ("0": a line
+    whose first field begins with a digit)."""
+
+    RNDF = ["RNDF_name", "num_segments", "num_zones",
+            "format_version creation_date segment", "num_lanes",
+            "segment_name lane", "num_waypoints",
+            "lane_width left_boundary right_boundary checkpoint stop exit 0",
+            "0", "end_lane", "end_segment", "zone", "num_spots",
+            "zone_name perimeter", "num_perimeterpoints", "exit 0", "0",
+            "end_perimeter", "spot", "spot_width checkpoint 0", "0", "end_spot",
+            "end_zone", "end_file", ""]
+    MDF = ["MDF_name", "RNDF", "format_version creation_date checkpoints",
+           "num_checkpoints", "0", "end_checkpoints", "speed_limits",
+           "num_speed_limits", "0", "end_speed_limits", "end_file", ""]
+
+    def go(self, file, base, places, statements, judge):
+        self.assertEqual(len(places), len(base) + 1)
+        for n, permitted in enumerate(places, 1):
+            for statement in statements:
+                for tail in ("", ">1>2>3>4"):       # R1: whatever its fields are
+                    word = statement.split(">")[0]
+                    word = "0" if word[0].isdigit() else word
+                    refusal = judge(text(ins(base, n, statement + tail))).refusal
+                    if word in permitted.split():
+                        self.assertNotEqual(refusal, (file, n, 5))
+                        if tail:
+                            self.assertEqual(refusal, (file, n, 7))
+                    else:
+                        self.assertEqual(refusal, (file, n, 5))
+
+    def test_rndf(self):
+        self.go(1, YARD_C, self.RNDF, RNDF_STATEMENTS + MDF_STATEMENTS[:2]
+                + ["checkpoints", "speed_limits", "nonsense"],
+                lambda t: read_rndf(t, WIDE))
+
+    def test_mdf(self):
+        self.go(2, ROUND_1, self.MDF, MDF_STATEMENTS + ["RNDF_name>x", "segment>1",
+                "checkpoint>1.1.1>7", "nonsense"],
+                lambda t: read_pair(text(YARD_A), t, WIDE))
+
+
+class RandomNetworks(unittest.TestCase):
+    def test_meaning_and_round_trips(self):
+        rng = random.Random(4)
+        for _ in range(1500):
+            made = generate.make(rng, rng.choice([2, 4, 9]))
+            rough = rng.choice([0, 0.3, 1])
+            r = generate.render(rng, made.rndf_lines, rough)
+            m = generate.render(rng, made.mdf_lines, rough)
+            rows = {t: len(getattr(made.network, t)) for t in RNDF_TABLES}
+            rows.update(goals=len(made.mission.goals), limits=len(made.mission.limits))
+            room = {t: rows[t] * STRIDE[t] + rng.choice([0, 1]) for t in TABLES}
+            reply = read_pair(r, m, room)
+            self.assertTrue(reply.accepted, (reply.refusal, r, m))
+            self.assertEqual(reply.used, rows)
+            # the generator knows what it meant
+            self.assertEqual(network_of(reply, r), made.network)
+            self.assertEqual(mission_of(reply, m), made.mission)
+            alone = read_rndf(r, room)
+            self.assertEqual(alone.tables, {t: reply.tables[t] for t in RNDF_TABLES})
+            # zero behind
+            for t in TABLES:
+                self.assertEqual(reply.tables[t][rows[t] * STRIDE[t]:],
+                                 [0] * (room[t] - rows[t] * STRIDE[t]))
+            # house writing: reads as the same, and is its own house writing
+            # but for the order of kinds
+            house, house_m = house_rndf(made.network), house_mdf(made.mission)
+            for line in house.split(b"\n")[:-1]:
+                self.assertNotIn(b"/*", line)
+                self.assertEqual(line, b"\t".join(line.split()))
+            again = read_pair(house, house_m, room)
+            self.assertTrue(again.accepted)
+            self.assertEqual(network_of(again, house), made.network)
+            self.assertEqual(mission_of(again, house_m), made.mission)
+            self.assertEqual(write_rndf(house, room, len(house)).output, house)
+            self.assertEqual(write_mdf(r, m, room, len(house_m)).output, house_m)
+            self.assertEqual(write_rndf(r, room, len(house) - 1).refusal, (1, 0, 19))
+            # each table short by a number
+            for t in TABLES:
+                if rows[t]:
+                    less = dict(room, **{t: rows[t] * STRIDE[t] - 1})
+                    self.assertEqual(read_pair(r, m, less).refusal,
+                                     (2 if t in oracle.MDF_TABLES else 1, 0, 11))
+
+    def test_first_line_decides(self):
+        """What stands behind a refused line is nothing; the lines before it
+        are the beginning of some well-formed file."""
+        rng = random.Random(5)
+        tried = 0
+        while tried < 4000:
+            mode, r, m, room = generate.one_case(rng)
+            reply = casefile.judge(mode, r, m, room)
+            if reply.accepted or not 2 <= reply.refusal[2] <= 9:
+                continue
+            tried += 1
+            file, line, number = reply.refusal
+            whole = r if file == 1 else m
+            lines = whole.split(b"\n")
+            upto = b"\n".join(lines[:line])
+            before = b"".join(l + b"\n" for l in lines[:line - 1])
+            for behind in (b"", b"\n", b"\n\x00\n", b"\nend_file\n" * 3):
+                other = upto + behind
+                got = casefile.judge(mode, other if file == 1 else r,
+                                     other if file == 2 else m, room)
+                self.assertEqual(got.refusal, reply.refusal)
+            got = casefile.judge(mode, before if file == 1 else r,
+                                 before if file == 2 else m, room)
+            if got.refusal is not None and got.refusal[0] == file and 2 <= got.refusal[2] <= 10:
+                self.assertEqual(got.refusal, (file, line, 10))
+            else:       # the fault stood behind end_file
+                self.assertIn(number, (2, 3, 4, 5))
+
+    def test_blank_lines_move_only_the_line(self):
+        rng = random.Random(6)
+        for _ in range(2000):
+            mode, r, m, room = generate.one_case(rng)
+            one = casefile.judge(mode, r, m, room)
+            two = casefile.judge(mode, b"\n/* */\r\n" + r, m, room)
+            if one.accepted:
+                self.assertTrue(two.accepted)
+                self.assertEqual(two.tables["points"], one.tables["points"])
+            elif one.refusal[0] == 1 and one.refusal[1]:
+                file, line, number = one.refusal
+                self.assertEqual(two.refusal, (file, line + 2, number))
+            else:
+                self.assertEqual(two.refusal, one.refusal)
+
+
+class Files(unittest.TestCase):
+    def test_files_agree(self):
+        here = os.path.dirname(os.path.abspath(__file__))
+        for name, want in (("cases.bin", "expected.txt"), ("random.bin", "random.txt")):
+            path = os.path.join(here, name)
+            if not os.path.exists(path):
+                continue
+            with open(path, "rb") as f:
+                data = f.read()
+            out = io.StringIO()
+            for k, (mode, r, m, room) in enumerate(casefile.decode(data), 1):
+                out.write(casefile.expected(k, mode, casefile.judge(mode, r, m, room)))
+            with open(os.path.join(here, want)) as f:
+                self.assertTrue(out.getvalue() == f.read(), name)
+
+
+@unittest.skipUnless(SLOW, "only with --slow")
+class Large(unittest.TestCase):
+    MOST = 16_777_215
+
+    def timed(self, label, call):
+        start = time.time()
+        got = call()
+        print("%s: %s, %.1f s" % (label, got.refusal or "ok", time.time() - start))
+        return got
+
+    def test_sizes(self):
+        r, m = text(YARD_A), text(ROUND_1)
+        full = r + b"\n" * (self.MOST - len(r))
+        self.assertTrue(self.timed("blank lines", lambda: read_rndf(full, WIDE)).accepted)
+        self.assertEqual(read_rndf(full + b"\n", WIDE).refusal, (1, 0, 1))
+        full_m = m + b"\n" * (self.MOST - len(m))
+        self.assertTrue(self.timed("blank MDF", lambda: read_pair(r, full_m, WIDE)).accepted)
+        self.assertEqual(read_pair(r, full_m + b"x", WIDE).refusal, (2, 0, 1))
+        self.assertEqual(read_pair(b"", full_m + b"x", WIDE).refusal, (1, 1, 10))
+        self.assertEqual(read_pair(r, full_m + b"x", dict(WIDE, points=0)).refusal, (1, 0, 11))
+        one_line = b"x" * self.MOST
+        self.assertEqual(read_rndf(one_line, WIDE).refusal, (1, 1, 2))
+        self.assertEqual(read_rndf(b"\n" * self.MOST, WIDE).refusal, (1, self.MOST + 1, 10))
+
+    def test_house_writing_one_byte_over(self):
+        """A text of the largest size without its final LF has a house writing
+        one byte longer: 19 by size alone."""
+        head = lambda n: text(["RNDF_name>" + "n" * n] + YARD_A[1:7])
+        tail = text(YARD_A[9:])
+        stop = b"stop\t1.1.1\n"
+        spare = self.MOST + 1 - len(tail) - len(head(1))
+        count, name = divmod(spare, len(stop))
+        if name == 0:
+            count, name = count - 1, len(stop)
+        whole = head(1 + name) + stop * count + tail
+        self.assertEqual(len(whole), self.MOST + 1)
+        room = dict(WIDE, stops=count)
+        got = self.timed("many stops", lambda: write_rndf(whole[:-1], room, self.MOST + 9))
+        self.assertEqual(got.refusal, (1, 0, 19))
+        self.assertEqual(read_rndf(whole, room).refusal, (1, 0, 1))
+        shorter = head(name) + stop * count + tail
+        got = self.timed("fits", lambda: write_rndf(shorter, room, self.MOST))
+        self.assertEqual(got.output, shorter)
+
+
+if __name__ == "__main__":
+    unittest.main(argv=[a for a in sys.argv if a != "--slow"])
