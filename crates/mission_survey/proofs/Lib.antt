@@ -1,0 +1,3 @@
+-- Laws of the survey of an MDF.
+pub mod Steps
+pub mod Theorems

@@ -1,0 +1,4 @@
+-- Laws of the survey.
+pub mod Steps
+pub mod Walking
+pub mod Theorems
