@@ -7,7 +7,7 @@ use native.Mathlib.Omega.{arith}
 use lib.ListN.{length}
 use Rattle.grammar.specs.Statements.{Statement, lines, say, ofKind, Only, format-version, creation-date, RNDF-name, num-segments, num-zones, end-file}
 use Rattle.grammar.specs.Network.{Network, FileOptions, SpellsNetwork}
-use Rattle.grammar.specs.Tables.{no-lane, no-spot, no-segment, no-zone, gather, zone-points, first-zone-point, all-lanes, file-row, tables-with, tables-as-read}
+use Rattle.grammar.specs.Tables.{no-lane, no-spot, no-segment, no-zone, gather, zone-points, first-zone-point, all-lanes, file-row, tables-with, tables-unresolved}
 use Rattle.fill.specs.NetworkRows.{State, state, start, Rows, no-rows, _⊕_, next, with-file, file-named, tabled, fill}
 use Rattle.fill.proofs.Folds.{one, as-rows}
 use Rattle.fill.proofs.Lines.{own, options-by}
@@ -69,13 +69,13 @@ module _ {N : Type 0} where
       }))
 
   -- rows-of, table by table
-  tables-of : (n : Network N) → tabled (file-row n) (rows-of n) ≡ tables-as-read n
+  tables-of : (n : Network N) → tabled (file-row n) (rows-of n) ≡ tables-unresolved n
   unfolding tables-with
   tables-of n = let a = of-segments 0 0 (n .segments) in
-      λ i. record { file = file-row n; segments = append-nil (a .segments) i; lanes = append-nil (a .lanes) i; zones = tables-as-read n .zones; spots = tables-as-read n .spots; points = tables-as-read n .points; checkpoints = tables-as-read n .checkpoints; stops = append-nil (a .stops) i; exits = tables-as-read n .exits }
+      λ i. record { file = file-row n; segments = append-nil (a .segments) i; lanes = append-nil (a .lanes) i; zones = tables-unresolved n .zones; spots = tables-unresolved n .spots; points = tables-unresolved n .points; checkpoints = tables-unresolved n .checkpoints; stops = append-nil (a .stops) i; exits = tables-unresolved n .exits }
 
   -- statements that spell a network fill its tables, the file's row among them; entries are still identifiers
-  pub network-fills : (blank : N) (n : Network N) (u : List (Statement N)) → SpellsNetwork n u → fill blank u ≡ tables-as-read n
+  pub network-fills : (blank : N) (n : Network N) (u : List (Statement N)) → SpellsNetwork n u → fill blank u ≡ tables-unresolved n
   unfolding fill
   network-fills blank n u s = let f = spelled-fills blank n u s in
       ap₂ (λ (t : State N) (o : Rows N). tabled (t .file) o) (f .left) (f .rows-are) ∙ tables-of n

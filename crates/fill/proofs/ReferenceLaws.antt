@@ -11,7 +11,7 @@ use Rattle.terms.specs.Words.{Each, Among, perhaps}
 use Rattle.terms.proofs.Lists.{each-map}
 use Rattle.grammar.specs.Statements.{Statement, PointId}
 use Rattle.grammar.specs.Network.{Checkpoint, Exit, Network, SpellsNetwork}
-use Rattle.grammar.specs.Tables.{ExitRow, Tables, gather, along, lane-size, zone-size, checkpoint-row, spot-checkpoint, exit-row, over-spots, all-lanes, first-zone-point, segment-row, point-row, tables-with, tables-as-read, tables}
+use Rattle.grammar.specs.Tables.{ExitRow, Tables, gather, along, lane-size, zone-size, checkpoint-row, spot-checkpoint, exit-row, over-spots, all-lanes, first-zone-point, segment-row, point-row, tables-with, tables-unresolved, tables}
 use Rattle.grammar.specs.References.{Declared, Different, all-exits, all-numbers, parts, Sound}
 use Rattle.grammar.proofs.Rows.{each-of-map}
 use Rattle.grammar.proofs.PointRows.{lanes-in}
@@ -78,7 +78,7 @@ spot-number p (some c) = refl
 
 module _ {N : Type 0} where
   -- the rows' entries by any f
-  pub exits-with : {E : Type 0} (f : PointId → E) (n : Network N) → map (with-entry f) (tables-as-read n .exits) ≡ tables-with f n .exits
+  pub exits-with : {E : Type 0} (f : PointId → E) (n : Network N) → map (with-entry f) (tables-unresolved n .exits) ≡ tables-with f n .exits
   unfolding tables-with
   exits-with {E} f n =
       map-append (with-entry f) (along lane-size (λ first a. map (exit-row (λ e. e) first) (a .exits)) 0 (all-lanes n)) (along zone-size (λ first z. map (exit-row (λ e. e) first) (z .border .exits)) (first-zone-point n) (n .zones))
@@ -117,29 +117,29 @@ module _ {N : Type 0} where
   abbrev pub all-entries : Network N → List PointId
   all-entries n = map (λ e. e .entry) (all-exits n)
 
-  pub undeclared-decides : (n : Network N) → Decides (entry-fault (tables-as-read n)) (Undeclared n)
+  pub undeclared-decides : (n : Network N) → Decides (entry-fault (tables-unresolved n)) (Undeclared n)
   undeclared-decides n = record {
-    told = λ front e k h. go (resolve-in (tables-as-read n) e) refl h;
+    told = λ front e k h. go (resolve-in (tables-unresolved n) e) refl h;
     tells = λ front e k f. rw (not-found n e (f .not), f .number);
   }
     where
-      go : {e : PointId} {k : ℕ} {front : List PointId} (o : Option ℕ) → resolve-in (tables-as-read n) e ≡ o → unless-found o ≡ some k → Undeclared n front e k
+      go : {e : PointId} {k : ℕ} {front : List PointId} (o : Option ℕ) → resolve-in (tables-unresolved n) e ≡ o → unless-found o ≡ some k → Undeclared n front e k
       go {e} none q h = record { not = not-declared n e q; number = cc }
       go (some i) q h = absurd (let z : _≡_ {A = ℕ} 0 1 = cc in omega arith)
 
   -- the first row that resolve fails for is the first exit line whose entry is not declared
-  pub first-undeclared-right : (n : Network N) (x : Fault) → first-undeclared (tables-as-read n) ≡ some x → First (Undeclared n) [] (all-entries n) (x .row) (x .number)
-  first-undeclared-right n x h = subst (λ (l : List PointId). First (Undeclared n) [] l (x .row) (x .number)) (entries-in-order (λ e. e) n) (first-right (undeclared-decides n) [] (map (λ a. a .entry) (tables-as-read n .exits)) x h)
+  pub first-undeclared-right : (n : Network N) (x : Fault) → first-undeclared (tables-unresolved n) ≡ some x → First (Undeclared n) [] (all-entries n) (x .row) (x .number)
+  first-undeclared-right n x h = subst (λ (l : List PointId). First (Undeclared n) [] l (x .row) (x .number)) (entries-in-order (λ e. e) n) (first-right (undeclared-decides n) [] (map (λ a. a .entry) (tables-unresolved n .exits)) x h)
 
-  pub first-undeclared-only : (n : Network N) (i k : ℕ) → First (Undeclared n) [] (all-entries n) i k → first-undeclared (tables-as-read n) ≡ some (fault i k)
-  first-undeclared-only n i k f = first-only (undeclared-decides n) [] (map (λ a. a .entry) (tables-as-read n .exits)) i k (subst (λ (l : List PointId). First (Undeclared n) [] l i k) (sym (entries-in-order (λ e. e) n)) f)
+  pub first-undeclared-only : (n : Network N) (i k : ℕ) → First (Undeclared n) [] (all-entries n) i k → first-undeclared (tables-unresolved n) ≡ some (fault i k)
+  first-undeclared-only n i k f = first-only (undeclared-decides n) [] (map (λ a. a .entry) (tables-unresolved n .exits)) i k (subst (λ (l : List PointId). First (Undeclared n) [] l i k) (sym (entries-in-order (λ e. e) n)) f)
 
   -- no entry undeclared is every entry declared
-  faultless-declared : (n : Network N) (front l : List PointId) → Faultless (Undeclared n) front l → Each (λ e. resolve-in (tables-as-read n) e ≡ some (point-row n e)) l
+  faultless-declared : (n : Network N) (front l : List PointId) → Faultless (Undeclared n) front l → Each (λ e. resolve-in (tables-unresolved n) e ≡ some (point-row n e)) l
   faultless-declared n front [] h = tt
-  faultless-declared n front (e ∷ l) h = (go (resolve-in (tables-as-read n) e) refl, faultless-declared n (front ++ (e ∷ [])) l (h .1))
+  faultless-declared n front (e ∷ l) h = (go (resolve-in (tables-unresolved n) e) refl, faultless-declared n (front ++ (e ∷ [])) l (h .1))
     where
-      go : (o : Option ℕ) → resolve-in (tables-as-read n) e ≡ o → resolve-in (tables-as-read n) e ≡ some (point-row n e)
+      go : (o : Option ℕ) → resolve-in (tables-unresolved n) e ≡ o → resolve-in (tables-unresolved n) e ≡ some (point-row n e)
       go none q = absurd (h .0 12 (record { not = not-declared n e q; number = refl }))
       go (some i) q = found n e (found-declared n e i q)
 
@@ -147,39 +147,39 @@ module _ {N : Type 0} where
   declared-faultless n front [] d = tt
   declared-faultless n front (e ∷ l) d = (λ k f. f .not (d .0), declared-faultless n (front ++ (e ∷ [])) l (d .1))
 
-  pub no-undeclared : (n : Network N) → first-undeclared (tables-as-read n) ≡ none → Each (λ e. Declared n (e .entry)) (all-exits n)
+  pub no-undeclared : (n : Network N) → first-undeclared (tables-unresolved n) ≡ none → Each (λ e. Declared n (e .entry)) (all-exits n)
   no-undeclared n h =
-      let a = none-right (undeclared-decides n) [] (map (λ a. a .entry) (tables-as-read n .exits)) h in
-      let b = faultless-declared n [] (map (λ a. a .entry) (tables-as-read n .exits)) a in
-      let c = each-map (λ e. resolve-in (tables-as-read n) e ≡ some (point-row n e)) (Declared n) (λ e q. found-declared n e (point-row n e) q) (map (λ a. a .entry) (tables-as-read n .exits)) b in
+      let a = none-right (undeclared-decides n) [] (map (λ a. a .entry) (tables-unresolved n .exits)) h in
+      let b = faultless-declared n [] (map (λ a. a .entry) (tables-unresolved n .exits)) a in
+      let c = each-map (λ e. resolve-in (tables-unresolved n) e ≡ some (point-row n e)) (Declared n) (λ e q. found-declared n e (point-row n e) q) (map (λ a. a .entry) (tables-unresolved n .exits)) b in
       each-by-map (Declared n) (λ e. e .entry) (all-exits n) (subst (Each (Declared n)) (entries-in-order (λ e. e) n) c)
 
-  pub declared-none : (n : Network N) → Each (λ e. Declared n (e .entry)) (all-exits n) → first-undeclared (tables-as-read n) ≡ none
-  declared-none n d = none-only (undeclared-decides n) [] (map (λ a. a .entry) (tables-as-read n .exits))
+  pub declared-none : (n : Network N) → Each (λ e. Declared n (e .entry)) (all-exits n) → first-undeclared (tables-unresolved n) ≡ none
+  declared-none n d = none-only (undeclared-decides n) [] (map (λ a. a .entry) (tables-unresolved n .exits))
       (subst (Faultless (Undeclared n) []) (sym (entries-in-order (λ e. e) n)) (declared-faultless n [] (all-entries n) (each-of-map (Declared n) (λ e. e .entry) (all-exits n) d)))
 
   -- ## Both
-  pub sound-by : (n : Network N) → first-undeclared (tables-as-read n) ≡ none → first-repeat (numbers-of (tables-as-read n)) ≡ none → Sound n
-  sound-by n e h = record { entries = no-undeclared n e; numbers = subst Different (numbers-in-order (λ e. e) n) (no-repeat (numbers-of (tables-as-read n)) h) }
+  pub sound-by : (n : Network N) → first-undeclared (tables-unresolved n) ≡ none → first-repeat (numbers-of (tables-unresolved n)) ≡ none → Sound n
+  sound-by n e h = record { entries = no-undeclared n e; numbers = subst Different (numbers-in-order (λ e. e) n) (no-repeat (numbers-of (tables-unresolved n)) h) }
 
-  pub sound-only : (n : Network N) → Sound n → (first-undeclared (tables-as-read n) ≡ none) × (first-repeat (numbers-of (tables-as-read n)) ≡ none)
-  sound-only n s = (declared-none n (s .entries), different-no-repeat (numbers-of (tables-as-read n)) (subst Different (sym (numbers-in-order (λ e. e) n)) (s .numbers)))
+  pub sound-only : (n : Network N) → Sound n → (first-undeclared (tables-unresolved n) ≡ none) × (first-repeat (numbers-of (tables-unresolved n)) ≡ none)
+  sound-only n s = (declared-none n (s .entries), different-no-repeat (numbers-of (tables-unresolved n)) (subst Different (sym (numbers-in-order (λ e. e) n)) (s .numbers)))
 
   -- ## The tables with the entries resolved
   same-others : (n : Network N) (es : List (ExitRow ℕ)) → es ≡ tables n .exits
-      → _≡_ {A = Tables N ℕ} (record { file = tables-as-read n .file; segments = tables-as-read n .segments; lanes = tables-as-read n .lanes; zones = tables-as-read n .zones; spots = tables-as-read n .spots; points = tables-as-read n .points; checkpoints = tables-as-read n .checkpoints; stops = tables-as-read n .stops; exits = es }) (tables n)
+      → _≡_ {A = Tables N ℕ} (record { file = tables-unresolved n .file; segments = tables-unresolved n .segments; lanes = tables-unresolved n .lanes; zones = tables-unresolved n .zones; spots = tables-unresolved n .spots; points = tables-unresolved n .points; checkpoints = tables-unresolved n .checkpoints; stops = tables-unresolved n .stops; exits = es }) (tables n)
   unfolding tables-with
   same-others n es e = λ i. record { file = tables n .file; segments = tables n .segments; lanes = tables n .lanes; zones = tables n .zones; spots = tables n .spots; points = tables n .points; checkpoints = tables n .checkpoints; stops = tables n .stops; exits = e i }
 
-  pub exits-resolved : (n : Network N) → Each (λ e. Declared n (e .entry)) (all-exits n) → resolved (tables-as-read n) ≡ tables n
+  pub exits-resolved : (n : Network N) → Each (λ e. Declared n (e .entry)) (all-exits n) → resolved (tables-unresolved n) ≡ tables n
   unfolding resolved
   exits-resolved n d =
       let a = each-of-map (Declared n) (λ (e : Exit). e .entry) (all-exits n) d in
-      let b = each-by-map (Declared n) (λ (a : ExitRow PointId). a .entry) (tables-as-read n .exits) (subst (Each (Declared n)) (sym (entries-in-order (λ e. e) n)) a) in
-      same-others n (resolved (tables-as-read n) .exits)
-      (map-each (with-entry (λ e. or-zero (resolve-in (tables-as-read n) e))) (with-entry (point-row n)) (tables-as-read n .exits)
-      (each-map (λ a. Declared n (a .entry)) (λ a. with-entry (λ e. or-zero (resolve-in (tables-as-read n) e)) a ≡ with-entry (point-row n) a)
-      (λ a d. ap (λ (o : Option ℕ). record { point = a .point; entry = or-zero o }) (found n (a .entry) d)) (tables-as-read n .exits) b)
+      let b = each-by-map (Declared n) (λ (a : ExitRow PointId). a .entry) (tables-unresolved n .exits) (subst (Each (Declared n)) (sym (entries-in-order (λ e. e) n)) a) in
+      same-others n (resolved (tables-unresolved n) .exits)
+      (map-each (with-entry (λ e. or-zero (resolve-in (tables-unresolved n) e))) (with-entry (point-row n)) (tables-unresolved n .exits)
+      (each-map (λ a. Declared n (a .entry)) (λ a. with-entry (λ e. or-zero (resolve-in (tables-unresolved n) e)) a ≡ with-entry (point-row n) a)
+      (λ a d. ap (λ (o : Option ℕ). record { point = a .point; entry = or-zero o }) (found n (a .entry) d)) (tables-unresolved n .exits) b)
       ∙ exits-with (point-row n) n)
 
   -- the whole: statements that spell a network with right references fill document 01's tables
@@ -187,11 +187,11 @@ module _ {N : Type 0} where
   fill-resolved blank n u s d = ap resolved (network-fills blank n u s) ∙ exits-resolved n d
 
   -- resolving changes no count
-  pub sizes-with : {E : Type 0} (f : PointId → E) (n : Network N) → sizes (tables-with f n) ≡ sizes (tables-as-read n)
+  pub sizes-with : {E : Type 0} (f : PointId → E) (n : Network N) → sizes (tables-with f n) ≡ sizes (tables-unresolved n)
   unfolding tables-with
   sizes-with {E} f n =
-      let e = sym (ap (λ (l : List (ExitRow E)). length l) (exits-with f n)) ∙ length-map (tables-as-read n .exits) (with-entry f) in
-      let c = sizes (tables-as-read n) in
+      let e = sym (ap (λ (l : List (ExitRow E)). length l) (exits-with f n)) ∙ length-map (tables-unresolved n .exits) (with-entry f) in
+      let c = sizes (tables-unresolved n) in
       λ i. record { segments = c .segments; lanes = c .lanes; zones = c .zones; spots = c .spots; points = c .points; checkpoints = c .checkpoints; stops = c .stops; exits = e i }
 
   pub tables-declared : (n : Network N) (u : List (Statement N)) → SpellsNetwork n u → sizes (tables n) ≡ declared u

@@ -7,7 +7,7 @@ use native.Mathlib.Omega.{arith}
 use Rattle.grammar.specs.Language.{asKind}
 use Rattle.grammar.specs.Statements.{Statement, PointId, CheckpointLine, ExitLine, lines, ofKind, checkpoint, exit}
 use Rattle.grammar.specs.Network.{Network, SpellsNetwork}
-use Rattle.grammar.specs.Tables.{Tables, tables-as-read}
+use Rattle.grammar.specs.Tables.{Tables, tables-unresolved}
 use Rattle.grammar.specs.References.{Sound}
 use Rattle.grammar.proofs.LanguageLaws.{as-inv}
 use Rattle.fill.specs.NetworkRows.{start, fill}
@@ -37,7 +37,7 @@ module _ {N : Type 0} where
       (first-said (lines N) checkpoint (λ v. v .number) number-fault u ∙ ap (λ (l : List ℕ). placed (lines N) checkpoint u (first-fault number-fault [] l)) (sym (h .numbers)))
 
   -- ## Right, and only that
-  pub reference-decides : (n : Network N) → Decides (reference-fault (tables-as-read n)) (ReferenceFault n)
+  pub reference-decides : (n : Network N) → Decides (reference-fault (tables-unresolved n)) (ReferenceFault n)
   reference-decides n = record {
     told = λ front x k h. right front x k (asKind (lines N) exit x) (asKind (lines N) checkpoint x) refl refl h;
     tells = only;
@@ -49,17 +49,17 @@ module _ {N : Type 0} where
       number front x k (some v) q h = let ns = map (λ (c : CheckpointLine). c .number) (ofKind checkpoint front) in let t = fault-if-told (is-among (v .number) ns) 13 k h in
           repeated v (as-inv (lines N) checkpoint x v q) (is-among-true (v .number) ns (t .0)) (t .1)
 
-      entry : (front : List (Statement N)) (x : Statement N) (k : ℕ) (v : ExitLine) (i : Option ℕ) (o : Option CheckpointLine) → asKind (lines N) exit x ≡ some v → resolve-in (tables-as-read n) (v .entry) ≡ i → asKind (lines N) checkpoint x ≡ o
+      entry : (front : List (Statement N)) (x : Statement N) (k : ℕ) (v : ExitLine) (i : Option ℕ) (o : Option CheckpointLine) → asKind (lines N) exit x ≡ some v → resolve-in (tables-unresolved n) (v .entry) ≡ i → asKind (lines N) checkpoint x ≡ o
           → or-else (unless-found i) (on (λ v. number-fault (map (λ c. c .number) (ofKind checkpoint front)) (v .number)) o) ≡ some k → ReferenceFault n front x k
       entry front x k v none o q r c h = undeclared v (as-inv (lines N) exit x v q) (not-declared n (v .entry) r) (cc)
       entry front x k v (some i) o q r c h = number front x k o c h
 
       right : (front : List (Statement N)) (x : Statement N) (k : ℕ) (e : Option ExitLine) (o : Option CheckpointLine) → asKind (lines N) exit x ≡ e → asKind (lines N) checkpoint x ≡ o
-          → or-else (on (λ v. entry-fault (tables-as-read n) [] (v .entry)) e) (on (λ v. number-fault (map (λ c. c .number) (ofKind checkpoint front)) (v .number)) o) ≡ some k → ReferenceFault n front x k
+          → or-else (on (λ v. entry-fault (tables-unresolved n) [] (v .entry)) e) (on (λ v. number-fault (map (λ c. c .number) (ofKind checkpoint front)) (v .number)) o) ≡ some k → ReferenceFault n front x k
       right front x k none o q c h = number front x k o c h
-      right front x k (some v) o q c h = entry front x k v (resolve-in (tables-as-read n) (v .entry)) o q refl c h
+      right front x k (some v) o q c h = entry front x k v (resolve-in (tables-unresolved n) (v .entry)) o q refl c h
 
-      only : (front : List (Statement N)) (x : Statement N) (k : ℕ) → ReferenceFault n front x k → reference-fault (tables-as-read n) front x ≡ some k
+      only : (front : List (Statement N)) (x : Statement N) (k : ℕ) → ReferenceFault n front x k → reference-fault (tables-unresolved n) front x ≡ some k
       only front x k (undeclared v e d q) = rw (e, not-found n (v .entry) d, q)
       only front x k (repeated v e m q) = rw (e, among-is (v .number) (map (λ c. c .number) (ofKind checkpoint front)) m, q)
 

@@ -12,7 +12,7 @@ use borrow.Author.Tests.{ltb-true, ltb-false, leb-true, eqb-true, eqb-false, lt-
 use Rattle.terms.specs.Words.{pick}
 use Rattle.grammar.specs.Statements.{PointId}
 use Rattle.grammar.specs.Network.{Lane, Segment, Zone, Network}
-use Rattle.grammar.specs.Tables.{SegmentRow, LaneRow, row-of, no-lane, no-segment, no-zone, lane-size, lane-row, segment-row, zone-size, zone-rows-from, all-lanes, segment-rows, lane-rows, zone-rows, part-row, point-row, tables-with, tables-as-read, first-zone-point}
+use Rattle.grammar.specs.Tables.{SegmentRow, LaneRow, row-of, no-lane, no-segment, no-zone, lane-size, lane-row, segment-row, zone-size, zone-rows-from, all-lanes, segment-rows, lane-rows, zone-rows, part-row, point-row, tables-with, tables-unresolved, first-zone-point}
 use Rattle.grammar.specs.References.{Nth, first, later, Declared, waypoint, border}
 use Rattle.grammar.proofs.NthRows.{before, one-up, nth-le, nth-along, nth-gather}
 use Rattle.grammar.proofs.PointRows.{lanes-in}
@@ -107,7 +107,7 @@ module _ {N : Type 0} where
   }
 
   -- what is looked up in a network's tables
-  looked : (n : Network N) (e : PointId) → resolve-in (tables-as-read n) e ≡ resolve (M n) (K n) e
+  looked : (n : Network N) (e : PointId) → resolve-in (tables-unresolved n) e ≡ resolve (M n) (K n) e
   unfolding tables-with
   looked n e = ap (λ (m : ℕ). resolve m (K n) e) (one-each lanes-in segment-row 0 (n .segments))
 
@@ -124,7 +124,7 @@ module _ {N : Type 0} where
       ap (K n .lane-points) w ∙ ap (λ (r : LaneRow). r .points) (nth-along lane-size lane-row no-lane 0 lane)
 
   -- ## Declared is found, at its row
-  pub found : (n : Network N) (e : PointId) → Declared n e → resolve-in (tables-as-read n) e ≡ some (point-row n e)
+  pub found : (n : Network N) (e : PointId) → Declared n e → resolve-in (tables-unresolved n) e ≡ some (point-row n e)
   found n e (waypoint s a i j b) =
       let u = one-up i in let v = one-up j in
       let p = b .low in let q = b .high in
@@ -167,7 +167,7 @@ module _ {N : Type 0} where
       let t = nth-of (n .zones) (e .x - M n) (omega arith) (omega arith) in
       border (e .x - M n) (t .0) (w .y) (omega arith) (t .1) (record { low = omega arith; high = rw (← zone-at (first-zone-point n) 0 (t .1)) (w .count) })
 
-  pub found-declared : (n : Network N) (e : PointId) (r : ℕ) → resolve-in (tables-as-read n) e ≡ some r → Declared n e
+  pub found-declared : (n : Network N) (e : PointId) (r : ℕ) → resolve-in (tables-unresolved n) e ≡ some r → Declared n e
   found-declared n e r h = go (finds-by (M n) (K n) e r (sym (looked n e) ∙ h))
     where
       go : Way (K n) e r ⊎ Border (M n) (K n) e r → Declared n e
@@ -175,16 +175,16 @@ module _ {N : Type 0} where
       go (inr w) = by-border-only n e r w
 
   -- it is the point's row
-  pub found-row : (n : Network N) (e : PointId) (r : ℕ) → resolve-in (tables-as-read n) e ≡ some r → r ≡ point-row n e
+  pub found-row : (n : Network N) (e : PointId) (r : ℕ) → resolve-in (tables-unresolved n) e ≡ some r → r ≡ point-row n e
   found-row n e r h = Option·some-injective r (point-row n e) (sym h ∙ found n e (found-declared n e r h))
 
   -- ## Not found is not declared
-  pub not-found : (n : Network N) (e : PointId) → (Declared n e → ⊥) → resolve-in (tables-as-read n) e ≡ none
-  not-found n e h = go (resolve-in (tables-as-read n) e) refl
+  pub not-found : (n : Network N) (e : PointId) → (Declared n e → ⊥) → resolve-in (tables-unresolved n) e ≡ none
+  not-found n e h = go (resolve-in (tables-unresolved n) e) refl
     where
-      go : (o : Option ℕ) → resolve-in (tables-as-read n) e ≡ o → resolve-in (tables-as-read n) e ≡ none
+      go : (o : Option ℕ) → resolve-in (tables-unresolved n) e ≡ o → resolve-in (tables-unresolved n) e ≡ none
       go none q = q
       go (some r) q = absurd (h (found-declared n e r q))
 
-  pub not-declared : (n : Network N) (e : PointId) → resolve-in (tables-as-read n) e ≡ none → Declared n e → ⊥
+  pub not-declared : (n : Network N) (e : PointId) → resolve-in (tables-unresolved n) e ≡ none → Declared n e → ⊥
   not-declared n e q d = let f = found n e d in let z : _≡_ {A = ℕ} 0 1 = cc in omega arith

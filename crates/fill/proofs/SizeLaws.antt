@@ -6,7 +6,7 @@ use native.Mathlib.Omega.{arith}
 use lib.ListN.{length, length-append}
 use Rattle.grammar.specs.Statements.{Statement, ofKind, PointId, num-segments, num-zones, num-lanes, num-waypoints, num-spots, num-perimeterpoints, checkpoint, stop, exit}
 use Rattle.grammar.specs.Network.{Zone, Network, SpellsNetwork}
-use Rattle.grammar.specs.Tables.{Tables, gather, lane-size, zone-size, spot-row, lane-row, segment-row, zone-points, zone-rows-from, over-spots, all-lanes, lane-points, first-zone-point, tables-with, tables-as-read}
+use Rattle.grammar.specs.Tables.{Tables, gather, lane-size, zone-size, spot-row, lane-row, segment-row, zone-points, zone-rows-from, over-spots, all-lanes, lane-points, first-zone-point, tables-with, tables-unresolved}
 use Rattle.grammar.proofs.Rows.{total, length-gather}
 use Rattle.grammar.proofs.RowsInside.{zone-size-is}
 use Rattle.fill.specs.NetworkRows.{start, rows, fill}
@@ -44,7 +44,7 @@ module _ {N : Type 0} where
     exits = c .exits;
   }
 
-  sizes-are : (n : Network N) → sizes (tables-as-read n) ≡ size-of n (sizes (tables-as-read n))
+  sizes-are : (n : Network N) → sizes (tables-unresolved n) ≡ size-of n (sizes (tables-unresolved n))
   unfolding tables-with
   sizes-are n =
       let a = one-each (λ s. length (s .lanes)) segment-row 0 (n .segments) in
@@ -52,7 +52,7 @@ module _ {N : Type 0} where
       let c = zone-each (first-zone-point n) 0 (n .zones) in
       let d = length-along zone-size (λ z. length (z .spots)) (over-spots (λ first s. spot-row first s ∷ [])) (λ p z. one-each (λ s. 2) spot-row (p + length (z .border .points)) (z .spots)) (first-zone-point n) (n .zones) in
       let e = length-append (lane-points n) (gather zone-points (n .zones)) ∙ ap₂ (λ (x y : ℕ). x + y) (length-gather (λ b. b .points) (all-lanes n)) (length-gather zone-points (n .zones)) in
-      λ i. record { segments = a i; lanes = b i; zones = c i; spots = d i; points = e i; checkpoints = sizes (tables-as-read n) .checkpoints; stops = sizes (tables-as-read n) .stops; exits = sizes (tables-as-read n) .exits }
+      λ i. record { segments = a i; lanes = b i; zones = c i; spots = d i; points = e i; checkpoints = sizes (tables-unresolved n) .checkpoints; stops = sizes (tables-unresolved n) .stops; exits = sizes (tables-unresolved n) .exits }
 
   declared-are : (n : Network N) (u : List (Statement N)) → CountLines n u → declared u ≡ size-of n (declared u)
   declared-are n u c =
@@ -88,15 +88,15 @@ module _ {N : Type 0} where
       λ i. record { segments = segments i; lanes = lanes i; zones = zones i; spots = spots i; points = points i; checkpoints = checkpoints i; stops = stops i; exits = exits i }
 
   -- the rows of a spelled network's tables are as many as its statements declare
-  pub sizes-declared : (n : Network N) (u : List (Statement N)) → SpellsNetwork n u → sizes (tables-as-read n) ≡ declared u
+  pub sizes-declared : (n : Network N) (u : List (Statement N)) → SpellsNetwork n u → sizes (tables-unresolved n) ≡ declared u
   unfolding fill
   sizes-declared n u s =
       let h = line-counts u (start (n .name)) in
-      let same : sizes (fill (n .name) u) ≡ sizes (tables-as-read n) = ap (λ (t : Tables N PointId). sizes t) (network-fills (n .name) n u s) in
-      let checkpoints : sizes (tables-as-read n) .checkpoints ≡ length (ofKind checkpoint u) = sym (ap (λ (c : Counts). c .checkpoints) same) ∙ h .checkpoints in
-      let stops : sizes (tables-as-read n) .stops ≡ length (ofKind stop u) = sym (ap (λ (c : Counts). c .stops) same) ∙ h .stops in
-      let exits : sizes (tables-as-read n) .exits ≡ length (ofKind exit u) = sym (ap (λ (c : Counts). c .exits) same) ∙ h .exits in
-      let lined : size-of n (sizes (tables-as-read n)) ≡ size-of n (declared u) = λ i. size-of n (record { segments = 0; lanes = 0; zones = 0; spots = 0; points = 0; checkpoints = checkpoints i; stops = stops i; exits = exits i }) in
+      let same : sizes (fill (n .name) u) ≡ sizes (tables-unresolved n) = ap (λ (t : Tables N PointId). sizes t) (network-fills (n .name) n u s) in
+      let checkpoints : sizes (tables-unresolved n) .checkpoints ≡ length (ofKind checkpoint u) = sym (ap (λ (c : Counts). c .checkpoints) same) ∙ h .checkpoints in
+      let stops : sizes (tables-unresolved n) .stops ≡ length (ofKind stop u) = sym (ap (λ (c : Counts). c .stops) same) ∙ h .stops in
+      let exits : sizes (tables-unresolved n) .exits ≡ length (ofKind exit u) = sym (ap (λ (c : Counts). c .exits) same) ∙ h .exits in
+      let lined : size-of n (sizes (tables-unresolved n)) ≡ size-of n (declared u) = λ i. size-of n (record { segments = 0; lanes = 0; zones = 0; spots = 0; points = 0; checkpoints = checkpoints i; stops = stops i; exits = exits i }) in
       sizes-are n ∙ lined ∙ sym (declared-are n u (count-lines n u s))
 
   -- so is what the tally counts on the way

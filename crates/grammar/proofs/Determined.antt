@@ -12,7 +12,7 @@ use Rattle.terms.proofs.Lists.{each-any, each-map}
 use Rattle.grammar.specs.Statements.{Boundary, double-yellow, solid-yellow, solid-white, broken-white, PointId, Position}
 use Rattle.grammar.specs.Network.{largest, Checkpoint, Exit, Lane, Segment, Spot, Zone, Network, GoodLane, GoodSpot}
 use Rattle.grammar.specs.Mission.{Mission}
-use Rattle.grammar.specs.Tables.{SegmentRow, LaneRow, ZoneRow, SpotRow, CheckpointRow, feet, side, gather, along, lane-size, spot-points, lane-row, spot-row, checkpoint-row, exit-row, row-of, all-lanes, zone-points, zone-size, lane-points, first-zone-point, segment-row, zone-row, zone-rows-from, over-spots, point-row, tables-with, tables-as-read, tables, mission-tables}
+use Rattle.grammar.specs.Tables.{SegmentRow, LaneRow, ZoneRow, SpotRow, CheckpointRow, feet, side, gather, along, lane-size, spot-points, lane-row, spot-row, checkpoint-row, exit-row, row-of, all-lanes, zone-points, zone-size, lane-points, first-zone-point, segment-row, zone-row, zone-rows-from, over-spots, point-row, tables-with, tables-unresolved, tables, mission-tables}
 use Rattle.grammar.specs.References.{Declared, all-exits, Sound}
 use Rattle.grammar.specs.HouseOrder.{GoodZone, GoodNetwork}
 use Rattle.grammar.proofs.Rows.{agree-both, agree-by, agree-any, equal-any, same-length, cut-at, total, total-same, length-gather, gather-agree, rows-agree, Own, blocks-agree, names-agree, halves}
@@ -290,7 +290,7 @@ pub tables-determine : {N : Type 0} (n n′ : Network N) → GoodNetwork n → G
 tables-determine n n′ g g′ s s′ t = tables-with-determine n n′ (point-row n) (point-row n′) (Declared n) (Declared n′) (point-row-injective n n′) g g′ (s .entries) (s′ .entries) t
 
 -- the same while the entries are not looked up, whether or not they are declared
-pub as-read-determine : {N : Type 0} (n n′ : Network N) → GoodNetwork n → GoodNetwork n′ → tables-as-read n ≡ tables-as-read n′ → n ≡ n′
+pub as-read-determine : {N : Type 0} (n n′ : Network N) → GoodNetwork n → GoodNetwork n′ → tables-unresolved n ≡ tables-unresolved n′ → n ≡ n′
 as-read-determine n n′ g g′ t = tables-with-determine n n′ (λ e. e) (λ e. e) (λ e. Unit {0}) (λ e. Unit {0}) (λ f e e′ u u′ q. q) g g′ (each-any (all-exits n)) (each-any (all-exits n′)) t
 
 pub mission-tables-determine : {N : Type 0} (m m′ : Mission N) → mission-tables m ≡ mission-tables m′ → m ≡ m′

@@ -205,8 +205,8 @@ module _ {N : Type 0} where
   point-row n e = row-of (part-row n (e .x) (e .y)) (e .z)
 
   -- entries still as identifiers
-  abbrev pub tables-as-read : Network N → Tables N PointId
-  tables-as-read = tables-with (λ e. e)
+  abbrev pub tables-unresolved : Network N → Tables N PointId
+  tables-unresolved = tables-with (λ e. e)
 
   -- 01: "Exit: point, point"
   abbrev pub tables : Network N → Tables N ℕ
