@@ -3,7 +3,8 @@
 
 The oracle (tests/oracle) was written from document 01 and the readings alone; it shares nothing with the product.
 A text is taken once. The program reads 64 KiB, so of each file and answer at most EACH texts are taken, spread over the
-corpus; left out are its systematic part, texts over 1 KB, and texts with the two bytes that part the cases.
+corpus, and all of those whose label has a word of ALWAYS; left out are its systematic part, texts over 1 KB, and texts
+with the two bytes that part the cases.
 Run it again after a change of the corpus:  python3 tests/survey_vectors.py
 """
 import os
@@ -16,7 +17,8 @@ import oracle   # noqa: E402
 
 LABEL_END, TEXT_END = 253, 254
 MOST = 1024
-EACH = 12
+EACH = 9
+ALWAYS = ("8 before 9", "on line")
 ROOM = 65536
 
 
@@ -71,6 +73,7 @@ def main():
     for key in sorted(groups):
         group = groups[key]
         spread = [group[i * len(group) // min(EACH, len(group))] for i in range(min(EACH, len(group)))]
+        spread += [one for one in group if one not in spread and any(word in one[0][1] for word in ALWAYS)]
         print(*key, "of", len(group), "taken", len(spread))
         for (letter, label, text), answer in spread:
             head = ("%s %s\n" % (letter, label)).encode("ascii", "replace")
