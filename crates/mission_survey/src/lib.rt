@@ -1,6 +1,6 @@
 // A text of an MDF, line by line: its first fault of 2 to 10 with the line, or how many rows of each table it needs. One loop; no table is touched.
 //
-// specs/MdfSurvey: the same, executable, from what `survey` says for every file. proofs/: it is what `text` answers of the text (Theorems).
+// specs/MdfSurvey: the same, executable, from what `survey` says for every file. proofs/: it is what `text` answers of the text (Theorems); the rows are as many as the count lines declare (Counted).
 //
 // Rests on `mission_judge`, `survey` and what they rest on.
 use mission_judge::MissionVerdict;

@@ -1,6 +1,6 @@
 // A text of an RNDF, line by line: its first fault of 2 to 10 with the line, or how many rows of each table it needs. One loop; no table is touched.
 //
-// specs/Surveying: the same, executable, for every file. proofs/: it is what `text` answers of the text (Theorems).
+// specs/Surveying: the same, executable, for every file. proofs/: it is what `text` answers of the text (Theorems); the rows are as many as the count lines declare (Counted).
 //
 // Rests on `judge`, `fill` and what they rest on.
 use judge::Verdict;
