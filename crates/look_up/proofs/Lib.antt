@@ -1,0 +1,2 @@
+-- What holds of every answer of the look-up, and of its loop.
+pub mod Answers

@@ -1,0 +1,2 @@
+-- The look-up of a checkpoint number's point.
+pub mod LookUp
