@@ -1,0 +1,176 @@
+// What a reader of an MDF knows behind each statement: the file's own row as far as it is given, and how many goals and limits there were; and the row that a statement gives.
+// No table is touched here.
+//
+// specs/Progress: the same, executable, over the program's types. proofs/Shown: it is what `fill` says of the statements of an MDF, with names as stretches,
+// missing ones 0, 0, and numbers as kinds.
+//
+// Rests on `fill`, `statement`, `rows`, `units`, `grammar` and `terms`.
+use rows::GoalRow;
+use rows::LimitRow;
+use rows::MissionFileRow;
+use rows::Stretch;
+use statement::Order;
+use units::CheckpointNumber;
+use units::CheckpointNumberRead;
+use units::Mph;
+use units::MphRead;
+use units::SegmentId;
+use units::SegmentIdRead;
+ghost use mathlib.Core.Path.{_≡_};
+ghost use Prim.Native.Nat.{_<_};
+ghost use Rattle.rows.specs.Read.{stretchOf};
+ghost use Rattle.mission_progress.specs.Kinds.{goalNumber, limitId, limitSpeed};
+ghost use Rattle.mission_progress.specs.Progress.{noneRead, total, fileAfterOf, missionAfterOf, missionRowOf};
+
+pub struct MissionProgress {
+    pub file: MissionFileRow,
+    pub goals: u32,
+    pub limits: u32,
+}
+
+// The row that one statement gives.
+pub enum MissionRow {
+    Nothing,
+    Goal(GoalRow),
+    Limit(LimitRow),
+}
+
+// A number as a kind. No place lets a number through that its constructor refuses; for all that each such number has an answer that is no value of the kind.
+fn goal_number(n: u32) -> CheckpointNumber
+    ensures { λ r. ⌜ r ≡ goalNumber n ⌝ }
+{
+    let read = CheckpointNumber::new(n);
+    match read {
+        CheckpointNumberRead::Is(number) => number,
+        CheckpointNumberRead::Refused => CheckpointNumber(0),
+    }
+}
+
+fn limit_id(n: u32) -> SegmentId
+    ensures { λ r. ⌜ r ≡ limitId n ⌝ }
+{
+    let read = SegmentId::new(n);
+    match read {
+        SegmentIdRead::Is(id) => id,
+        SegmentIdRead::Refused => SegmentId(0),
+    }
+}
+
+fn limit_speed(n: u32) -> Mph
+    ensures { λ r. ⌜ r ≡ limitSpeed n ⌝ }
+{
+    let read = Mph::new(n);
+    match read {
+        MphRead::Is(speed) => speed,
+        MphRead::Refused => Mph(65535),
+    }
+}
+
+fn name_at(start: u32, length: u32) -> Stretch
+    ensures { λ r. ⌜ r ≡ stretchOf start length ⌝ }
+{
+    Stretch {
+        start: start,
+        length: length,
+    }
+}
+
+// The file's own row behind a statement.
+fn file_after(file: MissionFileRow, o: Order) -> MissionFileRow
+    ensures { λ r. ⌜ r ≡ fileAfterOf o file ⌝ }
+{
+    let name = file.name;
+    let rndf = file.rndf;
+    let version = file.version;
+    let date = file.date;
+    match o {
+        Order::MdfName(start, length) => MissionFileRow {
+            name: name_at(start, length),
+            rndf: rndf,
+            version: version,
+            date: date,
+        },
+        Order::Rndf(start, length) => MissionFileRow {
+            name: name,
+            rndf: name_at(start, length),
+            version: version,
+            date: date,
+        },
+        Order::FormatVersion(start, length) => MissionFileRow {
+            name: name,
+            rndf: rndf,
+            version: name_at(start, length),
+            date: date,
+        },
+        Order::CreationDate(start, length) => MissionFileRow {
+            name: name,
+            rndf: rndf,
+            version: version,
+            date: name_at(start, length),
+        },
+        _ => file,
+    }
+}
+
+impl MissionProgress {
+    // Before the first statement.
+    pub fn none() -> MissionProgress
+        ensures { λ r. ⌜ r ≡ noneRead ⌝ }
+    {
+        let missing = name_at(0, 0);
+        let file = MissionFileRow {
+            name: missing,
+            rndf: missing,
+            version: missing,
+            date: missing,
+        };
+        MissionProgress {
+            file: file,
+            goals: 0,
+            limits: 0,
+        }
+    }
+
+    // Behind one more statement.
+    pub fn after(self, o: Order) -> MissionProgress
+        requires { ⌜ total self < 4294967295 ⌝ }
+        ensures { λ r. ⌜ r ≡ missionAfterOf o self ⌝ }
+    {
+        let before = self.file;
+        let file = file_after(before, o);
+        match o {
+            Order::Goal(_) => MissionProgress {
+                file: file,
+                goals: self.goals + 1,
+                limits: self.limits,
+            },
+            Order::Limit(_, _, _) => MissionProgress {
+                file: file,
+                goals: self.goals,
+                limits: self.limits + 1,
+            },
+            _ => MissionProgress {
+                file: file,
+                goals: self.goals,
+                limits: self.limits,
+            },
+        }
+    }
+}
+
+// The row that a statement gives, whatever was before it.
+pub fn mission_row(o: Order) -> MissionRow
+    ensures { λ r. ⌜ r ≡ missionRowOf o ⌝ }
+{
+    match o {
+        Order::Goal(n) => MissionRow::Goal(GoalRow {
+            number: goal_number(n),
+        }),
+        Order::Limit(id, minimum, maximum) => MissionRow::Limit(LimitRow {
+            id: limit_id(id),
+            minimum: limit_speed(minimum),
+            maximum: limit_speed(maximum),
+        }),
+        _ => MissionRow::Nothing,
+    }
+}
