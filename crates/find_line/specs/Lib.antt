@@ -1,0 +1,2 @@
+-- The line of a statement.
+pub mod FoundLines

@@ -1,0 +1,74 @@
+// The line of a statement, found again in a text that has no fault of 2 to 10: for refusals that are found in the filled tables, by a row. One walk over the lines.
+//
+// specs/FoundLines: the walk, executable. proofs/Theorems: the line is where the statement stands.
+//
+// Rests on `walk`, `judge`, `mission_judge` and what they rest on.
+use judge::Verdict;
+use judge::judge_line;
+use mission_judge::MissionVerdict;
+use mission_judge::mission_judge_line;
+use mission_place::MissionPlace;
+use place::Place;
+use scan::Until;
+use scan::scan;
+use walk::Seen;
+ghost use mathlib.Core.Path.{_≡_};
+ghost use Prim.Native.Nat.{_≤_};
+ghost use lib.ListN.{length};
+ghost use Rattle.find_line.specs.FoundLines.{most, rndfLineOf, mdfLineOf};
+
+// The line of the statement of an RNDF that is the one with the number `row`, from 0, of its kind (by its column); 0 where there is none.
+pub fn rndf_line(text: &[u8], kind: u8, row: u32) -> u32
+    requires { ⌜ length (now text) ≤ most ⌝ }
+    ensures { λ r. ⌜ r ≡ rndfLineOf (now (text .entry)) kind row ⌝ }
+{
+    let mut place = Place::start();
+    let mut seen = Seen::none();
+    let mut from: usize = 0;
+    let mut line: u32 = 1;
+    while from < text.len() {
+        let e = scan(text, from, Until::Byte(10));
+        let v = judge_line(&text[from..e], from, place);
+        match v {
+            Verdict::Blank => {}
+            Verdict::Said(s, q) => {
+                place = q;
+                seen = seen.more(s.kind() == kind, row, line);
+            }
+            Verdict::Bad(_) => {
+                return 0;
+            }
+        }
+        from = e + 1;
+        line += 1;
+    }
+    if place.is_over() { seen.line } else { 0 }
+}
+
+// The same for an MDF.
+pub fn mdf_line(text: &[u8], kind: u8, row: u32) -> u32
+    requires { ⌜ length (now text) ≤ most ⌝ }
+    ensures { λ r. ⌜ r ≡ mdfLineOf (now (text .entry)) kind row ⌝ }
+{
+    let mut place = MissionPlace::start();
+    let mut seen = Seen::none();
+    let mut from: usize = 0;
+    let mut line: u32 = 1;
+    while from < text.len() {
+        let e = scan(text, from, Until::Byte(10));
+        let v = mission_judge_line(&text[from..e], from, place);
+        match v {
+            MissionVerdict::Blank => {}
+            MissionVerdict::Said(s, q) => {
+                place = q;
+                seen = seen.more(s.kind() == kind, row, line);
+            }
+            MissionVerdict::Bad(_) => {
+                return 0;
+            }
+        }
+        from = e + 1;
+        line += 1;
+    }
+    if place.is_over() { seen.line } else { 0 }
+}

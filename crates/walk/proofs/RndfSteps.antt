@@ -1,0 +1,40 @@
+-- One line of an RNDF in a walk, as the program tells it. Assumes nothing.
+use mathlib.Core.Path.{_≡_, refl, sym, ap, _∙_}
+use Prim.Native.Nat.{ℕ, _+_, _-_, _<_}
+use lib.ListN.{length, take, drop}
+use Rattle.terms.specs.Ascii.{Bytes}
+use Rattle.scan.specs.Reach.{reach, stopsBy}
+use Rattle.scan.specs.declared.Until.the-variants.{Byte}
+use Rattle.statement.specs.declared.Statement.{Statement}
+use Rattle.place.specs.declared.Place.{Place}
+use Rattle.place.specs.Step.{overOf}
+use Rattle.judge.specs.declared.Verdict as DV
+use Rattle.judge.specs.declared.Verdict.the-variants as Verdict
+use Rattle.judge.specs.Judging.{Got, bad, blank, said, line}
+use Rattle.judge.specs.RndfLine.{rndf-judging, verdict, lineOf}
+use Rattle.walk.specs.Standing.{Where, place}
+use Rattle.walk.specs.Walking.{Found, fault, onward}
+use Rattle.walk.proofs.Cutting.{from-on, one-line}
+
+module _ {G : Type 0} (put : Where → Statement → G → G) where
+  abbrev pub after : Where → Place → G → (Place → G → Found G) → DV.Verdict → Found G
+  after w p c k (Verdict.Bad n) = fault (w .line) n
+  after w p c k Verdict.Blank = k p c
+  after w p c k (Verdict.Said s q) = k q (put w s c)
+
+  onward-is : (w : Where) (p : Place) (c : G) (k : Place → G → Found G) (g : Got Statement Place) → onward rndf-judging put overOf w p c g k ≡ after w p c k (verdict g)
+  onward-is w p c k (bad n) = refl
+  onward-is w p c k blank = refl
+  onward-is w p c k (said s q) = refl
+
+  -- the lines from a place of the text on
+  abbrev pub rest : Bytes → Place → G → ℕ → ℕ → Found G
+  rest = from-on rndf-judging put overOf
+
+  pub a-line : (s : Bytes) (from e : ℕ) → from < length s → e ≡ reach (stopsBy (Byte 10)) s from → (p : Place) (c : G) (i : ℕ) (v : DV.Verdict) → v ≡ lineOf (take (e - from) (drop from s)) from p
+      → rest s p c from i ≡ after (place from i) p c (λ q d. rest s q d (e + 1) (i + 1)) v
+  unfolding lineOf
+  a-line s from e h q p c i v w =
+      one-line rndf-judging put overOf s from e h q p c i
+      ∙ onward-is (place from i) p c (λ q d. rest s q d (e + 1) (i + 1)) (line rndf-judging (take (e - from) (drop from s)) from p)
+      ∙ ap (after (place from i) p c (λ q d. rest s q d (e + 1) (i + 1))) (sym w)
