@@ -1,0 +1,3 @@
+-- Laws of the walk over an RNDF.
+pub mod Parts
+pub mod Steps

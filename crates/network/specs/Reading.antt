@@ -1,0 +1,35 @@
+-- Executable: the walk over an RNDF's lines that stores their rows. Assumes nothing.
+use Prim.Native.Nat.{ℕ}
+use Rattle.terms.specs.Ascii.{Bytes}
+use Rattle.line.specs.Lines.{linesOf}
+use Rattle.statement.specs.declared.Statement.{Statement}
+use Rattle.place.specs.Step.{firstPlace, overOf}
+use Rattle.judge.specs.RndfLine.{rndf-judging}
+use Rattle.progress.specs.declared.Progress.{Progress}
+use Rattle.progress.specs.After.{afterOf}
+use Rattle.progress.specs.Given.{rowOf}
+use Rattle.walk.specs.Standing.{Where}
+use Rattle.walk.specs.Walking.{Found, fault, gathered, walked}
+use Rattle.network.specs.Storing.{Memory, memory, stored}
+use Rattle.network.specs.declared.Filled as DF
+use Rattle.network.specs.declared.Filled.the-variants as Filled
+
+-- 01: 1 "text over 16,777,215 bytes"
+abbrev pub most : ℕ
+most = 16777215
+
+abbrev pub with-progress : Progress → Memory → Memory
+with-progress p m = memory p (m .segments) (m .lanes) (m .zones) (m .spots) (m .points) (m .checkpoints) (m .stops) (m .exits)
+
+-- a statement on a line: its row is stored, and counted
+unfoldable pub put : Where → Statement → Memory → Memory
+put w s m = with-progress (afterOf s (m .so-far)) (stored (rowOf s (w .start) (m .so-far)) m)
+
+-- what was answered, and what the tables then hold, where there is no fault
+abbrev pub told : DF.Filled → (Progress → Memory) → Found Memory
+told (Filled.Fault i n) tables = fault i n
+told (Filled.Rows p) tables = gathered (tables p)
+
+-- tables of which there is so much so far, behind all lines of a text
+unfoldable pub filledOf : Bytes → Memory → Found Memory
+filledOf text m = walked rndf-judging put overOf firstPlace m 0 1 (linesOf text)

@@ -1,0 +1,128 @@
+// A text of an RNDF read into lent tables in one walk over its lines: the first fault of 2 to 10 with its line, or every row stored where there is room for it,
+// and how many there are of each table. Entries of exits are not looked up yet: where the exit's line starts stands for them (the crate `references`).
+//
+// specs/Storing: a row stored in the tables, executable. specs/Reading: the walk.
+// proofs/: the walk finds what `text` answers, and stores what `fill` gives (Filled).
+//
+// Rests on `walk`, `judge`, `progress`, `rows`, `fill` and what they rest on.
+use judge::Verdict;
+use judge::judge_line;
+use place::Place;
+use progress::Progress;
+use progress::Row;
+use rows::POINT_STRIDE;
+use rows::PointRow;
+use rows::store_checkpoint;
+use rows::store_exit;
+use rows::store_lane;
+use rows::store_point;
+use rows::store_segment;
+use rows::store_spot;
+use rows::store_stop;
+use rows::store_zone;
+use scan::Until;
+use scan::scan;
+ghost use mathlib.Core.Path.{_≡_};
+ghost use Prim.Native.Nat.{_≤_};
+ghost use lib.ListN.{length};
+ghost use Rattle.progress.specs.After.{noProgress};
+ghost use Rattle.network.specs.Storing.{Memory, memory, storePart, stored};
+ghost use Rattle.network.specs.Reading.{most, told, filledOf};
+
+pub enum Filled {
+    // line and number
+    Fault(u32, u8),
+    Rows(Progress),
+}
+
+// A point of the part whose first point is row `first`: the table from there on is lent to the point's writer, so that no row before it is touched.
+fn store_in_part(points: &mut [i32], first: u32, within: u32, point: PointRow)
+    ensures { λ _. ⌜ now (points .exit) ≡ storePart (now (points .entry)) first within point ⌝ }
+{
+    let at = first as usize * POINT_STRIDE;
+    if at <= points.len() {
+        store_point(&mut points[at..], within as usize, point);
+    }
+}
+
+// The row that a statement gave, behind the rows that its table has so far.
+fn store(
+    segments: &mut [u32],
+    lanes: &mut [u32],
+    zones: &mut [u32],
+    spots: &mut [u32],
+    points: &mut [i32],
+    checkpoints: &mut [u32],
+    stops: &mut [u32],
+    exits: &mut [u32],
+    gained: Progress,
+    row: Row,
+)
+    ensures { λ _. ⌜ memory gained (now (segments .exit)) (now (lanes .exit)) (now (zones .exit)) (now (spots .exit)) (now (points .exit)) (now (checkpoints .exit)) (now (stops .exit)) (now (exits .exit)) ≡ stored row (memory gained (now (segments .entry)) (now (lanes .entry)) (now (zones .entry)) (now (spots .entry)) (now (points .entry)) (now (checkpoints .entry)) (now (stops .entry)) (now (exits .entry))) ⌝ }
+{
+    match row {
+        Row::Nothing => {}
+        Row::Segment(a) => store_segment(segments, gained.segments as usize, a),
+        Row::Lane(a) => store_lane(lanes, gained.lanes as usize, a),
+        Row::Zone(a) => store_zone(zones, gained.zones as usize, a),
+        Row::Spot(a) => store_spot(spots, gained.spots as usize, a),
+        Row::Point(a) => store_in_part(points, gained.first, gained.within, a),
+        Row::Checkpoint(a) => store_checkpoint(checkpoints, gained.checkpoints as usize, a),
+        Row::Stop(a) => store_stop(stops, gained.stops as usize, a),
+        Row::Exit(a) => store_exit(exits, gained.exits as usize, a),
+    }
+}
+
+// One walk over the lines of a text.
+pub fn fill_lines(
+    text: &[u8],
+    segments: &mut [u32],
+    lanes: &mut [u32],
+    zones: &mut [u32],
+    spots: &mut [u32],
+    points: &mut [i32],
+    checkpoints: &mut [u32],
+    stops: &mut [u32],
+    exits: &mut [u32],
+) -> Filled
+    requires { ⌜ length (now text) ≤ most ⌝ }
+    ensures { λ r. ⌜ told r (λ p. memory p (now (segments .exit)) (now (lanes .exit)) (now (zones .exit)) (now (spots .exit)) (now (points .exit)) (now (checkpoints .exit)) (now (stops .exit)) (now (exits .exit))) ≡ filledOf (now (text .entry)) (memory noProgress (now (segments .entry)) (now (lanes .entry)) (now (zones .entry)) (now (spots .entry)) (now (points .entry)) (now (checkpoints .entry)) (now (stops .entry)) (now (exits .entry))) ⌝ }
+{
+    let mut place = Place::start();
+    let mut gained = Progress::none();
+    let mut from: usize = 0;
+    let mut line: u32 = 1;
+    while from < text.len() {
+        let e = scan(text, from, Until::Byte(10));
+        let v = judge_line(&text[from..e], from, place);
+        match v {
+            Verdict::Blank => {}
+            Verdict::Said(s, q) => {
+                store(
+                    segments,
+                    lanes,
+                    zones,
+                    spots,
+                    points,
+                    checkpoints,
+                    stops,
+                    exits,
+                    gained,
+                    gained.row(s, from as u32),
+                );
+                place = q;
+                gained = gained.after(s);
+            }
+            Verdict::Bad(n) => {
+                return Filled::Fault(line, n);
+            }
+        }
+        from = e + 1;
+        line += 1;
+    }
+    if place.is_over() {
+        Filled::Rows(gained)
+    } else {
+        Filled::Fault(line, 10)
+    }
+}
