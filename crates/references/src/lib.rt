@@ -1,0 +1,288 @@
+// What is tested of the filled tables of an RNDF: every entry is declared (refusal 12), no checkpoint number stands twice (13). Answers are rows.
+// The entry of an exit has three numbers, for which its row has no room: while the tables are filled the row's second word holds where the exit's line
+// starts in the text. Here that line is cut again, and the row of the point that its entry names takes the place.
+//
+// specs/: the same, executable, over the words of the tables. proofs/: Entries, the entry is the one that `text` reads of the line; Exits and Repeats,
+// over the tables of given rows the answers are those of `fill`'s specs/FirstFaults.
+//
+// Rests on `rows`, `read_rows`, `line`, `number`, `scan`, `statement`, `fill`, `judge` (that fields end within the line), for its laws on `text`, and on
+// what these rest on.
+//
+// Settled: every contract here gives the answer by an executable function, so no second answer satisfies it, and no second memory. One exception: after
+// `FirstRow::At` the contract of `resolve_exits` leaves open what the exits' table holds, since a refusal clears every table.
+use line::Form;
+use line::fields_of;
+use line::form_of;
+use line::trimmed;
+use number::Triple;
+use number::triple_of;
+use read_rows::checkpoint_at;
+use read_rows::exit_at;
+use read_rows::lane_at;
+use read_rows::segment_at;
+use read_rows::zone_at;
+use rows::ExitRow;
+use rows::store_exit;
+use scan::Until;
+use scan::scan;
+use statement::Id;
+ghost use mathlib.Core.Path.{_≡_};
+ghost use mathlib.Core.List.{[]};
+ghost use Prim.Native.Nat.{pred};
+ghost use Rattle.rows.specs.Read.{exitAt};
+ghost use Rattle.statement.specs.Meaning.{point-of};
+ghost use Rattle.fill.specs.Resolve as Resolve;
+ghost use Rattle.references.specs.Entry.{lineAt, idFrom, entryIn, entryWithin, entryOf};
+ghost use Rattle.references.specs.Finding.{found, lookIn};
+ghost use Rattle.references.specs.Exits.{namedAt, inWord, done, tried, onward, told, resolvedFrom};
+ghost use Rattle.references.specs.Repeats.{marked, withMark, firstRepeat};
+
+// ## The entry of a line
+// The line that starts at a place of the text, without its LF; an empty part where the place is beyond the text.
+pub fn line_at(text: &[u8], start: usize) -> &[u8]
+    ensures { λ r. ⌜ now r ≡ lineAt (now (text .entry)) start ⌝ }
+{
+    if start < text.len() {
+        let stop = scan(text, start, Until::Byte(10));
+        &text[start..stop]
+    } else {
+        &text[..0]
+    }
+}
+
+// 0.0.0 where there is no identifier.
+fn id_from(t: Triple) -> Id
+    ensures { λ r. ⌜ r ≡ idFrom t ⌝ }
+{
+    match t {
+        Triple::Is(i) => Id {
+            x: i.x,
+            y: i.y,
+            z: i.z,
+        },
+        Triple::No => Id { x: 0, y: 0, z: 0 },
+    }
+}
+
+// The third of three fields.
+fn entry_in(s: &[u8]) -> Id
+    ensures { λ r. ⌜ r ≡ entryIn (now (s .entry)) ⌝ }
+{
+    let f = fields_of(s);
+    if f.count == 3 {
+        let third = f.c;
+        let a = third.start;
+        let e = third.stop;
+        id_from(triple_of(&s[a..e]))
+    } else {
+        Id { x: 0, y: 0, z: 0 }
+    }
+}
+
+// The fields end before a comment.
+fn entry_within(s: &[u8]) -> Id
+    ensures { λ r. ⌜ r ≡ entryWithin (now (s .entry)) ⌝ }
+{
+    match form_of(s) {
+        Form::Bad(_) => Id { x: 0, y: 0, z: 0 },
+        Form::Body(e) => entry_in(&s[..e]),
+    }
+}
+
+// The entry that an exit's line names: its third field.
+pub fn entry_of(line: &[u8]) -> Id
+    ensures { λ r. ⌜ r ≡ entryOf (now (line .entry)) ⌝ }
+{
+    let e = trimmed(line);
+    entry_within(&line[..e])
+}
+
+// ## The point that an entry names
+// The row of a point, by arithmetic on the rows of segments, lanes and zones. No table is searched.
+pub enum Found {
+    At(usize),
+    Nothing,
+}
+
+// Numbers in identifiers count from 1, rows from 0.
+fn before(n: u32) -> usize
+    ensures { λ r. ⌜ r ≡ pred n ⌝ }
+{
+    if 0 < n { (n - 1) as usize } else { 0 }
+}
+
+// The z-th of so many points, the first of which has this row.
+fn in_part(first: u32, count: u32, z: u32) -> Found
+    ensures { λ r. ⌜ found r ≡ Resolve.in-part first count z ⌝ }
+{
+    if 0 < z {
+        if z <= count {
+            Found::At(first as usize + before(z))
+        } else {
+            Found::Nothing
+        }
+    } else {
+        Found::Nothing
+    }
+}
+
+// A waypoint of lane y of segment x.
+fn waypoint_row(segments: &[u32], lanes: &[u32], e: Id) -> Found
+    ensures { λ r. ⌜ found r ≡ Resolve.waypoint-at (lookIn (now (segments .entry)) (now (lanes .entry)) []) (e .x) (e .y) (e .z) ⌝ }
+{
+    if 0 < e.x {
+        let segment = segment_at(segments, before(e.x));
+        if e.y <= segment.lanes {
+            let lane = lane_at(lanes, segment.first_lane as usize + before(e.y));
+            in_part(lane.first_point, lane.points, e.z)
+        } else {
+            Found::Nothing
+        }
+    } else {
+        Found::Nothing
+    }
+}
+
+// A point of the perimeter of zone x: zones are numbered behind the segments.
+fn border_row(zones: &[u32], segment_count: u32, e: Id) -> Found
+    ensures { λ r. ⌜ found r ≡ Resolve.border-at «segment_count» (lookIn [] [] (now (zones .entry))) (e .x) (e .z) ⌝ }
+{
+    if segment_count < e.x {
+        let zone = zone_at(zones, before(e.x - segment_count));
+        in_part(zone.first_point, zone.points, e.z)
+    } else {
+        Found::Nothing
+    }
+}
+
+pub fn resolve(segments: &[u32], lanes: &[u32], zones: &[u32], segment_count: u32, e: Id) -> Found
+    ensures { λ r. ⌜ found r ≡ Resolve.resolve «segment_count» (lookIn (now (segments .entry)) (now (lanes .entry)) (now (zones .entry))) (point-of e) ⌝ }
+{
+    if e.y == 0 {
+        border_row(zones, segment_count, e)
+    } else {
+        waypoint_row(segments, lanes, e)
+    }
+}
+
+// ## Every exit
+// The first row at fault.
+pub enum FirstRow {
+    At(u32),
+    Nothing,
+}
+
+// The point that the entry of the line at a place names.
+fn named_at(
+    text: &[u8],
+    segments: &[u32],
+    lanes: &[u32],
+    zones: &[u32],
+    segment_count: u32,
+    start: usize,
+) -> Found
+    ensures { λ r. ⌜ found r ≡ namedAt (now (text .entry)) (lookIn (now (segments .entry)) (now (lanes .entry)) (now (zones .entry))) «segment_count» start ⌝ }
+{
+    let e = entry_of(line_at(text, start));
+    resolve(segments, lanes, zones, segment_count, e)
+}
+
+// A row number in a word of a table; no table has so many rows that it does not fit.
+fn in_word(i: usize) -> u32
+    ensures { λ r. ⌜ r ≡ inWord i ⌝ }
+{
+    if i < 4294967295 { i as u32 } else { 4294967295 }
+}
+
+// One row: its point stored, or its entry names none.
+fn resolve_exit(
+    text: &[u8],
+    segments: &[u32],
+    lanes: &[u32],
+    zones: &[u32],
+    exits: &mut [u32],
+    segment_count: u32,
+    row: u32,
+) -> bool
+    ensures { λ r. ⌜ tried row r (now (exits .exit)) ≡ onward (now (exits .entry)) row (namedAt (now (text .entry)) (lookIn (now (segments .entry)) (now (lanes .entry)) (now (zones .entry))) «segment_count» (exitAt (now (exits .entry)) row .entry)) done ⌝ }
+{
+    let exit = exit_at(exits, row as usize);
+    let found = named_at(
+        text,
+        segments,
+        lanes,
+        zones,
+        segment_count,
+        exit.entry as usize,
+    );
+    match found {
+        Found::At(i) => {
+            store_exit(
+                exits,
+                row as usize,
+                ExitRow {
+                    point: exit.point,
+                    entry: in_word(i),
+                },
+            );
+            true
+        }
+        Found::Nothing => false,
+    }
+}
+
+// Every row in its turn, up to the first whose entry names no point.
+pub fn resolve_exits(
+    text: &[u8],
+    segments: &[u32],
+    lanes: &[u32],
+    zones: &[u32],
+    exits: &mut [u32],
+    segment_count: u32,
+    exit_count: u32,
+) -> FirstRow
+    ensures { λ r. ⌜ told r (now (exits .exit)) ≡ resolvedFrom (now (text .entry)) (lookIn (now (segments .entry)) (now (lanes .entry)) (now (zones .entry))) «segment_count» (now (exits .entry)) 0 «exit_count» ⌝ }
+{
+    let mut row: u32 = 0;
+    while row < exit_count {
+        if resolve_exit(text, segments, lanes, zones, exits, segment_count, row) {
+            row += 1;
+        } else {
+            return FirstRow::At(row);
+        }
+    }
+    FirstRow::Nothing
+}
+
+// ## Checkpoint numbers
+// Marks a number, and tells whether it was marked before. Only the numbers 1 to 32,768 have a mark.
+fn mark(marks: &mut [bool; 32768], number: u16) -> bool
+    ensures { λ r. ⌜ r ≡ marked (now (marks .entry)) number ⌝ }
+    ensures { λ _. ⌜ now (marks .exit) ≡ withMark (now (marks .entry)) number ⌝ }
+{
+    if 1 <= number {
+        if number <= 32768 {
+            let at = (number - 1) as usize;
+            let was = marks[at];
+            marks[at] = true;
+            return was;
+        }
+    }
+    false
+}
+
+// The first row whose checkpoint number stood before it. One pass: the marks are this function's own, cleared before the first row.
+pub fn first_repeat(checkpoints: &[u32], count: u32) -> FirstRow
+    ensures { λ r. ⌜ r ≡ firstRepeat (now (checkpoints .entry)) count ⌝ }
+{
+    let mut marks: [bool; 32768] = [false; 32768];
+    let mut row: u32 = 0;
+    while row < count {
+        let checkpoint = checkpoint_at(checkpoints, row as usize);
+        if mark(&mut marks, checkpoint.number.0) {
+            return FirstRow::At(row);
+        }
+        row += 1;
+    }
+    FirstRow::Nothing
+}
