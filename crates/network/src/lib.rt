@@ -2,7 +2,7 @@
 // and how many there are of each table. Entries of exits are not looked up yet: where the exit's line starts stands for them (the crate `references`).
 //
 // specs/Storing: a row stored in the tables, executable. specs/Reading: the walk.
-// proofs/: the walk finds what `text` answers, and stores what `fill` gives (Filled).
+// proofs/: the walk finds what `text` answers, and stores what `fill` gives (Gathered); of a text that spells a network, the words of its tables (Spelled).
 //
 // Rests on `walk`, `judge`, `progress`, `rows`, `fill` and what they rest on.
 use judge::Verdict;

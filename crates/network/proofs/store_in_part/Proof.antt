@@ -5,7 +5,7 @@ use Prim.Native.Nat.{_*_}
 use lib.ListN.{length}
 use Rattle.rows.specs.Columns.{pointWords}
 use Rattle.network.specs.Storing.{storePart}
-use Rattle.network.proofs.Parts.{part-back}
+use Rattle.network.proofs.PartBack.{part-back}
 use borrow.Author.Needs.{needs}
 use Rattle.network.proofs.store_in_part.Statement.{statement}
 use Rattle.network.proofs.store_in_part.Tie as tie

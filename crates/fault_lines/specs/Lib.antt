@@ -1,0 +1,2 @@
+-- The first line at fault.
+pub mod FaultLines

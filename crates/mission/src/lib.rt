@@ -1,0 +1,73 @@
+// A text of an MDF read into lent tables in one walk over its lines: the first fault of 2 to 10 with its line, or every goal and every limit stored where there is room for it,
+// with the file's own row and how many rows there are of each table.
+//
+// specs/Storing: a row stored in the tables, executable. specs/Reading: the walk.
+// proofs/Filled: the walk finds what `text` answers, and stores what `fill` gives; for a text that spells a mission, its tables.
+//
+// Rests on `walk`, `mission_judge`, `mission_progress`, `rows`, `fill`, `table_words` and what they rest on.
+use mission_judge::MissionVerdict;
+use mission_judge::mission_judge_line;
+use mission_place::MissionPlace;
+use mission_progress::MissionProgress;
+use mission_progress::MissionRow;
+use mission_progress::mission_row;
+use rows::store_goal;
+use rows::store_limit;
+use scan::Until;
+use scan::scan;
+ghost use mathlib.Core.Path.{_≡_};
+ghost use Prim.Native.Nat.{_≤_};
+ghost use lib.ListN.{length};
+ghost use Rattle.mission_progress.specs.Progress.{noneRead};
+ghost use Rattle.mission.specs.Storing.{MissionMemory, memory, stored};
+ghost use Rattle.mission.specs.Reading.{most, told, filledOf};
+
+pub enum MissionFilled {
+    // line and number
+    Fault(u32, u8),
+    Rows(MissionProgress),
+}
+
+// The row that a statement gave, behind the rows that its table has so far.
+fn store(goals: &mut [u32], limits: &mut [u32], gained: MissionProgress, row: MissionRow)
+    ensures { λ _. ⌜ memory gained (now (goals .exit)) (now (limits .exit)) ≡ stored row (memory gained (now (goals .entry)) (now (limits .entry))) ⌝ }
+{
+    match row {
+        MissionRow::Nothing => {}
+        MissionRow::Goal(a) => store_goal(goals, gained.goals as usize, a),
+        MissionRow::Limit(a) => store_limit(limits, gained.limits as usize, a),
+    }
+}
+
+// One walk over the lines of a text.
+pub fn fill_orders(text: &[u8], goals: &mut [u32], limits: &mut [u32]) -> MissionFilled
+    requires { ⌜ length (now text) ≤ most ⌝ }
+    ensures { λ r. ⌜ told r (λ p. memory p (now (goals .exit)) (now (limits .exit))) ≡ filledOf (now (text .entry)) (memory noneRead (now (goals .entry)) (now (limits .entry))) ⌝ }
+{
+    let mut place = MissionPlace::start();
+    let mut gained = MissionProgress::none();
+    let mut from: usize = 0;
+    let mut line: u32 = 1;
+    while from < text.len() {
+        let e = scan(text, from, Until::Byte(10));
+        let v = mission_judge_line(&text[from..e], from, place);
+        match v {
+            MissionVerdict::Blank => {}
+            MissionVerdict::Said(s, q) => {
+                store(goals, limits, gained, mission_row(s));
+                place = q;
+                gained = gained.after(s);
+            }
+            MissionVerdict::Bad(n) => {
+                return MissionFilled::Fault(line, n);
+            }
+        }
+        from = e + 1;
+        line += 1;
+    }
+    if place.is_over() {
+        MissionFilled::Rows(gained)
+    } else {
+        MissionFilled::Fault(line, 10)
+    }
+}

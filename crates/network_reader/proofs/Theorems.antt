@@ -1,0 +1,151 @@
+-- THE THEOREM: what the reader of an RNDF answers is what document 01 says: line and number of a refusal in its order; or the rows, the file's row and the tables of the network that is spelled. Assumes nothing.
+use mathlib.Core.Path.{_≡_, refl, sym, ap, ap₂, subst, _∙_}
+use mathlib.Core.List.{List, []}
+use mathlib.Core.Option.{Option, none, some}
+use mathlib.Core.Bool.{Bool, true, false}
+use mathlib.Core.Logic.{_⊎_, inl, inr, ⊎-elim}
+use Prim.Native.Nat.{ℕ, _+_, _≤_, _<_, min}
+use native.Mathlib.Omega.{arith}
+use lib.ListN.{length, length-replicate}
+use lib.Dec.{ltb}
+use lib.IntN.{ℤ, pos}
+use borrow.Author.Tests.{ltb-true, ltb-false}
+use Rattle.terms.specs.Ascii.{Bytes}
+use Rattle.terms.specs.Words.{pick}
+use Rattle.terms.proofs.Tests.{clash}
+use Rattle.line.specs.Content.{Field}
+use Rattle.line.specs.Lines.{linesOf}
+use Rattle.grammar.specs.Network.{Network}
+use Rattle.grammar.specs.Tables.{tables}
+use Rattle.text.specs.Spelling.{SpellsRndf}
+use Rattle.text.specs.Answers.{faulty, short}
+use Rattle.text.proofs.Theorems.{read-rndf}
+use Rattle.form_faults.proofs.FormFaults.{rndf-bad-line-right, rndf-unended-right}
+use Rattle.fill.specs.Counts.{sizes}
+use Rattle.fill.specs.FirstFaults.{Fault}
+use Rattle.rows.proofs.Forms.{kept}
+use Rattle.rows.specs.declared.FileRow.{FileRow}
+use Rattle.table_words.specs.Words.{Lent, HasRoom, zeros, network-filled}
+use Rattle.table_words.specs.FileRows.{network-file}
+use Rattle.table_words.proofs.RowsAtMost.{rows-at-most}
+use Rattle.place.specs.Step.{firstPlace, overOf}
+use Rattle.judge.specs.RndfLine.{rndf-judging}
+use Rattle.progress.specs.declared.Progress.{Progress}
+use Rattle.walk.specs.Walking.{Found, fault, gathered}
+use Rattle.walk.proofs.Cutting.{walk-keeps}
+use Rattle.network.specs.Storing.{Memory}
+use Rattle.network.specs.Reading.{put, filledOf}
+use Rattle.network.proofs.Steps.{Lengths, lengths, put-long}
+use Rattle.network.proofs.Answered.{found-fault}
+use Rattle.network.proofs.Holding.{CountsNetwork, HoldsNetwork}
+use Rattle.network.proofs.Spelled.{exit-line-starts, left-counted, left-filled, found-network}
+use Rattle.network_references.specs.ExitStarts.{exits-answer}
+use Rattle.references.specs.Repeats.{rowOf}
+use Rattle.fault_lines.proofs.RndfFaults.{undeclared-in, repeated-in, exit-line, checkpoint-line, no-row-sound, only-undeclared, only-repeated, lines-differ, undeclared-first, repeated-first}
+use Rattle.network_reader.specs.declared.Counts.{Counts}
+use Rattle.network_reader.specs.Reading.{most, partsFit, marksFit, room, countsOf, faultLine, Referred, right, wrong, joined, referOf, Read, refused, accepted, tables-of, from-referred, judgedOf, from-filled, empty, readOf}
+use Rattle.network_reader.specs.Replies.{rows-used, AcceptsRndf, RefusesRndf, too-long, bad-line, unended, no-room, bad-reference}
+use Rattle.network_reader.proofs.Rooms.{has-room, room-there}
+use Rattle.network_reader.proofs.Referring.{refers}
+
+-- ## What an answer means
+pub record Accepted (text : Bytes) (t : Lent) (c : Counts) (file : FileRow) (left : Lent) : Type 0 where
+  pub net : Network Field
+  pub accepts : AcceptsRndf text t net
+  pub rows : c ≡ rows-used (sizes (tables net))
+  pub row : file ≡ network-file net
+  pub holds : left ≡ network-filled net t
+
+abbrev pub Meant : Bytes → Lent → Read → Type 0
+Meant text t (refused line number) = RefusesRndf text t line number
+Meant text t (accepted c file left) = Accepted text t c file left
+
+-- ## Counts
+counts-are : (n : Network Field) (text : Bytes) → SpellsRndf n text → length text ≤ most → (p : Progress) → CountsNetwork n p → countsOf p ≡ rows-used (sizes (tables n))
+unfolding countsOf
+counts-are n text s h p c =
+    let few : sizes (tables n) .points ≤ 4294967295 = let x = rows-at-most n text s .points in omega arith in
+    rw (c .segments, c .lanes, c .zones, c .spots, c .points, c .checkpoints, c .stops, c .exits, kept (sizes (tables n) .points) 4294967295 few) refl
+
+-- ## Room, by the lengths of the tables
+room-by : Counts → Lengths → Bool
+room-by c l = pick (partsFit c (l .segments) (l .lanes) (l .zones) (l .spots)) (marksFit c (l .points) (l .checkpoints) (l .stops) (l .exits)) false
+
+lengths-kept : (text : Bytes) (t : Lent) (m : Memory) → filledOf text (empty t) ≡ gathered m → lengths m ≡ lengths (empty t)
+unfolding filledOf
+lengths-kept text t m e = walk-keeps rndf-judging put overOf (λ x. lengths x ≡ lengths (empty t)) (λ w s c h. put-long w s c ∙ h) (linesOf text) firstPlace (empty t) 0 1 m refl e
+
+zeros-long : (t : Lent) (c : Counts) → room-by c (lengths (empty t)) ≡ room c t
+unfolding room-by
+zeros-long t c = λ i. room-by c (record { segments = length-replicate {A = ℕ} (length (t .segments)) 0 i; lanes = length-replicate {A = ℕ} (length (t .lanes)) 0 i; zones = length-replicate {A = ℕ} (length (t .zones)) 0 i; spots = length-replicate {A = ℕ} (length (t .spots)) 0 i; points = length-replicate {A = ℤ} (length (t .points)) (pos 0) i; checkpoints = length-replicate {A = ℕ} (length (t .checkpoints)) 0 i; stops = length-replicate {A = ℕ} (length (t .stops)) 0 i; exits = length-replicate {A = ℕ} (length (t .exits)) 0 i })
+
+room-same : (text : Bytes) (t : Lent) (m : Memory) (c : Counts) → filledOf text (empty t) ≡ gathered m → room c (tables-of m) ≡ room c t
+unfolding room-by
+room-same text t m c e = ap (room-by c) (lengths-kept text t m e) ∙ zeros-long t c
+
+-- ## Filled tables
+module _ (text : Bytes) (size : length text ≤ most) (t : Lent) (n : Network Field) (h : SpellsRndf n text) (m : Memory) (e : filledOf text (empty t) ≡ gathered m) where
+  counted : CountsNetwork n (m .so-far)
+  counted = left-counted n text h (zeros t) m e
+
+  refers-so : (fits : HasRoom (sizes (tables n)) t) (u r : Option Fault) → undeclared-in n ≡ u → repeated-in n ≡ r → Meant text t (from-referred m (joined text (exits-answer n t u) (rowOf r)))
+  unfolding faultLine
+  refers-so fits none none a b =
+      let c = counted in
+      let k = left-filled n text h size t fits m e in
+      record {
+        net = n;
+        accepts = record { size = size; spelled = h; room = fits; sound = no-row-sound n text h a b };
+        rows = counts-are n text h size (m .so-far) c;
+        row = c .file;
+        holds = λ i. record {
+          segments = k .segments i;
+          lanes = k .lanes i;
+          zones = k .zones i;
+          spots = k .spots i;
+          points = k .points i;
+          checkpoints = k .checkpoints i;
+          stops = k .stops i;
+          exits = network-filled n t .exits;
+        };
+      }
+  refers-so fits (some f) none a b = bad-reference n size h fits (only-undeclared n text h f a b)
+  refers-so fits none (some g) a b = bad-reference n size h fits (only-repeated n text h g a b)
+  refers-so fits (some f) (some g) a b = go (ltb (exit-line text (f .row)) (checkpoint-line text (g .row))) refl
+    where
+      go : (x : Bool) → ltb (exit-line text (f .row)) (checkpoint-line text (g .row)) ≡ x → Meant text t (from-referred m (joined text (exits-answer n t (some f)) (rowOf (some g))))
+      go true q = rw q (bad-reference n size h fits (undeclared-first n text h f g a b (ltb-true (exit-line text (f .row)) (checkpoint-line text (g .row)) q)))
+      go false q =
+          let le = ltb-false (exit-line text (f .row)) (checkpoint-line text (g .row)) q in
+          let less : checkpoint-line text (g .row) < exit-line text (f .row) = below (checkpoint-line text (g .row)) (exit-line text (f .row)) le (λ x. lines-differ n text h f g a b (sym x)) in
+          rw q (bad-reference n size h fits (repeated-first n text h f g a b less))
+        where
+          below : (i j : ℕ) → i ≤ j → (i ≡ j → ⊥) → i < j
+          below i j l d = omega (arith, l, d)
+
+  judged-so : Meant text t (judgedOf text m)
+  unfolding judgedOf
+  judged-so = go (room (countsOf (m .so-far)) (tables-of m)) refl
+    where
+      same : room (countsOf (m .so-far)) (tables-of m) ≡ room (rows-used (sizes (tables n))) t
+      same = room-same text t m (countsOf (m .so-far)) e ∙ ap (λ (c : Counts). room c t) (counts-are n text h size (m .so-far) counted)
+
+      go : (x : Bool) → room (countsOf (m .so-far)) (tables-of m) ≡ x → Meant text t (pick x (from-referred m (referOf text (m .segments) (m .lanes) (m .zones) (m .checkpoints) (m .exits) (m .so-far))) (refused 0 11))
+      go false q = no-room n size h (λ r. clash (sym (room-there (sizes (tables n)) t r) ∙ sym same ∙ q))
+      go true q =
+          let fits = has-room (sizes (tables n)) t (sym same ∙ q) in
+          let k = left-filled n text h size t fits m e in
+          rw (refers n text h size t fits m counted k) (refers-so fits (undeclared-in n) (repeated-in n) refl refl)
+
+-- ## The whole
+pub meant : (text : Bytes) (t : Lent) → Meant text t (readOf text t)
+unfolding readOf
+meant text t = sized (ltb most (length text)) refl
+  where
+    found : length text ≤ most → (w : Found Memory) → filledOf text (empty t) ≡ w → Meant text t (from-filled text w)
+    found size (fault i k) e = ⊎-elim (λ x. bad-line size (rndf-bad-line-right text i k x)) (λ x. subst (RefusesRndf text t i) (sym (x .1)) (unended size (rndf-unended-right text i (x .0)))) (found-fault text (empty t) i k e)
+    found size (gathered m) e = let n = found-network text (empty t) m e in judged-so text size t (n .0) (n .1) m e
+
+    sized : (x : Bool) → ltb most (length text) ≡ x → Meant text t (pick x (refused 0 1) (from-filled text (filledOf text (empty t))))
+    sized true q = too-long (ltb-true most (length text) q)
+    sized false q = found (ltb-false most (length text) q) (filledOf text (empty t)) refl

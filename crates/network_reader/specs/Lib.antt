@@ -1,0 +1,3 @@
+-- The readers.
+pub mod Reading
+pub mod Replies

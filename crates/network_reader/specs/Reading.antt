@@ -1,0 +1,124 @@
+-- Executable: what the reader of an RNDF answers, and what the lent tables then hold. Assumes nothing.
+use mathlib.Core.List.{List, []}
+use mathlib.Core.Bool.{Bool, true, false, _&&_}
+use Prim.Native.Nat.{ℕ, _+_}
+use lib.ListN.{length}
+use lib.Dec.{ltb, leb}
+use lib.IntN.{ℤ}
+use Rattle.terms.specs.Ascii.{Bytes}
+use Rattle.terms.specs.Words.{pick}
+use Rattle.rows.specs.Lay.{rowsOf}
+use Rattle.rows.specs.Strides.{segmentStride, laneStride, zoneStride, spotStride, pointStride, checkpointStride, stopStride, exitStride}
+use Rattle.rows.specs.declared.FileRow.{FileRow}
+use Rattle.table_words.specs.Words.{Lent, zeros}
+use Rattle.progress.specs.declared.Progress.{Progress}
+use Rattle.progress.specs.After.{noProgress}
+use Rattle.progress.specs.Given.{fitted}
+use Rattle.walk.specs.Walking.{Found, fault, gathered}
+use Rattle.network.specs.Storing.{Memory, memory}
+use Rattle.network.specs.Reading.{filledOf}
+use Rattle.references.specs.declared.FirstRow as DR
+use Rattle.references.specs.declared.FirstRow.the-variants as R
+use Rattle.references.specs.Finding.{lookIn}
+use Rattle.references.specs.Exits.{Outcome, done, at, resolvedFrom}
+use Rattle.references.specs.Repeats.{firstRepeat}
+use Rattle.find_line.specs.FoundLines.{rndfLineOf}
+use Rattle.network_reader.specs.declared.Counts.{Counts}
+use Rattle.network_reader.specs.declared.NetworkReply as DP
+use Rattle.network_reader.specs.declared.NetworkReply.the-variants as Reply
+use Rattle.network_reader.specs.declared.Reference as DF
+use Rattle.network_reader.specs.declared.Reference.the-variants as Reference
+
+-- 01: 1 "text over 16,777,215 bytes"
+abbrev pub most : ℕ
+most = 16777215
+
+abbrev pub lent : (segments lanes zones spots : List ℕ) → List ℤ → (checkpoints stops exits : List ℕ) → Lent
+lent sg ln zn sp pt ck st ex = record { segments = sg; lanes = ln; zones = zn; spots = sp; points = pt; checkpoints = ck; stops = st; exits = ex }
+
+abbrev pub replied : ℕ → ℕ → DP.NetworkReply
+replied line number = Reply.Refused line number
+
+-- ## Room
+-- so many rows fit into a table of so many words
+abbrev pub fits : ℕ → ℕ → ℕ → Bool
+fits rows words stride = leb rows (rowsOf words stride)
+
+unfoldable pub countsOf : Progress → Counts
+countsOf p = record { segments = p .segments; lanes = p .lanes; zones = p .zones; spots = p .spots; points = fitted (p .first + p .within); checkpoints = p .checkpoints; stops = p .stops; exits = p .exits }
+
+abbrev pub all-four : Bool → Bool → Bool → Bool → Bool
+all-four a b c d = pick a (pick b (pick c d false) false) false
+
+unfoldable pub partsFit : Counts → (segments lanes zones spots : ℕ) → Bool
+partsFit c sg ln zn sp = all-four (fits (c .segments) sg segmentStride) (fits (c .lanes) ln laneStride) (fits (c .zones) zn zoneStride) (fits (c .spots) sp spotStride)
+
+unfoldable pub marksFit : Counts → (points checkpoints stops exits : ℕ) → Bool
+marksFit c pt ck st ex = all-four (fits (c .points) pt pointStride) (fits (c .checkpoints) ck checkpointStride) (fits (c .stops) st stopStride) (fits (c .exits) ex exitStride)
+
+abbrev pub room : Counts → Lent → Bool
+room c t = pick (partsFit c (length (t .segments)) (length (t .lanes)) (length (t .zones)) (length (t .spots))) (marksFit c (length (t .points)) (length (t .checkpoints)) (length (t .stops)) (length (t .exits))) false
+
+-- ## References
+-- 12 at the line of an exit, 13 at the line of a checkpoint: the earlier of the two
+abbrev pub exit-line : Bytes → ℕ → ℕ
+exit-line text row = rndfLineOf text 16 row
+
+abbrev pub checkpoint-line : Bytes → ℕ → ℕ
+checkpoint-line text row = rndfLineOf text 14 row
+
+unfoldable pub faultLine : Bytes → DR.FirstRow → DR.FirstRow → DF.Reference
+faultLine text (R.At e) (R.At k) = pick (ltb (exit-line text e) (checkpoint-line text k)) (Reference.Wrong (exit-line text e) 12) (Reference.Wrong (checkpoint-line text k) 13)
+faultLine text (R.At e) R.Nothing = Reference.Wrong (exit-line text e) 12
+faultLine text R.Nothing (R.At k) = Reference.Wrong (checkpoint-line text k) 13
+faultLine text R.Nothing R.Nothing = Reference.Right
+
+-- the exits with their entries looked up; or line and number
+pub data Referred : Type 0 where
+  right : List ℕ → Referred
+  wrong : (line number : ℕ) → Referred
+
+abbrev pub referred : DF.Reference → List ℕ → Referred
+referred Reference.Right exits = right exits
+referred (Reference.Wrong line number) exits = wrong line number
+
+abbrev pub joined : Bytes → Outcome → DR.FirstRow → Referred
+joined text (done exits) repeated = referred (faultLine text R.Nothing repeated) exits
+joined text (at row) repeated = referred (faultLine text (R.At row) repeated) []
+
+unfoldable pub referOf : Bytes → (segments lanes zones checkpoints exits : List ℕ) → Progress → Referred
+referOf text sg ln zn ck ex p = joined text (resolvedFrom text (lookIn sg ln zn) (p .segments) ex 0 (p .exits)) (firstRepeat ck (p .checkpoints))
+
+abbrev pub answeredOf : DF.Reference → Counts → FileRow → DP.NetworkReply
+answeredOf Reference.Right c file = Reply.Accepted c file
+answeredOf (Reference.Wrong line number) c file = replied line number
+
+-- ## The whole
+pub data Read : Type 0 where
+  refused : (line number : ℕ) → Read
+  accepted : Counts → FileRow → Lent → Read
+
+abbrev pub outcome : DP.NetworkReply → Lent → Read
+outcome (Reply.Accepted c f) tables = accepted c f tables
+outcome (Reply.Refused line number) tables = refused line number
+
+abbrev pub tables-of : Memory → Lent
+tables-of m = lent (m .segments) (m .lanes) (m .zones) (m .spots) (m .points) (m .checkpoints) (m .stops) (m .exits)
+
+abbrev pub from-referred : Memory → Referred → Read
+from-referred m (right exits) = accepted (countsOf (m .so-far)) (m .so-far .file) (lent (m .segments) (m .lanes) (m .zones) (m .spots) (m .points) (m .checkpoints) (m .stops) exits)
+from-referred m (wrong line number) = refused line number
+
+-- filled tables: 11, then 12 and 13
+unfoldable pub judgedOf : Bytes → Memory → Read
+judgedOf text m = pick (room (countsOf (m .so-far)) (tables-of m)) (from-referred m (referOf text (m .segments) (m .lanes) (m .zones) (m .checkpoints) (m .exits) (m .so-far))) (refused 0 11)
+
+abbrev pub from-filled : Bytes → Found Memory → Read
+from-filled text (fault line number) = refused line number
+from-filled text (gathered m) = judgedOf text m
+
+abbrev pub empty : Lent → Memory
+empty t = memory noProgress (zeros t .segments) (zeros t .lanes) (zeros t .zones) (zeros t .spots) (zeros t .points) (zeros t .checkpoints) (zeros t .stops) (zeros t .exits)
+
+unfoldable pub readOf : Bytes → Lent → Read
+readOf text t = pick (ltb most (length text)) (refused 0 1) (from-filled text (filledOf text (empty t)))

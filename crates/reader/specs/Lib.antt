@@ -1,0 +1,2 @@
+-- The entry points.
+pub mod Replies
