@@ -1,2 +1,3 @@
 -- The entry points.
 pub mod Replies
+pub mod Pairs

@@ -2,25 +2,29 @@
 use mathlib.Core.Path.{_≡_}
 use mathlib.Core.List.{List}
 use Prim.Native.Nat.{ℕ}
-use lib.IntN.{ℤ}
 use Rattle.terms.specs.Ascii.{Bytes}
 use Rattle.line.specs.Content.{Field}
 use Rattle.grammar.specs.Network.{Network}
-use Rattle.grammar.specs.Tables.{tables}
+use Rattle.grammar.specs.Tables.{tables, mission-tables}
+use Rattle.grammar.specs.Mission.{Mission}
 use Rattle.fill.specs.Counts.{sizes}
-use Rattle.table_words.specs.Words.{Lent, zeros, network-filled}
-use Rattle.table_words.specs.FileRows.{network-file}
+use Rattle.table_words.specs.Words.{Lent, MissionLent, zeros, mission-zeros, network-filled, mission-filled}
+use Rattle.table_words.specs.FileRows.{network-file, mission-file}
 use Rattle.network_reader.specs.Replies.{rows-used, AcceptsRndf, RefusesRndf}
+use Rattle.mission_reader.specs.MissionReplies.{AcceptsMdf, RefusesMdf}
+use Rattle.mission_reader.specs.MissionReplies as M
 use Rattle.reader.specs.declared.Refusal.{Refusal}
 use Rattle.reader.specs.declared.RndfReply.{RndfReply}
 use Rattle.reader.specs.declared.RndfReply.the-variants as Reply
+use Rattle.reader.specs.declared.PairReply.{PairReply}
+use Rattle.reader.specs.declared.PairReply.the-variants as Pair
 
 -- 01: "Each gives file (1 RNDF, 2 MDF), line, number."
 abbrev pub refusal : (file line number : ℕ) → Refusal
 refusal file line number = record { file = file; line = line; number = number }
 
-abbrev pub lent : (segments lanes zones spots : List ℕ) → List ℤ → (checkpoints stops exits : List ℕ) → Lent
-lent sg ln zn sp pt ck st ex = record { segments = sg; lanes = ln; zones = zn; spots = sp; points = pt; checkpoints = ck; stops = st; exits = ex }
+abbrev pub mission-lent : (goals limits : List ℕ) → MissionLent
+mission-lent goals limits = record { goals = goals; limits = limits }
 
 -- ## An RNDF alone: the reply, and what is left in the lent tables
 pub data ReadsRndf (text : Bytes) (lent : Lent) (reply : RndfReply) (left : Lent) : Type 0 where
@@ -28,3 +32,13 @@ pub data ReadsRndf (text : Bytes) (lent : Lent) (reply : RndfReply) (left : Lent
   accepted : (n : Network Field) → AcceptsRndf text lent n → reply ≡ Reply.Accepted (rows-used (sizes (tables n))) (network-file n) → left ≡ network-filled n lent → ReadsRndf text lent reply left
   -- 01: "All lent tables .. are then zero over their whole length"
   refused : (line number : ℕ) → RefusesRndf text lent line number → reply ≡ Reply.Refused (refusal 1 line number) → left ≡ zeros lent → ReadsRndf text lent reply left
+
+-- ## An RNDF with its MDF
+pub data ReadsPair (rndf mdf : Bytes) (lent : Lent) (mission-lent : MissionLent) (reply : PairReply) (left : Lent) (mission-left : MissionLent) : Type 0 where
+  accepted : (n : Network Field) (m : Mission Field) → AcceptsRndf rndf lent n → AcceptsMdf n mdf mission-lent m → reply ≡ Pair.Accepted (rows-used (sizes (tables n))) (network-file n) (M.rows-used m) (mission-file m)
+      → left ≡ network-filled n lent → mission-left ≡ mission-filled (mission-tables m) mission-lent → ReadsPair rndf mdf lent mission-lent reply left mission-left
+  -- 01: "for the RNDF 1; ..": everything about the RNDF comes first
+  rndf-refused : (line number : ℕ) → RefusesRndf rndf lent line number → reply ≡ Pair.Refused (refusal 1 line number) → left ≡ zeros lent → mission-left ≡ mission-zeros mission-lent → ReadsPair rndf mdf lent mission-lent reply left mission-left
+  -- 01: "Then the MDF likewise"
+  mdf-refused : (n : Network Field) (line number : ℕ) → AcceptsRndf rndf lent n → RefusesMdf n mdf mission-lent line number → reply ≡ Pair.Refused (refusal 2 line number)
+      → left ≡ zeros lent → mission-left ≡ mission-zeros mission-lent → ReadsPair rndf mdf lent mission-lent reply left mission-left

@@ -4,12 +4,22 @@
 // specs/Replies: the contracts, what a reader must believe. proofs/Settled: no second reply and no second memory satisfies them.
 //
 // Rests on `network_reader`, `mission_reader` and what they rest on. Beside it: `look_up` (a checkpoint number's point), `rows` (names, and how rows lie in a table).
+use mission_reader::MissionCounts;
+use mission_reader::MissionReply;
+use mission_reader::read_mission;
 use network_reader::Counts;
 use network_reader::NetworkReply;
 use network_reader::clear_tables;
 use network_reader::read_network;
 use rows::FileRow;
-ghost use Rattle.reader.specs.Replies.{lent, ReadsRndf};
+use rows::MissionFileRow;
+use rows::clear;
+ghost use mathlib.Core.Path.{_≡_};
+ghost use Rattle.progress.specs.Given.{fitted};
+ghost use Rattle.network_reader.specs.Reading.{lent};
+ghost use Rattle.reader.specs.Replies.{mission-lent, ReadsRndf, ReadsPair};
+ghost use Prim.Native.Nat.{_+_};
+ghost use Rattle.reader.specs.Pairs.{joinedOf, outcome, pairOf};
 
 // File (1 RNDF, 2 MDF), line and number, as document 01 lists them.
 pub struct Refusal {
@@ -67,6 +77,140 @@ pub fn read_rndf(
                 line,
                 number,
             })
+        }
+    }
+}
+
+// The rows used and the file's own row, of the RNDF and of the MDF; or a refusal.
+pub enum PairReply {
+    Accepted(Counts, FileRow, MissionCounts, MissionFileRow),
+    Refused(Refusal),
+}
+
+// How many segments and zones there are. A number that does not fit into 32 bits is the largest that does; no RNDF that is taken has so many.
+fn parts(c: Counts) -> u32
+    ensures { λ r. ⌜ r ≡ fitted (c .segments + c .zones) ⌝ }
+{
+    let n = c.segments as usize + c.zones as usize;
+    if n < 4294967295 { n as u32 } else { 4294967295 }
+}
+
+// What the reader of the MDF answers, with what the RNDF gave.
+fn joined(c: Counts, file: FileRow, mission: MissionReply) -> PairReply
+    ensures { λ r. ⌜ r ≡ joinedOf c file mission ⌝ }
+{
+    match mission {
+        MissionReply::Accepted(m, mission_file) => PairReply::Accepted(c, file, m, mission_file),
+        MissionReply::Refused(line, number) => PairReply::Refused(Refusal {
+            file: 2,
+            line,
+            number,
+        }),
+    }
+}
+
+// Both files, but for the tables of a pair that is refused: they are left as they are then.
+fn read_both(
+    rndf: &[u8],
+    mdf: &[u8],
+    segments: &mut [u32],
+    lanes: &mut [u32],
+    zones: &mut [u32],
+    spots: &mut [u32],
+    points: &mut [i32],
+    checkpoints: &mut [u32],
+    stops: &mut [u32],
+    exits: &mut [u32],
+    goals: &mut [u32],
+    limits: &mut [u32],
+) -> PairReply
+    ensures { λ r. ⌜ outcome r (lent (now (segments .exit)) (now (lanes .exit)) (now (zones .exit)) (now (spots .exit)) (now (points .exit)) (now (checkpoints .exit)) (now (stops .exit)) (now (exits .exit))) (mission-lent (now (goals .exit)) (now (limits .exit))) ≡ pairOf (now (rndf .entry)) (now (mdf .entry)) (lent (now (segments .entry)) (now (lanes .entry)) (now (zones .entry)) (now (spots .entry)) (now (points .entry)) (now (checkpoints .entry)) (now (stops .entry)) (now (exits .entry))) (mission-lent (now (goals .entry)) (now (limits .entry))) ⌝ }
+{
+    let network = read_network(
+        rndf,
+        segments,
+        lanes,
+        zones,
+        spots,
+        points,
+        checkpoints,
+        stops,
+        exits,
+    );
+    match network {
+        NetworkReply::Accepted(c, file) => {
+            let mission = read_mission(
+                rndf,
+                file.name,
+                checkpoints,
+                c.checkpoints,
+                parts(c),
+                mdf,
+                goals,
+                limits,
+            );
+            joined(c, file, mission)
+        }
+        NetworkReply::Refused(line, number) => PairReply::Refused(Refusal {
+            file: 1,
+            line,
+            number,
+        }),
+    }
+}
+
+// An RNDF with its MDF.
+pub fn read_pair(
+    rndf: &[u8],
+    mdf: &[u8],
+    segments: &mut [u32],
+    lanes: &mut [u32],
+    zones: &mut [u32],
+    spots: &mut [u32],
+    points: &mut [i32],
+    checkpoints: &mut [u32],
+    stops: &mut [u32],
+    exits: &mut [u32],
+    goals: &mut [u32],
+    limits: &mut [u32],
+) -> PairReply
+    ensures { λ r. ⌜ ReadsPair (now (rndf .entry)) (now (mdf .entry)) (lent (now (segments .entry)) (now (lanes .entry)) (now (zones .entry)) (now (spots .entry)) (now (points .entry)) (now (checkpoints .entry)) (now (stops .entry)) (now (exits .entry))) (mission-lent (now (goals .entry)) (now (limits .entry))) r (lent (now (segments .exit)) (now (lanes .exit)) (now (zones .exit)) (now (spots .exit)) (now (points .exit)) (now (checkpoints .exit)) (now (stops .exit)) (now (exits .exit))) (mission-lent (now (goals .exit)) (now (limits .exit))) ⌝ }
+{
+    let reply = read_both(
+        rndf,
+        mdf,
+        segments,
+        lanes,
+        zones,
+        spots,
+        points,
+        checkpoints,
+        stops,
+        exits,
+        goals,
+        limits,
+    );
+    match reply {
+        PairReply::Accepted(c, file, m, mission_file) => PairReply::Accepted(
+            c,
+            file,
+            m,
+            mission_file,
+        ),
+        PairReply::Refused(why) => {
+            clear_tables(
+                segments,
+                lanes,
+                zones,
+                spots,
+                points,
+                checkpoints,
+                stops,
+                exits,
+            );
+            clear(goals);
+            clear(limits);
+            PairReply::Refused(why)
         }
     }
 }

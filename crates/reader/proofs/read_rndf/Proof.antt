@@ -2,7 +2,7 @@ use mathlib.Core.Path.{_≡_, refl, sym, ap, _∙_}
 use Prim.Native.Nat.{ℕ}
 use lib.ListN.{length, replicate}
 use lib.IntN.{ℤ, pos}
-use Rattle.reader.specs.Replies.{lent}
+use Rattle.network_reader.specs.Reading.{lent}
 use Rattle.reader.proofs.Steps.{accepted-so, refused-so}
 use borrow.Author.Needs.{needs}
 use Rattle.reader.proofs.read_rndf.Statement.{statement}

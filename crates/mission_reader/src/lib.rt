@@ -1,0 +1,230 @@
+// The reader of an MDF, given the RNDF that was accepted before it: an MDF read into lent goals and limits.
+//
+// The MDF is walked once, line by line, each row stored where there is room (`mission`); then it is seen whether there was room for all (11), the RNDF's name is compared (14),
+// goals and limits are looked up (`mission_references`; 15 to 17) and the limits counted (18). The line of a fault is found again by `find_line`.
+// A refusal leaves the tables as they are then: the caller clears them.
+//
+// specs/MissionReplies: what a reader must believe. specs/MissionReading: the same, executable; the contracts cite it. proofs/Theorems: the one is the other.
+// proofs/Found: what the walk found. proofs/References: 14 to 18 over filled tables are the first line at fault. proofs/Standing: a name stands in its text where it says.
+// proofs/OneReply: no second reply. proofs/Steps: the parts of `read_mission` together.
+//
+// Rests on `mission`, `mission_references`, `find_line`, `rows` and `scan`, for its theorem on `fault_lines`, `form_faults` and `table_words`, and on what they rest on.
+//
+// Settled: the contract of `read_mission` gives its reply, and where it accepts both tables, by a function of what is lent (proofs/OneReply).
+use find_line::mdf_line;
+use mission::MissionFilled;
+use mission::fill_orders;
+use mission_progress::MissionProgress;
+use mission_references::BadLimit;
+use mission_references::FirstRow;
+use mission_references::first_bad_limit;
+use mission_references::first_foreign_goal;
+use rows::GOAL_STRIDE;
+use rows::LIMIT_STRIDE;
+use rows::MissionFileRow;
+use rows::Stretch;
+use rows::clear;
+use rows::name_of;
+use rows::rows_of;
+use scan::same;
+ghost use mathlib.Core.Path.{_≡_};
+ghost use Prim.Native.Nat.{_≤_};
+ghost use lib.ListN.{length};
+ghost use Rattle.mission.specs.Storing.{memory};
+ghost use Rattle.mission.specs.Reading.{told, filledOf};
+ghost use Rattle.mission_reader.specs.MissionReplies.{most};
+ghost use Rattle.mission_reader.specs.MissionReading.{rndf-of, fits, room, sameName, limitsFault, referOf, answeredOf, judgedOf, empty, outcome, missionOf};
+
+// The rows used of each table of an MDF.
+pub struct MissionCounts {
+    pub goals: u32,
+    pub limits: u32,
+}
+
+// The rows used and the file's own row; or line and number, of file 2.
+pub enum MissionReply {
+    Accepted(MissionCounts, MissionFileRow),
+    Refused(u32, u8),
+}
+
+// What is found of references: nothing wrong, or line and number.
+enum Reference {
+    Right,
+    Wrong(u32, u8),
+}
+
+// 1: a text over so many bytes.
+const MOST: usize = 16777215;
+
+// The columns of the statements that 14 to 18 are found at.
+const RNDF: u8 = 1;
+
+const END_SPEED_LIMITS: u8 = 9;
+
+const GOAL: u8 = 11;
+
+const LIMIT: u8 = 12;
+
+// 14: is the name that the MDF gives the RNDF's, byte for byte?
+fn same_name(rndf: &[u8], name: Stretch, mdf: &[u8], given: Stretch) -> bool
+    ensures { λ r. ⌜ r ≡ sameName (now (rndf .entry)) name (now (mdf .entry)) given ⌝ }
+{
+    same(name_of(mdf, given), name_of(rndf, name))
+}
+
+// 16 or 17 at the first limit at fault; else 18 where there are not as many limits as segments and zones.
+fn limits_fault(mdf: &[u8], limits: &[u32], limit_count: u32, parts: u32) -> Reference
+    requires { ⌜ length (now mdf) ≤ most ⌝ }
+    ensures { λ r. ⌜ r ≡ limitsFault (now (mdf .entry)) (now (limits .entry)) «limit_count» parts ⌝ }
+{
+    let bad = first_bad_limit(limits, limit_count, parts);
+    match bad {
+        BadLimit::NotThere(row) => Reference::Wrong(mdf_line(mdf, LIMIT, row), 16),
+        BadLimit::Again(row) => Reference::Wrong(mdf_line(mdf, LIMIT, row), 17),
+        BadLimit::Nothing => {
+            if limit_count == parts {
+                Reference::Right
+            } else {
+                Reference::Wrong(mdf_line(mdf, END_SPEED_LIMITS, 0), 18)
+            }
+        }
+    }
+}
+
+// 14, then 15, then 16 to 18: that is their order in an MDF too, so the first found is on the first line at fault.
+fn refer(
+    rndf: &[u8],
+    name: Stretch,
+    checkpoints: &[u32],
+    checkpoint_count: u32,
+    parts: u32,
+    mdf: &[u8],
+    goals: &[u32],
+    limits: &[u32],
+    gained: MissionProgress,
+) -> Reference
+    requires { ⌜ length (now mdf) ≤ most ⌝ }
+    ensures { λ r. ⌜ r ≡ referOf (rndf-of (now (rndf .entry)) name (now (checkpoints .entry)) «checkpoint_count» parts) (now (mdf .entry)) (memory gained (now (goals .entry)) (now (limits .entry))) ⌝ }
+{
+    if same_name(rndf, name, mdf, gained.file.rndf) {
+        let foreign = first_foreign_goal(checkpoints, checkpoint_count, goals, gained.goals);
+        match foreign {
+            FirstRow::At(row) => Reference::Wrong(mdf_line(mdf, GOAL, row), 15),
+            FirstRow::Nothing => limits_fault(mdf, limits, gained.limits, parts),
+        }
+    } else {
+        Reference::Wrong(mdf_line(mdf, RNDF, 0), 14)
+    }
+}
+
+// So many rows fit into a table of so many words.
+fn fits(rows: u32, words: usize, stride: usize) -> bool
+    ensures { λ r. ⌜ r ≡ fits rows words stride ⌝ }
+{
+    rows as usize <= rows_of(words, stride)
+}
+
+// 11 is not due: both tables have the rows that are needed.
+fn both_fit(gained: MissionProgress, goals: usize, limits: usize) -> bool
+    ensures { λ r. ⌜ r ≡ room gained goals limits ⌝ }
+{
+    if fits(gained.goals, goals, GOAL_STRIDE) {
+        fits(gained.limits, limits, LIMIT_STRIDE)
+    } else {
+        false
+    }
+}
+
+fn answered(found: Reference, gained: MissionProgress) -> MissionReply
+    ensures { λ r. ⌜ r ≡ answeredOf found gained ⌝ }
+{
+    match found {
+        Reference::Right => {
+            let file = gained.file;
+            MissionReply::Accepted(
+                MissionCounts {
+                    goals: gained.goals,
+                    limits: gained.limits,
+                },
+                file,
+            )
+        }
+        Reference::Wrong(line, number) => MissionReply::Refused(line, number),
+    }
+}
+
+// Filled tables: is there room for all rows, and are the references right?
+fn judge_rows(
+    rndf: &[u8],
+    name: Stretch,
+    checkpoints: &[u32],
+    checkpoint_count: u32,
+    parts: u32,
+    mdf: &[u8],
+    goals: &[u32],
+    limits: &[u32],
+    gained: MissionProgress,
+) -> MissionReply
+    requires { ⌜ length (now mdf) ≤ most ⌝ }
+    ensures { λ r. ⌜ r ≡ judgedOf (rndf-of (now (rndf .entry)) name (now (checkpoints .entry)) «checkpoint_count» parts) (now (mdf .entry)) (memory gained (now (goals .entry)) (now (limits .entry))) ⌝ }
+{
+    if both_fit(gained, goals.len(), limits.len()) {
+        let found = refer(
+            rndf,
+            name,
+            checkpoints,
+            checkpoint_count,
+            parts,
+            mdf,
+            goals,
+            limits,
+            gained,
+        );
+        answered(found, gained)
+    } else {
+        MissionReply::Refused(0, 11)
+    }
+}
+
+// The tables cleared, then filled in one walk over the text.
+fn fill_cleared(mdf: &[u8], goals: &mut [u32], limits: &mut [u32]) -> MissionFilled
+    requires { ⌜ length (now mdf) ≤ most ⌝ }
+    ensures { λ r. ⌜ told r (λ p. memory p (now (goals .exit)) (now (limits .exit))) ≡ filledOf (now (mdf .entry)) (empty (now (goals .entry)) (now (limits .entry))) ⌝ }
+{
+    clear(goals);
+    clear(limits);
+    fill_orders(mdf, goals, limits)
+}
+
+// `rndf`: the text of an accepted RNDF, `name`: where its name stands in it, `checkpoints`: its filled table of so many rows, `parts`: how many segments and zones it has.
+pub fn read_mission(
+    rndf: &[u8],
+    name: Stretch,
+    checkpoints: &[u32],
+    checkpoint_count: u32,
+    parts: u32,
+    mdf: &[u8],
+    goals: &mut [u32],
+    limits: &mut [u32],
+) -> MissionReply
+    ensures { λ r. ⌜ outcome r (now (goals .exit)) (now (limits .exit)) ≡ missionOf (rndf-of (now (rndf .entry)) name (now (checkpoints .entry)) «checkpoint_count» parts) (now (mdf .entry)) (now (goals .entry)) (now (limits .entry)) ⌝ }
+{
+    if MOST < mdf.len() {
+        return MissionReply::Refused(0, 1);
+    }
+    let filled = fill_cleared(mdf, goals, limits);
+    match filled {
+        MissionFilled::Fault(line, number) => MissionReply::Refused(line, number),
+        MissionFilled::Rows(gained) => judge_rows(
+            rndf,
+            name,
+            checkpoints,
+            checkpoint_count,
+            parts,
+            mdf,
+            goals,
+            limits,
+            gained,
+        ),
+    }
+}

@@ -1,0 +1,126 @@
+-- THE THEOREM of pairs: what both readers answer together is what document 01 says: the RNDF's refusal, else the MDF's, else the network and the mission. Assumes nothing.
+use mathlib.Core.Path.{_≡_, refl, sym, ap, ap₂, subst, _∙_}
+use mathlib.Core.List.{List}
+use mathlib.Core.Logic.{_⊎_, inl, inr}
+use Prim.Native.Nat.{ℕ, _+_, _≤_}
+use native.Mathlib.Omega.{arith}
+use lib.ListN.{length}
+use Rattle.terms.specs.Ascii.{Bytes}
+use Rattle.line.specs.Content.{Field}
+use Rattle.grammar.specs.Network.{Network}
+use Rattle.grammar.specs.Mission.{Mission}
+use Rattle.grammar.specs.Tables.{point-row, tables, mission-tables}
+use Rattle.fill.specs.Counts.{sizes}
+use Rattle.fill.specs.FirstFaults.{parts-of}
+use Rattle.fill.proofs.ReferenceLaws.{parts-are}
+use Rattle.rows.specs.declared.FileRow.{FileRow}
+use Rattle.rows.specs.declared.MissionFileRow.{MissionFileRow}
+use Rattle.rows.proofs.Forms.{kept}
+use Rattle.table_words.specs.Words.{Lent, MissionLent, zeros, mission-zeros, network-filled, mission-filled}
+use Rattle.table_words.specs.FileRows.{network-file, mission-file}
+use Rattle.table_words.proofs.RowsAtMost.{rows-at-most}
+use Rattle.progress.specs.Given.{fitted}
+use Rattle.network_reader.specs.declared.Counts.{Counts}
+use Rattle.network_reader.specs.Replies.{rows-used, AcceptsRndf, RefusesRndf}
+use Rattle.network_reader.specs.Reading as N
+use Rattle.network_reader.specs.Reading.{readOf}
+use Rattle.network_reader.proofs.Theorems as NT
+use Rattle.mission_reader.specs.declared.MissionCounts.{MissionCounts}
+use Rattle.mission_reader.specs.declared.MissionReply as DM
+use Rattle.mission_reader.specs.declared.MissionReply.the-variants as MissionReply
+use Rattle.mission_reader.specs.MissionReplies.{AcceptsMdf, RefusesMdf, Takes}
+use Rattle.mission_reader.specs.MissionReplies as MR
+use Rattle.mission_reader.specs.MissionReading as M
+use Rattle.mission_reader.specs.MissionReading.{rndf-of, missionOf}
+use Rattle.mission_reader.proofs.References.{accepted-rndf}
+use Rattle.mission_reader.proofs.Theorems as MT
+use Rattle.reader.specs.declared.PairReply as DP
+use Rattle.reader.specs.declared.PairReply.the-variants as Pair
+use Rattle.reader.specs.Replies.{refusal, mission-lent, ReadsPair, accepted, rndf-refused, mdf-refused}
+use Rattle.reader.specs.Pairs.{joinedOf, Read, outcome, from-mission, from-network, pairOf}
+use Rattle.reader.specs.Pairs as P
+
+-- ## What the program does
+joined-told : (c : Counts) (file : FileRow) (left : Lent) (reply : DM.MissionReply) (g l : List ℕ) → outcome (joinedOf c file reply) left (mission-lent g l) ≡ from-mission c file left (M.outcome reply g l)
+joined-told c file left (MissionReply.Accepted m f) g l = refl
+joined-told c file left (MissionReply.Refused line number) g l = refl
+
+pub both-accepted : (rndf mdf : Bytes) (t left : Lent) (u : MissionLent) (c : Counts) (file : FileRow) (k : ℕ) (reply : DM.MissionReply) (g l : List ℕ) (r : DP.PairReply) → N.accepted c file left ≡ readOf rndf t → k ≡ fitted (c .segments + c .zones)
+    → M.outcome reply g l ≡ missionOf (rndf-of rndf (file .name) (left .checkpoints) (c .checkpoints) k) mdf (u .goals) (u .limits) → r ≡ joinedOf c file reply → outcome r left (mission-lent g l) ≡ pairOf rndf mdf t u
+unfolding pairOf
+both-accepted rndf mdf t left u c file k reply g l r e p m j =
+    ap (λ (x : DP.PairReply). outcome x left (mission-lent g l)) j
+    ∙ joined-told c file left reply g l
+    ∙ ap (from-mission c file left) (m ∙ ap (λ (x : ℕ). missionOf (rndf-of rndf (file .name) (left .checkpoints) (c .checkpoints) x) mdf (u .goals) (u .limits)) p)
+    ∙ ap (from-network rndf mdf u) e
+
+pub both-refused : (rndf mdf : Bytes) (t left : Lent) (u mission-left : MissionLent) (line number : ℕ) → N.refused line number ≡ readOf rndf t → outcome (Pair.Refused (refusal 1 line number)) left mission-left ≡ pairOf rndf mdf t u
+unfolding pairOf
+both-refused rndf mdf t left u mission-left line number e = ap (from-network rndf mdf u) e
+
+-- ## What it means
+pub record Accepted (rndf mdf : Bytes) (t : Lent) (u : MissionLent) (c : Counts) (file : FileRow) (m : MissionCounts) (mission-row : MissionFileRow) (left : Lent) (mission-left : MissionLent) : Type 0 where
+  pub net : Network Field
+  pub mission : Mission Field
+  pub accepts : AcceptsRndf rndf t net
+  pub takes : AcceptsMdf net mdf u mission
+  pub reply : Pair.Accepted c file m mission-row ≡ Pair.Accepted (rows-used (sizes (tables net))) (network-file net) (MR.rows-used mission) (mission-file mission)
+  pub holds : left ≡ network-filled net t
+  pub mission-holds : mission-left ≡ mission-filled (mission-tables mission) u
+
+pub data Refused (rndf mdf : Bytes) (t : Lent) (u : MissionLent) (file line number : ℕ) : Type 0 where
+  by-rndf : RefusesRndf rndf t line number → file ≡ 1 → Refused rndf mdf t u file line number
+  by-mdf : (n : Network Field) → AcceptsRndf rndf t n → RefusesMdf n mdf u line number → file ≡ 2 → Refused rndf mdf t u file line number
+
+abbrev pub Meant : (rndf mdf : Bytes) → Lent → MissionLent → Read → Type 0
+Meant rndf mdf t u (P.refused file line number) = Refused rndf mdf t u file line number
+Meant rndf mdf t u (P.accepted c f m g left mission-left) = Accepted rndf mdf t u c f m g left mission-left
+
+-- what the MDF's reader is told of the RNDF is the network's
+told-so : (rndf : Bytes) (t : Lent) (n : Network Field) → AcceptsRndf rndf t n → (c : Counts) (file : FileRow) (left : Lent) → c ≡ rows-used (sizes (tables n)) → file ≡ network-file n → left ≡ network-filled n t
+    → rndf-of rndf (file .name) (left .checkpoints) (c .checkpoints) (fitted (c .segments + c .zones)) ≡ accepted-rndf n rndf t
+told-so rndf t n a c file left p q r =
+    let few = rows-at-most n rndf (a .spelled) in
+    let size = a .size in
+    let parts : fitted (sizes (tables n) .segments + sizes (tables n) .zones) ≡ length (n .segments) + length (n .zones) = kept (sizes (tables n) .segments + sizes (tables n) .zones) 4294967295 (let x = few .segments in let y = few .zones in omega arith) ∙ parts-are (point-row n) n in
+    rw (p, q, r, parts) refl
+
+module _ (rndf mdf : Bytes) (t : Lent) (u : MissionLent) (n : Network Field) (a : AcceptsRndf rndf t n) (c : Counts) (file : FileRow) (left : Lent) (p : c ≡ rows-used (sizes (tables n))) (q : file ≡ network-file n) (r : left ≡ network-filled n t) where
+  mission-so : (x : M.Read) → MT.Replies n mdf u x → Meant rndf mdf t u (from-mission c file left x)
+  mission-so (M.refused line number) h = by-mdf n a h refl
+  mission-so (M.accepted m g goals limits) h = record {
+    net = n;
+    mission = h .mission;
+    accepts = a;
+    takes = h .accepts;
+    reply = λ i. Pair.Accepted (p i) (q i) (h .delivers .counted i) (h .delivers .own-row i);
+    holds = r;
+    mission-holds = λ i. mission-lent (h .delivers .goals-hold i) (h .delivers .limits-hold i);
+  }
+
+  pub network-so : Meant rndf mdf t u (from-network rndf mdf u (N.accepted c file left))
+  network-so = mission-so (missionOf (rndf-of rndf (file .name) (left .checkpoints) (c .checkpoints) (fitted (c .segments + c .zones))) mdf (u .goals) (u .limits))
+      (rw (told-so rndf t n a c file left p q r) (MT.replies-right n rndf (a .spelled) t (a .room) mdf u))
+
+pub meant : (rndf mdf : Bytes) (t : Lent) (u : MissionLent) → Meant rndf mdf t u (pairOf rndf mdf t u)
+unfolding pairOf
+meant rndf mdf t u = go (readOf rndf t) (NT.meant rndf t)
+  where
+    go : (x : N.Read) → NT.Meant rndf t x → Meant rndf mdf t u (from-network rndf mdf u x)
+    go (N.refused line number) h = by-rndf h refl
+    go (N.accepted c file left) h = network-so rndf mdf t u (h .net) (h .accepts) c file left (h .rows) (h .row) (h .holds)
+
+-- ## The contract
+pub pair-accepted : (rndf mdf : Bytes) (t left : Lent) (u mission-left : MissionLent) (c : Counts) (file : FileRow) (m : MissionCounts) (g : MissionFileRow) → P.accepted c file m g left mission-left ≡ pairOf rndf mdf t u
+    → ReadsPair rndf mdf t u (Pair.Accepted c file m g) left mission-left
+pair-accepted rndf mdf t left u mission-left c file m g e =
+    let h = subst (Meant rndf mdf t u) (sym e) (meant rndf mdf t u) in
+    accepted (h .net) (h .mission) (h .accepts) (h .takes) (h .reply) (h .holds) (h .mission-holds)
+
+pub pair-refused : (rndf mdf : Bytes) (t behind left : Lent) (u mission-behind mission-left : MissionLent) (file line number : ℕ) → P.refused file line number ≡ pairOf rndf mdf t u
+    → left ≡ zeros behind → zeros behind ≡ zeros t → mission-left ≡ mission-zeros mission-behind → mission-zeros mission-behind ≡ mission-zeros u → ReadsPair rndf mdf t u (Pair.Refused (refusal file line number)) left mission-left
+pair-refused rndf mdf t behind left u mission-behind mission-left file line number e z k y j = go (subst (Meant rndf mdf t u) (sym e) (meant rndf mdf t u))
+  where
+    go : Refused rndf mdf t u file line number → ReadsPair rndf mdf t u (Pair.Refused (refusal file line number)) left mission-left
+    go (by-rndf h f) = rndf-refused line number h (ap (λ (x : ℕ). Pair.Refused (refusal x line number)) f) (z ∙ k) (y ∙ j)
+    go (by-mdf n a h f) = mdf-refused n line number a h (ap (λ (x : ℕ). Pair.Refused (refusal x line number)) f) (z ∙ k) (y ∙ j)

@@ -1,0 +1,41 @@
+-- Executable: what a pair gets, and what the lent tables then hold where it is accepted. Assumes nothing.
+use Prim.Native.Nat.{ℕ, _+_}
+use Rattle.terms.specs.Ascii.{Bytes}
+use Rattle.rows.specs.declared.FileRow.{FileRow}
+use Rattle.rows.specs.declared.MissionFileRow.{MissionFileRow}
+use Rattle.table_words.specs.Words.{Lent, MissionLent}
+use Rattle.progress.specs.Given.{fitted}
+use Rattle.network_reader.specs.declared.Counts.{Counts}
+use Rattle.network_reader.specs.Reading as N
+use Rattle.network_reader.specs.Reading.{readOf}
+use Rattle.mission_reader.specs.declared.MissionCounts.{MissionCounts}
+use Rattle.mission_reader.specs.declared.MissionReply as DM
+use Rattle.mission_reader.specs.declared.MissionReply.the-variants as Mission
+use Rattle.mission_reader.specs.MissionReading as M
+use Rattle.mission_reader.specs.MissionReading.{rndf-of, missionOf}
+use Rattle.reader.specs.Replies.{refusal, mission-lent}
+use Rattle.reader.specs.declared.PairReply as DP
+use Rattle.reader.specs.declared.PairReply.the-variants as Pair
+
+abbrev pub joinedOf : Counts → FileRow → DM.MissionReply → DP.PairReply
+joinedOf c file (Mission.Accepted m f) = Pair.Accepted c file m f
+joinedOf c file (Mission.Refused line number) = Pair.Refused (refusal 2 line number)
+
+pub data Read : Type 0 where
+  refused : (file line number : ℕ) → Read
+  accepted : Counts → FileRow → MissionCounts → MissionFileRow → Lent → MissionLent → Read
+
+abbrev pub outcome : DP.PairReply → Lent → MissionLent → Read
+outcome (Pair.Accepted c f m g) left mission-left = accepted c f m g left mission-left
+outcome (Pair.Refused x) left mission-left = refused (x .file) (x .line) (x .number)
+
+abbrev pub from-mission : Counts → FileRow → Lent → M.Read → Read
+from-mission c f left (M.refused line number) = refused 2 line number
+from-mission c f left (M.accepted m g goals limits) = accepted c f m g left (mission-lent goals limits)
+
+abbrev pub from-network : Bytes → Bytes → MissionLent → N.Read → Read
+from-network rndf mdf u (N.refused line number) = refused 1 line number
+from-network rndf mdf u (N.accepted c f left) = from-mission c f left (missionOf (rndf-of rndf (f .name) (left .checkpoints) (c .checkpoints) (fitted (c .segments + c .zones))) mdf (u .goals) (u .limits))
+
+unfoldable pub pairOf : (rndf mdf : Bytes) → Lent → MissionLent → Read
+pairOf rndf mdf t u = from-network rndf mdf u (readOf rndf t)
