@@ -10,10 +10,7 @@ use Rattle.judge.specs.RndfLine.{rndf-judging}
 use Rattle.mission_judge.specs.MdfLine.{mdf-judging}
 use Rattle.walk.specs.Walking.{walked}
 use Rattle.walk.specs.Seeing.{noneSeen, see, line-seen}
-
--- 01: 1 "text over 16,777,215 bytes"
-abbrev pub most : ℕ
-most = 16777215
+pub use Rattle.walk.specs.Standing.{most}
 
 unfoldable pub rndfLineOf : Bytes → (kind row : ℕ) → ℕ
 rndfLineOf text kind row = line-seen (walked rndf-judging (see kindOf kind row) overOf firstPlace noneSeen 0 1 (linesOf text))

@@ -12,10 +12,7 @@ use Rattle.walk.specs.Walking.{Found, fault, gathered, walked}
 use Rattle.mission.specs.Storing.{MissionMemory, memory, stored}
 use Rattle.mission.specs.declared.MissionFilled as DF
 use Rattle.mission.specs.declared.MissionFilled.the-variants as Filled
-
--- 01: 1 "text over 16,777,215 bytes"
-abbrev pub most : ℕ
-most = 16777215
+pub use Rattle.walk.specs.Standing.{most}
 
 abbrev pub with-progress : MissionProgress → MissionMemory → MissionMemory
 with-progress p m = memory p (m .goals) (m .limits)

@@ -29,6 +29,7 @@ use Rattle.mission_reader.specs.declared.MissionReply as DP
 use Rattle.mission_reader.specs.declared.MissionReply.the-variants as Reply
 use Rattle.mission_reader.specs.declared.Reference as DF
 use Rattle.mission_reader.specs.declared.Reference.the-variants as Reference
+pub use Rattle.walk.specs.Standing.{most}
 
 -- what is known of the RNDF: its text, where its name stands, its checkpoints with their count, and how many segments and zones it has
 pub record Rndf : Type 0 where

@@ -18,10 +18,7 @@ use Rattle.table_words.specs.FileRows.{mission-file}
 use Rattle.form_faults.specs.FormFaults.{MdfBadLine, MdfUnended}
 use Rattle.fault_lines.specs.FaultLines.{FirstMdfFault}
 use Rattle.mission_reader.specs.declared.MissionCounts.{MissionCounts}
-
--- 01: 1 "text over 16,777,215 bytes"
-abbrev pub most : ℕ
-most = 16777215
+pub use Rattle.walk.specs.Standing.{most}
 
 -- 01: 11 "a table has fewer rows than needed"; there is room where none has
 abbrev pub RoomFor : Mission Field → MissionLent → Type 0

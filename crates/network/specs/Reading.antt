@@ -13,10 +13,7 @@ use Rattle.walk.specs.Walking.{Found, fault, gathered, walked}
 use Rattle.network.specs.Storing.{Memory, memory, stored}
 use Rattle.network.specs.declared.Filled as DF
 use Rattle.network.specs.declared.Filled.the-variants as Filled
-
--- 01: 1 "text over 16,777,215 bytes"
-abbrev pub most : ℕ
-most = 16777215
+pub use Rattle.walk.specs.Standing.{most}
 
 abbrev pub with-progress : Progress → Memory → Memory
 with-progress p m = memory p (m .segments) (m .lanes) (m .zones) (m .spots) (m .points) (m .checkpoints) (m .stops) (m .exits)

@@ -1,10 +1,9 @@
 -- THE THEOREM: what the reader of an RNDF answers is what document 01 says: line and number of a refusal in its order; or the rows, the file's row and the tables of the network that is spelled. Assumes nothing.
-use mathlib.Core.Path.{_≡_, refl, sym, ap, ap₂, subst, _∙_}
-use mathlib.Core.List.{List, []}
+use mathlib.Core.Path.{_≡_, refl, sym, ap, subst, _∙_}
 use mathlib.Core.Option.{Option, none, some}
 use mathlib.Core.Bool.{Bool, true, false}
-use mathlib.Core.Logic.{_⊎_, inl, inr, ⊎-elim}
-use Prim.Native.Nat.{ℕ, _+_, _≤_, _<_, min}
+use mathlib.Core.Logic.{⊎-elim}
+use Prim.Native.Nat.{ℕ, _≤_, _<_}
 use native.Mathlib.Omega.{arith}
 use lib.ListN.{length, length-replicate}
 use lib.Dec.{ltb}
@@ -17,9 +16,8 @@ use Rattle.line.specs.Content.{Field}
 use Rattle.line.specs.Lines.{linesOf}
 use Rattle.grammar.specs.Network.{Network}
 use Rattle.grammar.specs.Tables.{tables}
+use Rattle.grammar.specs.References.{Sound}
 use Rattle.text.specs.Spelling.{SpellsRndf}
-use Rattle.text.specs.Answers.{faulty, short}
-use Rattle.text.proofs.Theorems.{read-rndf}
 use Rattle.form_faults.proofs.FormFaults.{rndf-bad-line-right, rndf-unended-right}
 use Rattle.fill.specs.Counts.{sizes}
 use Rattle.fill.specs.FirstFaults.{Fault}
@@ -37,10 +35,11 @@ use Rattle.network.specs.Storing.{Memory}
 use Rattle.network.specs.Reading.{put, filledOf}
 use Rattle.network.proofs.Steps.{Lengths, lengths, put-long}
 use Rattle.network.proofs.Answered.{found-fault}
-use Rattle.network.proofs.Holding.{CountsNetwork, HoldsNetwork}
-use Rattle.network.proofs.Spelled.{exit-line-starts, left-counted, left-filled, found-network}
+use Rattle.network.proofs.Holding.{CountsNetwork}
+use Rattle.network.proofs.Spelled.{left-counted, left-filled, found-network}
 use Rattle.network_references.specs.ExitStarts.{exits-answer}
 use Rattle.references.specs.Repeats.{rowOf}
+use Rattle.fault_lines.specs.FaultLines.{FirstRndfFault}
 use Rattle.fault_lines.proofs.RndfFaults.{undeclared-in, repeated-in, exit-line, checkpoint-line, no-row-sound, only-undeclared, only-repeated, lines-differ, undeclared-first, repeated-first}
 use Rattle.network_reader.specs.declared.Counts.{Counts}
 use Rattle.network_reader.specs.Reading.{most, partsFit, marksFit, room, countsOf, faultLine, Referred, right, wrong, joined, referOf, Read, refused, accepted, tables-of, from-referred, judgedOf, from-filled, empty, readOf}
@@ -61,7 +60,7 @@ Meant text t (refused line number) = RefusesRndf text t line number
 Meant text t (accepted c file left) = Accepted text t c file left
 
 -- ## Counts
-counts-are : (n : Network Field) (text : Bytes) → SpellsRndf n text → length text ≤ most → (p : Progress) → CountsNetwork n p → countsOf p ≡ rows-used (sizes (tables n))
+pub counts-are : (n : Network Field) (text : Bytes) → SpellsRndf n text → length text ≤ most → (p : Progress) → CountsNetwork n p → countsOf p ≡ rows-used (sizes (tables n))
 unfolding countsOf
 counts-are n text s h p c =
     let few : sizes (tables n) .points ≤ 4294967295 = let x = rows-at-most n text s .points in omega arith in
@@ -83,19 +82,48 @@ room-same : (text : Bytes) (t : Lent) (m : Memory) (c : Counts) → filledOf tex
 unfolding room-by
 room-same text t m c e = ap (room-by c) (lengths-kept text t m e) ∙ zeros-long t c
 
+-- ## References: all are right, and the exits hold their entries; or the first line at fault
+pub data Refers (text : Bytes) (t : Lent) (n : Network Field) (x : Referred) : Type 0 where
+  all-right : Sound n → x ≡ right (network-filled n t .exits) → Refers text t n x
+  at-fault : (line number : ℕ) → FirstRndfFault n text line number → x ≡ wrong line number → Refers text t n x
+
+joined-so : (n : Network Field) (text : Bytes) → SpellsRndf n text → (t : Lent) (u r : Option Fault) → undeclared-in n ≡ u → repeated-in n ≡ r → Refers text t n (joined text (exits-answer n t u) (rowOf r))
+unfolding faultLine
+joined-so n text h t none none a b = all-right (no-row-sound n text h a b) refl
+joined-so n text h t (some f) none a b = at-fault (exit-line text (f .row)) 12 (only-undeclared n text h f a b) refl
+joined-so n text h t none (some g) a b = at-fault (checkpoint-line text (g .row)) 13 (only-repeated n text h g a b) refl
+joined-so n text h t (some f) (some g) a b = go (ltb (exit-line text (f .row)) (checkpoint-line text (g .row))) refl
+  where
+    go : (x : Bool) → ltb (exit-line text (f .row)) (checkpoint-line text (g .row)) ≡ x → Refers text t n (joined text (exits-answer n t (some f)) (rowOf (some g)))
+    go true q = rw q (at-fault (exit-line text (f .row)) 12 (undeclared-first n text h f g a b (ltb-true (exit-line text (f .row)) (checkpoint-line text (g .row)) q)) refl)
+    go false q =
+        let le = ltb-false (exit-line text (f .row)) (checkpoint-line text (g .row)) q in
+        let less : checkpoint-line text (g .row) < exit-line text (f .row) = below (checkpoint-line text (g .row)) (exit-line text (f .row)) le (λ x. lines-differ n text h f g a b (sym x)) in
+        rw q (at-fault (checkpoint-line text (g .row)) 13 (repeated-first n text h f g a b less) refl)
+      where
+        below : (i j : ℕ) → i ≤ j → (i ≡ j → ⊥) → i < j
+        below i j l d = omega (arith, l, d)
+
 -- ## Filled tables
 module _ (text : Bytes) (size : length text ≤ most) (t : Lent) (n : Network Field) (h : SpellsRndf n text) (m : Memory) (e : filledOf text (empty t) ≡ gathered m) where
-  counted : CountsNetwork n (m .so-far)
+  pub counted : CountsNetwork n (m .so-far)
   counted = left-counted n text h (zeros t) m e
 
-  refers-so : (fits : HasRoom (sizes (tables n)) t) (u r : Option Fault) → undeclared-in n ≡ u → repeated-in n ≡ r → Meant text t (from-referred m (joined text (exits-answer n t u) (rowOf r)))
-  unfolding faultLine
-  refers-so fits none none a b =
+  -- the test of room is the one of the network's rows ..
+  pub room-is : room (countsOf (m .so-far)) (tables-of m) ≡ room (rows-used (sizes (tables n))) t
+  room-is = room-same text t m (countsOf (m .so-far)) e ∙ ap (λ (c : Counts). room c t) (counts-are n text h size (m .so-far) counted)
+
+  -- .. and the references that are found are the network's
+  pub references-are : HasRoom (sizes (tables n)) t → Refers text t n (referOf text (m .segments) (m .lanes) (m .zones) (m .checkpoints) (m .exits) (m .so-far))
+  references-are fits = rw (refers n text h size t fits m counted (left-filled n text h size t fits m e)) (joined-so n text h t (undeclared-in n) (repeated-in n) refl refl)
+
+  refers-so : HasRoom (sizes (tables n)) t → (x : Referred) → Refers text t n x → Meant text t (from-referred m x)
+  refers-so fits x (all-right s q) =
       let c = counted in
       let k = left-filled n text h size t fits m e in
-      record {
+      rw q (record {
         net = n;
-        accepts = record { size = size; spelled = h; room = fits; sound = no-row-sound n text h a b };
+        accepts = record { size = size; spelled = h; room = fits; sound = s };
         rows = counts-are n text h size (m .so-far) c;
         row = c .file;
         holds = λ i. record {
@@ -108,34 +136,18 @@ module _ (text : Bytes) (size : length text ≤ most) (t : Lent) (n : Network Fi
           stops = k .stops i;
           exits = network-filled n t .exits;
         };
-      }
-  refers-so fits (some f) none a b = bad-reference n size h fits (only-undeclared n text h f a b)
-  refers-so fits none (some g) a b = bad-reference n size h fits (only-repeated n text h g a b)
-  refers-so fits (some f) (some g) a b = go (ltb (exit-line text (f .row)) (checkpoint-line text (g .row))) refl
-    where
-      go : (x : Bool) → ltb (exit-line text (f .row)) (checkpoint-line text (g .row)) ≡ x → Meant text t (from-referred m (joined text (exits-answer n t (some f)) (rowOf (some g))))
-      go true q = rw q (bad-reference n size h fits (undeclared-first n text h f g a b (ltb-true (exit-line text (f .row)) (checkpoint-line text (g .row)) q)))
-      go false q =
-          let le = ltb-false (exit-line text (f .row)) (checkpoint-line text (g .row)) q in
-          let less : checkpoint-line text (g .row) < exit-line text (f .row) = below (checkpoint-line text (g .row)) (exit-line text (f .row)) le (λ x. lines-differ n text h f g a b (sym x)) in
-          rw q (bad-reference n size h fits (repeated-first n text h f g a b less))
-        where
-          below : (i j : ℕ) → i ≤ j → (i ≡ j → ⊥) → i < j
-          below i j l d = omega (arith, l, d)
+      })
+  refers-so fits x (at-fault i k f q) = rw q (bad-reference n size h fits f)
 
   judged-so : Meant text t (judgedOf text m)
   unfolding judgedOf
   judged-so = go (room (countsOf (m .so-far)) (tables-of m)) refl
     where
-      same : room (countsOf (m .so-far)) (tables-of m) ≡ room (rows-used (sizes (tables n))) t
-      same = room-same text t m (countsOf (m .so-far)) e ∙ ap (λ (c : Counts). room c t) (counts-are n text h size (m .so-far) counted)
-
       go : (x : Bool) → room (countsOf (m .so-far)) (tables-of m) ≡ x → Meant text t (pick x (from-referred m (referOf text (m .segments) (m .lanes) (m .zones) (m .checkpoints) (m .exits) (m .so-far))) (refused 0 11))
-      go false q = no-room n size h (λ r. clash (sym (room-there (sizes (tables n)) t r) ∙ sym same ∙ q))
+      go false q = no-room n size h (λ r. clash (sym (room-there (sizes (tables n)) t r) ∙ sym room-is ∙ q))
       go true q =
-          let fits = has-room (sizes (tables n)) t (sym same ∙ q) in
-          let k = left-filled n text h size t fits m e in
-          rw (refers n text h size t fits m counted k) (refers-so fits (undeclared-in n) (repeated-in n) refl refl)
+          let fits = has-room (sizes (tables n)) t (sym room-is ∙ q) in
+          refers-so fits (referOf text (m .segments) (m .lanes) (m .zones) (m .checkpoints) (m .exits) (m .so-far)) (references-are fits)
 
 -- ## The whole
 pub meant : (text : Bytes) (t : Lent) → Meant text t (readOf text t)

@@ -28,10 +28,7 @@ use Rattle.network_reader.specs.declared.NetworkReply as DP
 use Rattle.network_reader.specs.declared.NetworkReply.the-variants as Reply
 use Rattle.network_reader.specs.declared.Reference as DF
 use Rattle.network_reader.specs.declared.Reference.the-variants as Reference
-
--- 01: 1 "text over 16,777,215 bytes"
-abbrev pub most : ℕ
-most = 16777215
+pub use Rattle.walk.specs.Standing.{most}
 
 abbrev pub lent : (segments lanes zones spots : List ℕ) → List ℤ → (checkpoints stops exits : List ℕ) → Lent
 lent sg ln zn sp pt ck st ex = record { segments = sg; lanes = ln; zones = zn; spots = sp; points = pt; checkpoints = ck; stops = st; exits = ex }

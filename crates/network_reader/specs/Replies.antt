@@ -13,10 +13,7 @@ use Rattle.fill.specs.Counts.{sizes}
 use Rattle.fault_lines.specs.FaultLines.{FirstRndfFault}
 use Rattle.table_words.specs.Words.{Lent, HasRoom}
 use Rattle.network_reader.specs.declared.Counts.{Counts}
-
--- 01: 1 "text over 16,777,215 bytes"
-abbrev pub most : ℕ
-most = 16777215
+pub use Rattle.walk.specs.Standing.{most}
 
 -- 01: "Acceptance replies with the rows used of each table"
 abbrev pub rows-used : F.Counts → Counts

@@ -1,3 +1,8 @@
 -- Laws of the entry points.
 pub mod Steps
 pub mod Pairing
+pub mod Settled
+pub mod Promises
+pub mod YardTexts
+pub mod YardA
+pub mod ShutOut

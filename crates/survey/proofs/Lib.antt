@@ -1,5 +1,0 @@
--- Laws of the survey.
-pub mod Steps
-pub mod Walking
-pub mod Theorems
-pub mod Counted
