@@ -35,7 +35,7 @@ int main(void)
     static uint32_t a[4], b[5 * 600], c[6], d[2], e[2 * 600], f[1], g[2 * 600];
     int32_t *points = malloc(sizeof(int32_t) * 2 * 600000);
     char *text = malloc(40u << 20);
-    static const int lanes[] = {30, 60, 120, 240, 480};
+    static const int lanes[] = {34, 68, 136, 272, 544};
     for (int i = 0; i < 5; i++) {
         size_t n = build(text, lanes[i]);
         double best = 1e30;

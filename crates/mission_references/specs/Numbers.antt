@@ -1,4 +1,4 @@
--- WHAT A READER MUST BELIEVE. The refusal that each answer stands for. Document 01, "Refusal numbers". Assumes nothing.
+-- The refusal that each answer stands for. Document 01, "Refusal numbers". Assumes nothing.
 use mathlib.Core.Option.{Option, none, some}
 use Rattle.fill.specs.FirstFaults.{Fault, fault}
 use Rattle.mission_references.specs.declared.FirstRow.{FirstRow}

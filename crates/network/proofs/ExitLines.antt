@@ -1,4 +1,4 @@
--- WHAT A READER MUST BELIEVE. Where the lines of the exits start, and the rows that stand for the exits until their entries are looked up. Assumes nothing.
+-- Where the lines of the exits start, and the rows that stand for the exits until their entries are looked up. Assumes nothing.
 use mathlib.Core.List.{List, [], _∷_, _++_}
 use mathlib.Core.Option.{Option, none, some}
 use Prim.Native.Nat.{ℕ}

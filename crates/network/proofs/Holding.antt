@@ -1,4 +1,4 @@
--- WHAT A READER MUST BELIEVE. What a walk leaves that was made over the text of a network: counts, the file's own row, and tables. Assumes nothing.
+-- What a walk leaves that was made over the text of a network: counts, the file's own row, and tables. Assumes nothing.
 use mathlib.Core.Path.{_≡_}
 use mathlib.Core.List.{List, map}
 use Prim.Native.Nat.{ℕ, _+_}

@@ -1,4 +1,4 @@
--- WHAT A READER MUST BELIEVE. How the program shows a state and a row of the theory: a missing name is 0, 0; widths and numbers as their constructors make them. Assumes nothing.
+-- How the program shows a state and a row of the theory: a missing name is 0, 0; widths and numbers as their constructors make them. Assumes nothing.
 use mathlib.Core.Option.{Option, none, some}
 use Prim.Native.Nat.{ℕ, suc, _+_}
 use Rattle.grammar.specs.Statements.{Kind, RNDF-name, num-segments, num-zones, format-version, creation-date, segment, num-lanes, segment-name, end-segment, lane, num-waypoints, lane-width, left-boundary, right-boundary, checkpoint, stop, exit, end-lane, zone, num-spots, zone-name, end-zone, perimeter, num-perimeterpoints, end-perimeter, spot, spot-width, end-spot, end-file, point}

@@ -6,3 +6,7 @@ pub mod Promises
 pub mod YardTexts
 pub mod YardA
 pub mod ShutOut
+pub mod PairSettled
+pub mod PairPromises
+pub mod MissionTexts
+pub mod NineCases
