@@ -2,8 +2,7 @@
 // all tables. Nothing is required. A refusal leaves every lent table zero.
 //
 // specs/Replies: the contracts, what a reader must believe. specs/Pairs: a pair's, executable. proofs/Settled: no second reply and no second memory satisfies them.
-// proofs/Pairing: what both files get together. proofs/Promises: what the contracts promise, in document 01's words. proofs/YardA: yard A and its cases.
-// proofs/ShutOut: the readers that document 01 wants shut out are.
+// (PairSettled: of a pair.) proofs/Pairing: what both files get together. What follows from the contracts alone is the crate `promises`.
 //
 // Rests on `network_reader`, `mission_reader` and what they rest on. Beside it: `look_up` (a checkpoint number's point), `rows` (names, and how rows lie in a table).
 use mission_reader::MissionCounts;

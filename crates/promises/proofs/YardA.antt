@@ -33,12 +33,12 @@ use Rattle.rows.specs.Table.{flat, tableOf}
 use Rattle.rows.specs.declared.FileRow.{FileRow}
 use Rattle.table_words.specs.Words.{Lent, HasRoom, zeros, network-filled}
 use Rattle.network_reader.specs.Replies.{most, rows-used, bad-line, unended, bad-reference}
 use Rattle.reader.specs.declared.RndfReply.{RndfReply}
 use Rattle.reader.specs.declared.RndfReply.the-variants as Reply
 use Rattle.network_reader.specs.Reading.{lent}
 use Rattle.reader.specs.Replies.{refusal, ReadsRndf}
-use Rattle.reader.proofs.Promises.{spelled-accepted, refusal-only}
-use Rattle.reader.proofs.YardTexts.{yard, entry-3, exit-from-3, three-waypoints, one-waypoint, without-end, line-8-twice, second-line, second-lane, second-segment, network, network-entry-3, network-twice, entry-3-lines, twice-lines, answered, yard-spelled, entry-3-spelled, twice-spelled}
+use Rattle.promises.proofs.Promises.{spelled-accepted, refusal-only}
+use Rattle.promises.proofs.YardTexts.{yard, entry-3, exit-from-3, three-waypoints, one-waypoint, without-end, line-8-twice, second-line, second-lane, second-segment, network, network-entry-3, network-twice, entry-3-lines, twice-lines, answered, yard-spelled, entry-3-spelled, twice-spelled}
 
 -- ## Sizes
 record Small : Type 0 where

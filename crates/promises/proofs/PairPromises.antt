@@ -30,14 +30,14 @@ use Rattle.network_reader.specs.Replies.{most, rows-used, AcceptsRndf, RefusesR
 use Rattle.mission_reader.specs.declared.MissionCounts.{MissionCounts}
 use Rattle.mission_reader.specs.MissionReplies.{RoomFor, RefusesMdf, too-long, bad-line, unended, no-room, bad-reference}
 use Rattle.mission_reader.specs.MissionReplies as M
 use Rattle.reader.specs.declared.Refusal.{Refusal}
 use Rattle.reader.specs.declared.PairReply.{PairReply}
 use Rattle.reader.specs.declared.PairReply.the-variants as Pair
 use Rattle.reader.specs.declared.RndfReply.the-variants as Reply
 use Rattle.reader.specs.Replies.{refusal, ReadsRndf, ReadsPair, accepted, rndf-refused, mdf-refused}
 use Rattle.reader.specs.Replies as R
-use Rattle.reader.proofs.Promises as Alone
+use Rattle.promises.proofs.Promises as Alone
 use Rattle.reader.proofs.PairSettled.{pair-settled}
 
 -- ## Acceptance and refusal are not the same
 abbrev pub pair-is-accepted : PairReply → ℕ

@@ -36,16 +36,16 @@ use Rattle.network_reader.specs.declared.Counts as Declared
 use Rattle.network_reader.specs.Replies.{rows-used, AcceptsRndf}
 use Rattle.mission_reader.specs.declared.MissionCounts as DeclaredMission
 use Rattle.mission_reader.specs.MissionReplies.{most, bad-line, bad-reference}
 use Rattle.reader.specs.declared.RndfReply.{RndfReply}
 use Rattle.reader.specs.declared.PairReply.{PairReply}
 use Rattle.reader.specs.declared.PairReply.the-variants as Pair
 use Rattle.reader.specs.Replies.{refusal, mission-lent, ReadsRndf, ReadsPair}
 use Rattle.reader.proofs.Settled.{rndf-some}
-use Rattle.reader.proofs.Promises.{accepted-spelled, refusal-right}
-use Rattle.reader.proofs.PairPromises.{spelled-pair-accepted, pair-refusal-only, by-rndf, by-mdf}
-use Rattle.reader.proofs.YardTexts.{yard, entry-3, exit-from-3, three-waypoints, one-waypoint, without-end, line-8-twice, network, yard-spelled}
-use Rattle.reader.proofs.YardA.{yard-rows, yard-file, rows-are, used, yard-words, yard-accepted, case-rows, Refused, cases}
-use Rattle.reader.proofs.MissionTexts.{round, goal-8, limit-10-5, mission, mission-goal-8, goal-8-lines, answered, round-spelled, goal-8-spelled}
+use Rattle.promises.proofs.Promises.{accepted-spelled, refusal-right}
+use Rattle.promises.proofs.PairPromises.{spelled-pair-accepted, pair-refusal-only, by-rndf, by-mdf}
+use Rattle.promises.proofs.YardTexts.{yard, entry-3, exit-from-3, three-waypoints, one-waypoint, without-end, line-8-twice, network, yard-spelled}
+use Rattle.promises.proofs.YardA.{yard-rows, yard-file, rows-are, used, yard-words, yard-accepted, case-rows, Refused, cases}
+use Rattle.promises.proofs.MissionTexts.{round, goal-8, limit-10-5, mission, mission-goal-8, goal-8-lines, answered, round-spelled, goal-8-spelled}
 
 -- ## A pair that is refused: the reply, and all lent tables zero
 abbrev pub PairRefused : (rndf mdf : Bytes) → Lent → MissionLent → (file line number : ℕ) → Type 0

@@ -14,14 +14,14 @@ use Rattle.rows.specs.declared.FileRow.{FileRow}
 use Rattle.table_words.specs.Words.{Lent, zeros}
 use Rattle.network_reader.specs.declared.Counts.{Counts}
 use Rattle.network_reader.specs.Replies.{rows-used}
 use Rattle.reader.specs.declared.Refusal.{Refusal}
 use Rattle.reader.specs.declared.RndfReply.{RndfReply}
 use Rattle.reader.specs.declared.RndfReply.the-variants as Reply
 use Rattle.reader.specs.Replies.{refusal, ReadsRndf}
 use Rattle.reader.proofs.Settled.{rndf-some}
-use Rattle.reader.proofs.Promises.{is-accepted, not-both, Acceptable, accepted-spelled, tables-are}
-use Rattle.reader.proofs.YardTexts.{yard, second-line, second-lane, second-segment, network, yard-spelled}
-use Rattle.reader.proofs.YardA.{yard-rows, yard-file, rows-are, used, yard-words, yard-read, Refused, seconds}
+use Rattle.promises.proofs.Promises.{is-accepted, not-both, Acceptable, accepted-spelled, tables-are}
+use Rattle.promises.proofs.YardTexts.{yard, second-line, second-lane, second-segment, network, yard-spelled}
+use Rattle.promises.proofs.YardA.{yard-rows, yard-file, rows-are, used, yard-words, yard-read, Refused, seconds}
 
 -- what a reader does: its reply to a text, and what it leaves in the tables that it was lent
 abbrev pub Reader : Type 0
