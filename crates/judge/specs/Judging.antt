@@ -32,12 +32,12 @@ pub record Judging : Type 1 where
 module _ (J : Judging) where
   open Judging J using (St, Pl, kinds, kindOf, refuses, needs, made, steps)
 
-  -- 01: 9 "a value or identifier that is not permitted"
+  -- 01: 9 "value not permitted here"
   abbrev pub taken : St → Option Pl → Got St Pl
   taken s (some q) = said s q
   taken s none = bad 9
 
-  -- 01: 8 "a field that is not of its kind"
+  -- 01: 8 "field not of its kind"
   abbrev pub valued : Pl → Option St → Got St Pl
   valued p (some s) = taken s (steps p s)
   valued p none = bad 8

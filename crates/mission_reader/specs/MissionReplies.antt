@@ -26,7 +26,7 @@ RoomFor m = MissionHasRoom (mission-sizes (mission-tables m))
 
 -- n: the network that was accepted before, u: the goals and limits that are lent
 module _ (n : Network Field) (mdf : Bytes) (u : MissionLent) where
-  -- 01: "every pair that spells a network and mission is accepted"; m: the mission that the MDF spells
+  -- the MDF spells the mission m, within the size and the room, and m fits the network
   pub record AcceptsMdf (m : Mission Field) : Type 0 where
     pub size : length mdf ≤ most
     -- 01: ""Well-formed" means spelled by the grammar"

@@ -75,7 +75,7 @@ pub record Spelled (rndf mdf : Bytes) (n : Network Field) (m : Mission Field) : 
   pub sound : Sound n
   pub fits : Fits (network-named bytes-of n) (mission-named bytes-of m)
 
--- what is lent and given is large enough and no larger than the reader takes
+-- the texts are no longer than is taken, and the tables have room
 pub record Sized (rndf mdf : Bytes) (t : Lent) (u : MissionLent) (n : Network Field) (m : Mission Field) : Type 0 where
   pub size : length rndf ≤ most
   pub mission-size : length mdf ≤ M.most

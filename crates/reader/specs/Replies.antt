@@ -26,19 +26,19 @@ refusal file line number = record { file = file; line = line; number = number }
 abbrev pub mission-lent : (goals limits : List ℕ) → MissionLent
 mission-lent goals limits = record { goals = goals; limits = limits }
 
--- ## An RNDF alone: the reply, and what is left in the lent tables
-pub data ReadsRndf (text : Bytes) (lent : Lent) (reply : RndfReply) (left : Lent) : Type 0 where
+-- ## An RNDF alone: the reply, and what is left in the lent tables. t: these tables as they were lent
+pub data ReadsRndf (text : Bytes) (t : Lent) (reply : RndfReply) (left : Lent) : Type 0 where
   -- 01: "Acceptance replies with the rows used of each table; rows beyond are zero."
-  accepted : (n : Network Field) → AcceptsRndf text lent n → reply ≡ Reply.Accepted (rows-used (sizes (tables n))) (network-file n) → left ≡ network-filled n lent → ReadsRndf text lent reply left
+  accepted : (n : Network Field) → AcceptsRndf text t n → reply ≡ Reply.Accepted (rows-used (sizes (tables n))) (network-file n) → left ≡ network-filled n t → ReadsRndf text t reply left
   -- 01: "All lent tables .. are then zero over their whole length"
-  refused : (line number : ℕ) → RefusesRndf text lent line number → reply ≡ Reply.Refused (refusal 1 line number) → left ≡ zeros lent → ReadsRndf text lent reply left
+  refused : (line number : ℕ) → RefusesRndf text t line number → reply ≡ Reply.Refused (refusal 1 line number) → left ≡ zeros t → ReadsRndf text t reply left
 
--- ## An RNDF with its MDF
-pub data ReadsPair (rndf mdf : Bytes) (lent : Lent) (mission-lent : MissionLent) (reply : PairReply) (left : Lent) (mission-left : MissionLent) : Type 0 where
-  accepted : (n : Network Field) (m : Mission Field) → AcceptsRndf rndf lent n → AcceptsMdf n mdf mission-lent m → reply ≡ Pair.Accepted (rows-used (sizes (tables n))) (network-file n) (M.rows-used m) (mission-file m)
-      → left ≡ network-filled n lent → mission-left ≡ mission-filled (mission-tables m) mission-lent → ReadsPair rndf mdf lent mission-lent reply left mission-left
+-- ## An RNDF with its MDF. u: the goals and limits as they were lent
+pub data ReadsPair (rndf mdf : Bytes) (t : Lent) (u : MissionLent) (reply : PairReply) (left : Lent) (mission-left : MissionLent) : Type 0 where
+  accepted : (n : Network Field) (m : Mission Field) → AcceptsRndf rndf t n → AcceptsMdf n mdf u m → reply ≡ Pair.Accepted (rows-used (sizes (tables n))) (network-file n) (M.rows-used m) (mission-file m)
+      → left ≡ network-filled n t → mission-left ≡ mission-filled (mission-tables m) u → ReadsPair rndf mdf t u reply left mission-left
   -- 01: "for the RNDF 1; ..": everything about the RNDF comes first
-  rndf-refused : (line number : ℕ) → RefusesRndf rndf lent line number → reply ≡ Pair.Refused (refusal 1 line number) → left ≡ zeros lent → mission-left ≡ mission-zeros mission-lent → ReadsPair rndf mdf lent mission-lent reply left mission-left
+  rndf-refused : (line number : ℕ) → RefusesRndf rndf t line number → reply ≡ Pair.Refused (refusal 1 line number) → left ≡ zeros t → mission-left ≡ mission-zeros u → ReadsPair rndf mdf t u reply left mission-left
   -- 01: "Then the MDF likewise"
-  mdf-refused : (n : Network Field) (line number : ℕ) → AcceptsRndf rndf lent n → RefusesMdf n mdf mission-lent line number → reply ≡ Pair.Refused (refusal 2 line number)
-      → left ≡ zeros lent → mission-left ≡ mission-zeros mission-lent → ReadsPair rndf mdf lent mission-lent reply left mission-left
+  mdf-refused : (n : Network Field) (line number : ℕ) → AcceptsRndf rndf t n → RefusesMdf n mdf u line number → reply ≡ Pair.Refused (refusal 2 line number)
+      → left ≡ zeros t → mission-left ≡ mission-zeros u → ReadsPair rndf mdf t u reply left mission-left
