@@ -1,9 +1,11 @@
 #!/usr/bin/env python3
-"""How much stack the summary program and the readers need, measured on what was built (run `rt check summary reader_vectors` first).
+"""How much stack the summary program, the readers and the library for C need, measured on what was built (run `rt check summary reader_vectors` and
+`rt staticlib yard` first).
 
 1. The smallest stack in KiB with which the summary program still prints yard A's line (`ulimit -s`, an empty environment).
 2. The frames of the readers, read from the machine code of reader_vectors.o, where they are functions of their own (objdump, Debian: binutils):
    each frame, and the deepest chain of calls from the reader of an RNDF, without the 32,768 bytes of marks.
+3. The deepest chain of calls from each function that the library for C exports, marks included; include/kastepuhm.h promises LIBRARY.
 """
 import os
 import re
@@ -13,6 +15,7 @@ import sys
 ROOT = os.path.dirname(os.path.dirname(os.path.abspath(__file__)))
 MARKS = 32768
 TEXTS, TABLES = 2 * 8192, 15360
+LIBRARY = {"kastepuhm_read_rndf": 36 * 1024, "kastepuhm_read_pair": 68 * 1024, "kastepuhm_point_of": 64}
 
 
 def runs(kib):
@@ -66,7 +69,13 @@ def main():
     for name in chain:
         print("  %6d bytes %s" % (size[name], name))
     print("the reader of an RNDF: %d bytes at its deepest, %d without the marks" % (whole, whole - MARKS))
-    return 0 if least and whole - MARKS < 4096 else 1
+    good = least and whole - MARKS < 4096
+    size, calls = frames(os.path.join(ROOT, "target/staticlib/libyard.a"))
+    for name, promised in LIBRARY.items():
+        took = deepest(name, size, calls)[0]
+        print("%s: %d bytes at its deepest, of %d promised" % (name, took, promised))
+        good = good and 0 < took < promised
+    return 0 if good else 1
 
 
 if __name__ == "__main__":

@@ -1,4 +1,4 @@
--- `look_up::point_of` meets its contract: no row that was passed has the number. Assumes nothing.
+-- `look_up::point_of_word` meets its contract: no row that was passed has the number. Assumes nothing.
 use mathlib.Core.Path.{refl, _∙_}
 use mathlib.Core.Logic.{inl, inr}
 use Prim.Native.Nat.{_-_, _<_, _≤_, zero-le}
@@ -9,17 +9,14 @@ use Rattle.rows.specs.Lay.{rowsOf}
 use Rattle.rows.specs.Strides.{checkpointStride}
 use Rattle.look_up.specs.LookUp.{NoneBefore, first-row, no-row}
 use Rattle.look_up.proofs.Answers.{row-words, one-more, none-at-all}
-use Rattle.look_up.proofs.point_of.Statement.{statement}
-use Rattle.look_up.proofs.point_of.Tie as tie
+use Rattle.look_up.proofs.point_of_word.Statement.{statement}
+use Rattle.look_up.proofs.point_of_word.Tie as tie
 
 abbrev Inv-loop : tie.InvT-loop
 Inv-loop checkpoints wanted row₀ row-end row = (row ≤ row-end) × NoneBefore checkpoints row wanted
 
 abbrev μ-loop : tie.MeasureT-loop
 μ-loop checkpoints wanted row₀ row-end row = row-end - row
-
-cast-wanted : tie.Need-cast-wanted Inv-loop μ-loop
-cast-wanted c = search needs
 
 returns : tie.Need-returns Inv-loop μ-loop
 returns c = no-row (inl (c .if1 .taken)) refl
@@ -51,7 +48,7 @@ shared-slice-read-result c = search needs
 returns-2 : tie.Need-returns-2 Inv-loop μ-loop
 returns-2 c =
     let b = c .before .before .before .before in
-    let a = b .before .before .before .before .before .args in
+    let a = b .before .before .before .before .args in
     let h : b .loop .row < rowsOf (length (a .checkpoints .now)) checkpointStride = rw (b .before .rows-of .ensures) at (c .before .before .before .loop-test .taken) in
     first-row (b .loop .row) (b .before .before .if1 .left) (row-words (a .checkpoints .now) (b .loop .row) h ∙ rw (c .before .if2 .taken)) (b .loop .inv .1)
 
@@ -64,24 +61,23 @@ loop-less c = search needs
 loop-again : tie.Need-loop-again Inv-loop μ-loop
 loop-again c =
     let b = c .before .before .before in
-    let a = b .before .before .before .before .before .args in
+    let a = b .before .before .before .before .args in
     let h : b .loop .row < rowsOf (length (a .checkpoints .now)) checkpointStride = rw (b .before .rows-of .ensures) at (c .before .before .loop-test .taken) in
-    (omega arith, one-more (a .checkpoints .now) (b .loop .row) (a .number .0) h (c .if2 .left) (b .loop .inv .1))
+    (omega arith, one-more (a .checkpoints .now) (b .loop .row) (a .wanted) h (c .if2 .left) (b .loop .inv .1))
 
 returns-3 : tie.Need-returns-3 Inv-loop μ-loop
 returns-3 c =
     let b = c .before in
-    let a = b .before .before .before .before .before .args in
+    let a = b .before .before .before .before .args in
     let h : rowsOf (length (a .checkpoints .now)) checkpointStride ≤ b .loop .row = rw (b .before .rows-of .ensures) at (c .loop-test .left) in
-    no-row (inr (none-at-all (a .checkpoints .now) (b .loop .row) (a .number .0) h (b .loop .inv .1))) refl
+    no-row (inr (none-at-all (a .checkpoints .now) (b .loop .row) (a .wanted) h (b .loop .inv .1))) refl
 
-pub point-of-spec : {M : Type 1} → statement M
-point-of-spec =
+pub point-of-word-spec : {M : Type 1} → statement M
+point-of-word-spec =
     tie.close
     (tie.spec
     Inv-loop
     μ-loop
-    cast-wanted
     returns
     rows-of-requires
     loop-holds

@@ -1,0 +1,2 @@
+-- The return trip of accepted texts.
+pub mod Returns

@@ -1,0 +1,2 @@
+-- What comes back.
+pub mod Returns

@@ -1,0 +1,3 @@
+-- What the contracts settle, and that an answer tells the whole reply.
+pub mod Settled
+pub mod Whole

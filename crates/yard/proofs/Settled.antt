@@ -1,0 +1,32 @@
+-- THE THEOREM of document 01's "Prove that no second reply or memory would satisfy it", for C and Rust: the contract settles every field of the answer and every lent word,
+-- for all texts and all lent tables; and some answer and memory satisfy it. Assumes nothing.
+use mathlib.Core.Path.{_≡_, refl, sym, ap, _∙_}
+use Rattle.terms.specs.Ascii.{Bytes}
+use Rattle.table_words.specs.Words.{Lent, MissionLent}
+use Rattle.reader.proofs.Settled.{rndf-settled, rndf-some}
+use Rattle.reader.proofs.PairSettled.{pair-settled, pair-some}
+use Rattle.yard.specs.declared.Answer.{Answer}
+use Rattle.yard.specs.Answers.{rndf-answer, pair-answer, AnswersRndf, AnswersPair}
+
+-- no second answer, and no second memory
+pub rndf-answer-settled : (text : Bytes) (t : Lent) (a a′ : Answer) (l l′ : Lent) → AnswersRndf text t a l → AnswersRndf text t a′ l′ → (a ≡ a′) × (l ≡ l′)
+rndf-answer-settled text t a a′ l l′ x y =
+    let same = rndf-settled text t (x .reply) (y .reply) l l′ (x .reads) (y .reads) in
+    (x .told ∙ ap rndf-answer (same .0) ∙ sym (y .told), same .1)
+
+pub pair-answer-settled : (rndf mdf : Bytes) (t : Lent) (u : MissionLent) (a a′ : Answer) (l l′ : Lent) (k k′ : MissionLent) → AnswersPair rndf mdf t u a l k → AnswersPair rndf mdf t u a′ l′ k′
+    → (a ≡ a′) × (l ≡ l′) × (k ≡ k′)
+pair-answer-settled rndf mdf t u a a′ l l′ k k′ x y =
+    let same = pair-settled rndf mdf t u (x .reply) (y .reply) l l′ k k′ (x .reads) (y .reads) in
+    (x .told ∙ ap pair-answer (same .0) ∙ sym (y .told), same .1, same .2)
+
+-- one there is
+pub rndf-answer-some : (text : Bytes) (t : Lent) → (a : Answer) × (l : Lent) × AnswersRndf text t a l
+rndf-answer-some text t =
+    let x = rndf-some text t in
+    (rndf-answer (x .0), x .1, record { reply = x .0; reads = x .2; told = refl })
+
+pub pair-answer-some : (rndf mdf : Bytes) (t : Lent) (u : MissionLent) → (a : Answer) × (l : Lent) × (k : MissionLent) × AnswersPair rndf mdf t u a l k
+pair-answer-some rndf mdf t u =
+    let x = pair-some rndf mdf t u in
+    (pair-answer (x .reply), x .left, x .mission-left, record { reply = x .reply; reads = x .reads; told = refl })

@@ -1,0 +1,89 @@
+-- WHAT A READER MUST BELIEVE. What the library for C and Rust answers, field by field, and what the lent tables then hold. Assumes nothing.
+use mathlib.Core.Path.{_≡_}
+use Prim.Native.Nat.{ℕ}
+use Rattle.terms.specs.Ascii.{Bytes}
+use Rattle.table_words.specs.Words.{Lent, MissionLent}
+use Rattle.rows.specs.Read.{stretchOf}
+use Rattle.rows.specs.declared.Stretch.{Stretch}
+use Rattle.rows.specs.declared.FileRow.{FileRow}
+use Rattle.rows.specs.declared.MissionFileRow.{MissionFileRow}
+use Rattle.network_reader.specs.declared.Counts.{Counts}
+use Rattle.mission_reader.specs.declared.MissionCounts.{MissionCounts}
+use Rattle.reader.specs.declared.Refusal.{Refusal}
+use Rattle.reader.specs.declared.RndfReply.{RndfReply}
+use Rattle.reader.specs.declared.RndfReply.the-variants as Rndf
+use Rattle.reader.specs.declared.PairReply.{PairReply}
+use Rattle.reader.specs.declared.PairReply.the-variants as Pair
+use Rattle.reader.specs.Replies.{refusal, ReadsRndf, ReadsPair}
+use Rattle.yard.specs.declared.Name.{Name}
+use Rattle.yard.specs.declared.Answer.{Answer}
+
+-- 01: "A name is its start and length in the lent text"
+abbrev pub named : Stretch → Name
+named s = record { start = s .start; length = s .length }
+
+-- the fields of an answer: whether it is an acceptance; 01: "file .., line, number"; "the rows used of each table"; "File: its name, format version, creation date, in an MDF its `RNDF` name too."
+abbrev pub laid-out : (accepted : ℕ) → Refusal → Counts → MissionCounts → FileRow → MissionFileRow → Answer
+laid-out a x c m f g = record {
+  accepted = a;
+  file = x .file;
+  line = x .line;
+  number = x .number;
+  segments = c .segments;
+  lanes = c .lanes;
+  zones = c .zones;
+  spots = c .spots;
+  points = c .points;
+  checkpoints = c .checkpoints;
+  stops = c .stops;
+  exits = c .exits;
+  goals = m .goals;
+  limits = m .limits;
+  «rndf_name» = named (f .name);
+  «rndf_version» = named (f .version);
+  «rndf_date» = named (f .date);
+  «mdf_name» = named (g .name);
+  «mdf_rndf» = named (g .rndf);
+  «mdf_version» = named (g .version);
+  «mdf_date» = named (g .date);
+}
+
+-- what an answer does not have is 0
+abbrev pub no-counts : Counts
+no-counts = record { segments = 0; lanes = 0; zones = 0; spots = 0; points = 0; checkpoints = 0; stops = 0; exits = 0 }
+
+abbrev pub no-mission-counts : MissionCounts
+no-mission-counts = record { goals = 0; limits = 0 }
+
+abbrev pub no-file : FileRow
+no-file = record { name = stretchOf 0 0; version = stretchOf 0 0; date = stretchOf 0 0 }
+
+abbrev pub no-mission-file : MissionFileRow
+no-mission-file = record { name = stretchOf 0 0; rndf = stretchOf 0 0; version = stretchOf 0 0; date = stretchOf 0 0 }
+
+-- 01: "Where an answer is an enum, a definition sets out this paper's number and values for each of its cases."
+abbrev pub taken : Counts → FileRow → MissionCounts → MissionFileRow → Answer
+taken c f m g = laid-out 1 (refusal 0 0 0) c m f g
+
+abbrev pub refused : Refusal → Answer
+refused x = laid-out 0 x no-counts no-mission-counts no-file no-mission-file
+
+abbrev pub rndf-answer : RndfReply → Answer
+rndf-answer (Rndf.Accepted c f) = taken c f no-mission-counts no-mission-file
+rndf-answer (Rndf.Refused x) = refused x
+
+abbrev pub pair-answer : PairReply → Answer
+pair-answer (Pair.Accepted c f m g) = taken c f m g
+pair-answer (Pair.Refused x) = refused x
+
+-- ## An RNDF alone: what is answered are the fields of the reply, and that reply and what is left in the lent tables are as the reader promises. t: these tables as they were lent
+pub record AnswersRndf (text : Bytes) (t : Lent) (given : Answer) (left : Lent) : Type 0 where
+  pub reply : RndfReply
+  pub reads : ReadsRndf text t reply left
+  pub told : given ≡ rndf-answer reply
+
+-- ## An RNDF with its MDF. u: the goals and limits as they were lent
+pub record AnswersPair (rndf mdf : Bytes) (t : Lent) (u : MissionLent) (given : Answer) (left : Lent) (mission-left : MissionLent) : Type 0 where
+  pub reply : PairReply
+  pub reads : ReadsPair rndf mdf t u reply left mission-left
+  pub told : given ≡ pair-answer reply

@@ -1,0 +1,2 @@
+-- The library for C and Rust.
+pub mod Answers

@@ -1,0 +1,243 @@
+// The library for C and Rust engineers: `rt staticlib yard` writes target/staticlib/libyard.a, include/kastepuhm.h declares it for C, tests/callers/caller.rs for Rust.
+// Every function here takes plain slices (C hands over a pointer, then how many elements) and numbers, requires nothing of them, keeps nothing and allocates nothing.
+//
+// specs/Answers: the fields of an answer, for each case of a reader's reply: what a reader must believe, with the readers' own contracts (reader/specs/Replies, look_up/specs/LookUp).
+// proofs/Settled: no second answer and no second memory satisfies them, and an answer tells the whole reply.
+//
+// Left out: asking for a name (`rows::name_of`), since a part of a slice cannot be returned to C. There a name is `text + start` for `length` bytes.
+//
+// Rests on `reader`, `look_up` and what they rest on.
+use look_up::point_of_word;
+use mission_reader::MissionCounts;
+use network_reader::Counts;
+use reader::PairReply;
+use reader::Refusal;
+use reader::RndfReply;
+use reader::read_pair;
+use reader::read_rndf;
+use rows::FileRow;
+use rows::MissionFileRow;
+use rows::Stretch;
+ghost use mathlib.Core.Path.{_≡_};
+ghost use Rattle.network_reader.specs.Reading.{lent};
+ghost use Rattle.reader.specs.Replies.{mission-lent};
+ghost use Rattle.look_up.specs.LookUp.{PointOf};
+ghost use Rattle.yard.specs.Answers.{named, laid-out, taken, refused, rndf-answer, pair-answer, AnswersRndf, AnswersPair};
+
+// A name: its start and length in the lent text. A missing name is 0, 0.
+#[repr(C)]
+pub struct Name {
+    pub start: u32,
+    pub length: u32,
+}
+
+// accepted is 1 or 0. Where it is 0, file, line and number are the refusal's and all else is 0; where it is 1, they are 0.
+// Where no MDF was read, its fields are 0.
+#[repr(C)]
+pub struct Answer {
+    pub accepted: u32,
+    pub file: u32,
+    pub line: u32,
+    pub number: u32,
+    pub segments: u32,
+    pub lanes: u32,
+    pub zones: u32,
+    pub spots: u32,
+    pub points: u32,
+    pub checkpoints: u32,
+    pub stops: u32,
+    pub exits: u32,
+    pub goals: u32,
+    pub limits: u32,
+    pub rndf_name: Name,
+    pub rndf_version: Name,
+    pub rndf_date: Name,
+    pub mdf_name: Name,
+    pub mdf_rndf: Name,
+    pub mdf_version: Name,
+    pub mdf_date: Name,
+}
+
+fn named(s: Stretch) -> Name
+    ensures { λ r. ⌜ r ≡ named s ⌝ }
+{
+    Name {
+        start: s.start,
+        length: s.length,
+    }
+}
+
+// The one place where the fields are laid out.
+fn laid_out(
+    accepted: u32,
+    why: Refusal,
+    c: Counts,
+    m: MissionCounts,
+    file: FileRow,
+    mission_file: MissionFileRow,
+) -> Answer
+    ensures { λ r. ⌜ r ≡ laid-out accepted why c m file «mission_file» ⌝ }
+{
+    Answer {
+        accepted,
+        file: why.file as u32,
+        line: why.line,
+        number: why.number as u32,
+        segments: c.segments,
+        lanes: c.lanes,
+        zones: c.zones,
+        spots: c.spots,
+        points: c.points,
+        checkpoints: c.checkpoints,
+        stops: c.stops,
+        exits: c.exits,
+        goals: m.goals,
+        limits: m.limits,
+        rndf_name: named(file.name),
+        rndf_version: named(file.version),
+        rndf_date: named(file.date),
+        mdf_name: named(mission_file.name),
+        mdf_rndf: named(mission_file.rndf),
+        mdf_version: named(mission_file.version),
+        mdf_date: named(mission_file.date),
+    }
+}
+
+const NO_NAME: Stretch = Stretch {
+    start: 0,
+    length: 0,
+};
+
+const NO_MISSION_COUNTS: MissionCounts = MissionCounts {
+    goals: 0,
+    limits: 0,
+};
+
+const NO_MISSION_FILE: MissionFileRow = MissionFileRow {
+    name: NO_NAME,
+    rndf: NO_NAME,
+    version: NO_NAME,
+    date: NO_NAME,
+};
+
+fn taken(c: Counts, file: FileRow, m: MissionCounts, mission_file: MissionFileRow) -> Answer
+    ensures { λ r. ⌜ r ≡ taken c file m «mission_file» ⌝ }
+{
+    let nothing = Refusal {
+        file: 0,
+        line: 0,
+        number: 0,
+    };
+    laid_out(1, nothing, c, m, file, mission_file)
+}
+
+fn refused(why: Refusal) -> Answer
+    ensures { λ r. ⌜ r ≡ refused why ⌝ }
+{
+    let counts = Counts {
+        segments: 0,
+        lanes: 0,
+        zones: 0,
+        spots: 0,
+        points: 0,
+        checkpoints: 0,
+        stops: 0,
+        exits: 0,
+    };
+    let file = FileRow {
+        name: NO_NAME,
+        version: NO_NAME,
+        date: NO_NAME,
+    };
+    laid_out(0, why, counts, NO_MISSION_COUNTS, file, NO_MISSION_FILE)
+}
+
+fn rndf_answer(reply: RndfReply) -> Answer
+    ensures { λ r. ⌜ r ≡ rndf-answer reply ⌝ }
+{
+    match reply {
+        RndfReply::Accepted(c, file) => taken(c, file, NO_MISSION_COUNTS, NO_MISSION_FILE),
+        RndfReply::Refused(why) => refused(why),
+    }
+}
+
+fn pair_answer(reply: PairReply) -> Answer
+    ensures { λ r. ⌜ r ≡ pair-answer reply ⌝ }
+{
+    match reply {
+        PairReply::Accepted(c, file, m, mission_file) => taken(c, file, m, mission_file),
+        PairReply::Refused(why) => refused(why),
+    }
+}
+
+// An RNDF alone.
+#[no_mangle]
+pub extern "C" fn kastepuhm_read_rndf(
+    text: &[u8],
+    segments: &mut [u32],
+    lanes: &mut [u32],
+    zones: &mut [u32],
+    spots: &mut [u32],
+    points: &mut [i32],
+    checkpoints: &mut [u32],
+    stops: &mut [u32],
+    exits: &mut [u32],
+) -> Answer
+    ensures { λ r. ⌜ AnswersRndf (now (text .entry)) (lent (now (segments .entry)) (now (lanes .entry)) (now (zones .entry)) (now (spots .entry)) (now (points .entry)) (now (checkpoints .entry)) (now (stops .entry)) (now (exits .entry))) r (lent (now (segments .exit)) (now (lanes .exit)) (now (zones .exit)) (now (spots .exit)) (now (points .exit)) (now (checkpoints .exit)) (now (stops .exit)) (now (exits .exit))) ⌝ }
+{
+    let reply = read_rndf(
+        text,
+        segments,
+        lanes,
+        zones,
+        spots,
+        points,
+        checkpoints,
+        stops,
+        exits,
+    );
+    rndf_answer(reply)
+}
+
+// An RNDF with its MDF.
+#[no_mangle]
+pub extern "C" fn kastepuhm_read_pair(
+    rndf: &[u8],
+    mdf: &[u8],
+    segments: &mut [u32],
+    lanes: &mut [u32],
+    zones: &mut [u32],
+    spots: &mut [u32],
+    points: &mut [i32],
+    checkpoints: &mut [u32],
+    stops: &mut [u32],
+    exits: &mut [u32],
+    goals: &mut [u32],
+    limits: &mut [u32],
+) -> Answer
+    ensures { λ r. ⌜ AnswersPair (now (rndf .entry)) (now (mdf .entry)) (lent (now (segments .entry)) (now (lanes .entry)) (now (zones .entry)) (now (spots .entry)) (now (points .entry)) (now (checkpoints .entry)) (now (stops .entry)) (now (exits .entry))) (mission-lent (now (goals .entry)) (now (limits .entry))) r (lent (now (segments .exit)) (now (lanes .exit)) (now (zones .exit)) (now (spots .exit)) (now (points .exit)) (now (checkpoints .exit)) (now (stops .exit)) (now (exits .exit))) (mission-lent (now (goals .exit)) (now (limits .exit))) ⌝ }
+{
+    let reply = read_pair(
+        rndf,
+        mdf,
+        segments,
+        lanes,
+        zones,
+        spots,
+        points,
+        checkpoints,
+        stops,
+        exits,
+        goals,
+        limits,
+    );
+    pair_answer(reply)
+}
+
+// The point of the first row with that checkpoint number, or 4,294,967,295.
+#[no_mangle]
+pub extern "C" fn kastepuhm_point_of(checkpoints: &[u32], number: u32) -> u32
+    ensures { λ r. ⌜ PointOf (now (checkpoints .entry)) number r ⌝ }
+{
+    point_of_word(checkpoints, number)
+}

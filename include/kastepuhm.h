@@ -1,0 +1,242 @@
+/*
+ * kastepuhm.h: the yard reader for C (and C++). Link target/staticlib/libyard.a, which `rt staticlib yard` writes, into an x86-64 Linux program:
+ *
+ *     rt staticlib yard
+ *     cc -std=c11 -Iinclude yours.c target/staticlib/libyard.a
+ *
+ * The library needs nothing else but the C library's memset. tests/callers/caller.c is a whole caller, tests/callers/caller.rs the same in Rust; tests/callers.sh builds and
+ * runs both. The header and the library belong together: build both from the same commit.
+ *
+ * What it does
+ *   It reads the text of a route network (RNDF) and of a mission (MDF) in the format of March 14, 2007 as document 01 narrows it, and either fills the tables that you lend and
+ *   accepts, or refuses with file, line and one number. That it does so for all texts and all tables is proved of its source (crates/yard, crates/reader/specs/Replies.antt);
+ *   the compiler, the declarations below and your calls are not part of that proof.
+ *
+ * What you hand over
+ *   Every slice is a pointer and then its length: how many elements it has, not how many rows or bytes. Nothing is asked of what a slice holds, and no length is too short:
+ *   a table with too few rows is refusal 11. But a pointer must be what C says it is:
+ *   - it is never NULL, also where the length is 0 (any address that fits the type will do then), and it is aligned for its type;
+ *   - that many elements can be read there, and written where the pointer is not const;
+ *   - a slice that is written overlaps no other slice of the same call. The two texts may overlap: they are only read.
+ *
+ * Who owns what
+ *   Everything is yours before, during and after the call. The library keeps no pointer, allocates nothing, has no state of its own, prints nothing, reads no file and always
+ *   returns. Calls in several threads at once do not disturb each other as long as no two of them write the same tables; texts may be shared.
+ *
+ * Stack, as the kit's compiler builds it (tests/stack.py measures it)
+ *   kastepuhm_read_rndf takes less than 36 KiB: 32,768 bytes of marks for checkpoint numbers and under 4 KiB beside them. kastepuhm_read_pair takes less than 68 KiB, since the
+ *   compiler sets the marks of both files aside at once. kastepuhm_point_of takes a few words. Give a thread that calls them a stack to match.
+ *
+ * Time
+ *   Linear in the length of the texts and of the lent tables.
+ */
+#ifndef KASTEPUHM_H
+#define KASTEPUHM_H
+
+#include <stddef.h>
+#include <stdint.h>
+
+#ifdef __cplusplus
+extern "C" {
+#endif
+
+/* A longer text is refusal 1. */
+#define KASTEPUHM_LONGEST_TEXT 16777215u
+
+/*
+ * The tables. A table is a slice of numbers, so many to a row (its stride), rows one behind the other in file order: column c of row i is table[i * STRIDE + c]. Rows are counted
+ * from 0, and so are the first lanes, points and spots that rows speak of. A slice has length / STRIDE rows; what is left over behind the last whole row is lent too.
+ *
+ * After an acceptance the rows used (they are in the answer) hold what the text says, and every number behind them is 0. After a refusal every number of every lent table is 0.
+ *
+ * A table never needs more rows than its text has lines: lend that many, and refusal 11 never comes.
+ *
+ * Each list below ends with its stride.
+ */
+
+/* Segments. A segment's identifier is its row + 1. Its lanes are rows first_lane to first_lane + lanes - 1 of the lane table. */
+enum {
+    KASTEPUHM_SEGMENT_FIRST_LANE,
+    KASTEPUHM_SEGMENT_LANES,
+    KASTEPUHM_SEGMENT_NAME_START,  /* a name: see kastepuhm_name */
+    KASTEPUHM_SEGMENT_NAME_LENGTH,
+    KASTEPUHM_SEGMENT_STRIDE
+};
+
+/* Lanes. Lane m.n is row first_lane + n - 1, by segment m's row; its waypoints are rows first_point to first_point + points - 1 of the point table. */
+enum {
+    KASTEPUHM_LANE_FIRST_POINT,
+    KASTEPUHM_LANE_POINTS,
+    KASTEPUHM_LANE_WIDTH,          /* feet; KASTEPUHM_NO_WIDTH where none is given, since 0 is a lane width */
+    KASTEPUHM_LANE_LEFT,           /* a boundary: see KASTEPUHM_NO_BOUNDARY and the others */
+    KASTEPUHM_LANE_RIGHT,
+    KASTEPUHM_LANE_STRIDE
+};
+
+/* Zones. A zone's identifier is the number of segments + its row + 1. */
+enum {
+    KASTEPUHM_ZONE_FIRST_POINT,    /* of its perimeter */
+    KASTEPUHM_ZONE_POINTS,         /* of its perimeter */
+    KASTEPUHM_ZONE_FIRST_SPOT,     /* 0 without spots */
+    KASTEPUHM_ZONE_SPOTS,
+    KASTEPUHM_ZONE_NAME_START,
+    KASTEPUHM_ZONE_NAME_LENGTH,
+    KASTEPUHM_ZONE_STRIDE
+};
+
+/* Spots. A spot has two points: first_point and the one behind it. */
+enum {
+    KASTEPUHM_SPOT_FIRST_POINT,
+    KASTEPUHM_SPOT_WIDTH,          /* feet; KASTEPUHM_NO_WIDTH where none is given */
+    KASTEPUHM_SPOT_STRIDE
+};
+
+/* Points: waypoints of lanes, perimeter points and waypoints of spots, in file order. The one table of signed numbers (int32_t): millionths of a degree. */
+enum {
+    KASTEPUHM_POINT_LATITUDE,      /* -90,000,000 to 90,000,000 */
+    KASTEPUHM_POINT_LONGITUDE,     /* -180,000,000 to 180,000,000 */
+    KASTEPUHM_POINT_STRIDE
+};
+
+/* Checkpoints. Numbers are 1 to 32,768 and differ; one point may have several. */
+enum {
+    KASTEPUHM_CHECKPOINT_NUMBER,
+    KASTEPUHM_CHECKPOINT_POINT,
+    KASTEPUHM_CHECKPOINT_STRIDE
+};
+
+/* Stops. */
+enum {
+    KASTEPUHM_STOP_POINT,
+    KASTEPUHM_STOP_STRIDE
+};
+
+/* Exits, of lanes and perimeters. */
+enum {
+    KASTEPUHM_EXIT_POINT,
+    KASTEPUHM_EXIT_ENTRY,          /* the point that it leads to */
+    KASTEPUHM_EXIT_STRIDE
+};
+
+/* Goals of a mission, in the order in which they are to be met; one may come again. Each is a checkpoint number of the RNDF. */
+enum {
+    KASTEPUHM_GOAL_NUMBER,
+    KASTEPUHM_GOAL_STRIDE
+};
+
+/* Speed limits of a mission, one for each segment and zone, in file order. Miles per hour; 0 means undefined. */
+enum {
+    KASTEPUHM_LIMIT_ID,            /* of a segment or zone */
+    KASTEPUHM_LIMIT_MINIMUM,
+    KASTEPUHM_LIMIT_MAXIMUM,
+    KASTEPUHM_LIMIT_STRIDE
+};
+
+#define KASTEPUHM_NO_WIDTH 65535u
+
+enum {
+    KASTEPUHM_NO_BOUNDARY,
+    KASTEPUHM_DOUBLE_YELLOW,
+    KASTEPUHM_SOLID_YELLOW,
+    KASTEPUHM_SOLID_WHITE,
+    KASTEPUHM_BROKEN_WHITE
+};
+
+/*
+ * A name: its bytes are text[start] to text[start + length - 1] of the text that you lent (an accepted name lies wholly inside it; no 0 byte ends it), 1 to 128 of them.
+ * A missing name is 0, 0. Print one by printf("%.*s", (int)name.length, (const char *)text + name.start). Names last as long as you keep that text. There is no function to ask for
+ * a name, since the library cannot return a part of your text.
+ */
+typedef struct kastepuhm_name {
+    uint32_t start;
+    uint32_t length;
+} kastepuhm_name;
+
+/* What a reader answers. Of an RNDF alone the fields of the MDF are 0; of a refusal every field is 0 but for file, line and number. */
+typedef struct kastepuhm_answer {
+    uint32_t accepted;             /* 1: accepted, 0: refused */
+    uint32_t file;                 /* of a refusal: 1 the RNDF, 2 the MDF; 0 where accepted */
+    uint32_t line;                 /* of a refusal: counted from 1; 0 where there is none, and where accepted */
+    uint32_t number;               /* of a refusal: see below; 0 where accepted */
+    uint32_t segments;             /* from here on: the rows used of each table */
+    uint32_t lanes;
+    uint32_t zones;
+    uint32_t spots;
+    uint32_t points;
+    uint32_t checkpoints;
+    uint32_t stops;
+    uint32_t exits;
+    uint32_t goals;
+    uint32_t limits;
+    kastepuhm_name rndf_name;      /* in the RNDF's text */
+    kastepuhm_name rndf_version;   /* format_version; may be missing */
+    kastepuhm_name rndf_date;      /* creation_date; may be missing */
+    kastepuhm_name mdf_name;       /* in the MDF's text */
+    kastepuhm_name mdf_rndf;       /* the RNDF that the MDF names: the same bytes as rndf_name */
+    kastepuhm_name mdf_version;
+    kastepuhm_name mdf_date;
+} kastepuhm_answer;
+
+/*
+ * Refusal numbers. The RNDF is judged before the MDF; in one file 1, then the first line with a fault of 2 to 9, then 10, 11, then the first line with 12 to 18.
+ * In one line the lowest number is given.
+ */
+enum {
+    KASTEPUHM_TEXT_TOO_LONG = 1,       /* the text is over 16,777,215 bytes (line 0) */
+    KASTEPUHM_LINE_TOO_LONG = 2,       /* the line is over 512 bytes */
+    KASTEPUHM_BAD_COMMENT = 3,         /* the comment is not closed, or something other than tabs follows it */
+    KASTEPUHM_BAD_BYTE = 4,            /* a byte that is not allowed */
+    KASTEPUHM_NOT_HERE = 5,            /* the statement is unknown, or may not stand here (also too few or too many items) */
+    KASTEPUHM_GIVEN_AGAIN = 6,         /* a single option is given again */
+    KASTEPUHM_FIELD_COUNT = 7,         /* a wrong number of fields */
+    KASTEPUHM_BAD_FIELD = 8,           /* a field is not of its kind: spelling, length of a name, boundary word */
+    KASTEPUHM_NOT_PERMITTED = 9,       /* a value is not permitted here: range, not the due identifier, a point of another part, minimum above maximum */
+    KASTEPUHM_UNENDED = 10,            /* the text ends before end_file (line: its lines + 1) */
+    KASTEPUHM_NO_ROOM = 11,            /* a lent table of that file has fewer rows than needed (line 0) */
+    KASTEPUHM_NO_SUCH_ENTRY = 12,      /* an exit's entry is no declared lane waypoint or perimeter point */
+    KASTEPUHM_NUMBER_AGAIN = 13,       /* the checkpoint number is already declared */
+    KASTEPUHM_OTHER_RNDF = 14,         /* the MDF names another RNDF */
+    KASTEPUHM_NO_SUCH_GOAL = 15,       /* the goal is no checkpoint of the RNDF */
+    KASTEPUHM_NO_SUCH_ID = 16,         /* the limit's id is not in the RNDF */
+    KASTEPUHM_LIMIT_AGAIN = 17,        /* the limit's id was already given */
+    KASTEPUHM_LIMIT_MISSING = 18       /* some segment or zone has no limit (line: that of end_speed_limits) */
+};
+
+/* An RNDF alone. */
+kastepuhm_answer kastepuhm_read_rndf(
+    const uint8_t *text, size_t text_length,
+    uint32_t *segments, size_t segments_length,
+    uint32_t *lanes, size_t lanes_length,
+    uint32_t *zones, size_t zones_length,
+    uint32_t *spots, size_t spots_length,
+    int32_t *points, size_t points_length,
+    uint32_t *checkpoints, size_t checkpoints_length,
+    uint32_t *stops, size_t stops_length,
+    uint32_t *exits, size_t exits_length);
+
+/* An RNDF with its MDF. */
+kastepuhm_answer kastepuhm_read_pair(
+    const uint8_t *rndf, size_t rndf_length,
+    const uint8_t *mdf, size_t mdf_length,
+    uint32_t *segments, size_t segments_length,
+    uint32_t *lanes, size_t lanes_length,
+    uint32_t *zones, size_t zones_length,
+    uint32_t *spots, size_t spots_length,
+    int32_t *points, size_t points_length,
+    uint32_t *checkpoints, size_t checkpoints_length,
+    uint32_t *stops, size_t stops_length,
+    uint32_t *exits, size_t exits_length,
+    uint32_t *goals, size_t goals_length,
+    uint32_t *limits, size_t limits_length);
+
+/* Where no row has the number. */
+#define KASTEPUHM_NO_POINT 4294967295u
+
+/* The point of the first row with that checkpoint number, or KASTEPUHM_NO_POINT if there is none or the number is 0. Any slice will do as a checkpoint table: it need not come from a reader. */
+uint32_t kastepuhm_point_of(const uint32_t *checkpoints, size_t checkpoints_length, uint32_t number);
+
+#ifdef __cplusplus
+}
+#endif
+
+#endif

@@ -1,0 +1,110 @@
+#!/bin/sh
+# tests/callers.sh           builds the library for C and Rust (`rt staticlib yard`), compiles the two worked callers in tests/callers against it, and compares what they print
+# tests/callers.sh --built   the same with the library as it was last built
+#
+# Compared: yard A as a pair and alone, yard B (every table; its answer was worked out by hand), two damaged texts and a missing file; then document 01's cases and the edges of
+# the summary program's rules (tests/summary_cases.py), and every reply and every lent number of the oracle's corpus and of 2,000 random pairs (tests/callers/corpus.c).
+# The last line is 'N passed, M failed, K skipped'; the status is 0 if none failed.
+#
+# Needs a C compiler (Debian: gcc), for the Rust caller rustc with its standard library, for the cases and the corpus python3. What is not there is skipped, and that is said; but
+# without a C compiler nothing can be compared, and the script fails.
+# The library is x86-64 code. On Arm the callers are compiled for x86-64 and the kit's emulator runs them: Debian's gcc-x86-64-linux-gnu, and for the Rust caller
+# `rustup target add x86_64-unknown-linux-gnu`.
+set -eu
+root=$(cd "$(dirname "$0")/.." && pwd -P)
+here=$root/tests/callers
+case ${1:-} in
+'') (cd "$root" && rt staticlib yard) >&2 ;;
+--built) ;;
+*) echo "usage: tests/callers.sh [--built]" >&2; exit 2 ;;
+esac
+library=$root/target/staticlib/libyard.a
+[ -f "$library" ] || { echo "tests/callers.sh: $library is not built" >&2; exit 2; }
+work=$(mktemp -d)
+trap 'rm -rf "$work"' EXIT
+
+if [ "$(uname -m)" = x86_64 ]; then
+    compiler=$(command -v gcc || command -v clang || command -v cc || true)
+    emulator=
+else
+    compiler=$(command -v x86_64-linux-gnu-gcc || true)
+    rt=$(readlink -f "$(command -v rt)")
+    emulator=${RATTLE_HOME:-$(dirname "$(dirname "$rt")")}/on/$(uname -m)/toolchain/bin/qemu-x86_64
+    [ -x "$emulator" ] || { echo "tests/callers.sh: the kit's emulator is not at $emulator" >&2; exit 2; }
+fi
+[ -n "$compiler" ] || { echo "tests/callers.sh: no C compiler for x86-64 (Debian: gcc, on Arm gcc-x86-64-linux-gnu)" >&2; exit 2; }
+
+passed=0 failed=0 skipped=0
+pass() { passed=$((passed + 1)); }
+fail() { failed=$((failed + 1)); echo "FAILED $1"; }
+skip() { skipped=$((skipped + 1)); echo "skipped: $1"; }
+
+# The callers are linked statically, so that they run under the emulator without another system's libraries.
+compile() { "$compiler" -std=c11 -O2 -Wall -Wextra -Wpedantic -Wconversion -Werror -static -I"$root/include" "$here/$1.c" "$library" -o "$work/$2"; }
+compile caller caller_c
+compile corpus corpus
+callers=caller_c
+target=x86_64-unknown-linux-gnu
+if ! command -v rustc >/dev/null; then
+    skip "caller.rs: there is no rustc"
+elif ! ls "$(rustc --print sysroot)/lib/rustlib/$target/lib/"libstd-* >/dev/null 2>&1; then
+    skip "caller.rs: rustc has no standard library for $target (rustup target add $target)"
+else
+    rustc --edition 2021 -O -D warnings --target "$target" -C target-feature=+crt-static -C linker="$compiler" -L native="$(dirname "$library")" -l static=yard "$here/caller.rs" -o "$work/caller_rs"
+    callers="$callers caller_rs"
+fi
+
+# compare LABEL EXPECTED WORDS..: what each caller prints, given these words, with the file EXPECTED
+compare() {
+    label=$1 expected=$2
+    shift 2
+    for caller in $callers; do
+        if ${emulator:+"$emulator"} "$work/$caller" "$@" >"$work/printed" && cmp -s "$expected" "$work/printed"; then
+            pass
+        else
+            fail "$caller on $label: expected '<', printed '>'"
+            diff "$expected" "$work/printed" || true
+        fi
+    done
+}
+
+tab=$(printf '\t')
+a=$root/crates/summary/data
+sed "s/^exit${tab}1\.1\.2${tab}1\.1\.1\$/exit${tab}1.1.2${tab}1.1.3/" "$a/network.rndf" >"$work/entry.rndf"
+sed 's/^7$/8/' "$a/mission.mdf" >"$work/goal.mdf"
+echo 'refused 1 9 12' >"$work/entry"
+echo 'refused 2 5 15' >"$work/goal"
+echo 'no file' >"$work/missing"
+
+compare 'yard A' "$here/expected/yard_a" "$a/network.rndf" "$a/mission.mdf"
+compare 'the RNDF of yard A alone' "$here/expected/yard_a_alone" "$a/network.rndf"
+compare 'yard B' "$here/expected/yard_b" "$here/yard_b/network.rndf" "$here/yard_b/mission.mdf"
+compare 'yard A with an entry 1.1.3' "$work/entry" "$work/entry.rndf" "$a/mission.mdf"
+compare 'the damaged RNDF alone' "$work/entry" "$work/entry.rndf"
+compare 'yard A with goal 8' "$work/goal" "$a/network.rndf" "$work/goal.mdf"
+compare 'no RNDF' "$work/missing" "$work/none.rndf" "$a/mission.mdf"
+
+# document 01's cases, by the first line that a caller prints
+if command -v python3 >/dev/null; then
+    for caller in $callers; do
+        printf '#!/bin/sh\n%s "%s" network.rndf mission.mdf | sed -n 1p\n' "${emulator:+\"$emulator\"}" "$work/$caller" >"$work/first_line"
+        chmod +x "$work/first_line"
+        if python3 "$root/tests/summary_cases.py" --command "$work/first_line" >"$work/cases"; then pass; else fail "$caller on tests/summary_cases.py"; fi
+        sed "s/^/$caller on tests\/summary_cases.py: /" "$work/cases"
+    done
+    # the oracle's answers, number by number
+    python3 "$root/tests/oracle/cases.py" "$work" >/dev/null
+    python3 "$root/tests/oracle/generate.py" --count 2000 --seed 7 --directory "$work" >/dev/null
+    for corpus in cases:expected random:random; do
+        if ${emulator:+"$emulator"} "$work/corpus" <"$work/${corpus%:*}.bin" >"$work/printed" && cmp -s "$work/${corpus#*:}.txt" "$work/printed"; then
+            pass
+            echo "corpus.c: $(grep -c '^case ' "$work/printed") cases as the oracle has them"
+        else
+            fail "corpus.c on the oracle's ${corpus%:*}.bin"
+        fi
+    done
+else
+    skip "tests/summary_cases.py and the oracle's corpus: there is no python3"
+fi
+echo "$passed passed, $failed failed, $skipped skipped"
+[ "$failed" -eq 0 ]

@@ -1,0 +1,201 @@
+/*
+ * A worked caller in C: caller NETWORK [MISSION] reads an RNDF, alone or with its MDF, and prints the summary program's line and then what stands in the tables.
+ * Texts up to 8,192 bytes, 256 points and 128 rows of every other table, as the summary program has them; all of it lies in this program's own memory.
+ */
+#include "kastepuhm.h"
+
+#include <inttypes.h>
+#include <stdio.h>
+
+#if defined(__STDC_VERSION__) && __STDC_VERSION__ >= 201112L
+_Static_assert(sizeof(kastepuhm_answer) == 28 * sizeof(uint32_t), "the library's answer has 28 words");
+#endif
+
+#define LENGTH(table) (sizeof(table) / sizeof((table)[0]))
+
+enum { MOST_BYTES = 8192, POINTS = 256, ROWS = 128 };
+
+/* One byte more than a text may have: if it is filled, the file is too big. */
+static uint8_t rndf[MOST_BYTES + 1];
+static uint8_t mdf[MOST_BYTES + 1];
+static uint32_t segments[ROWS * KASTEPUHM_SEGMENT_STRIDE];
+static uint32_t lanes[ROWS * KASTEPUHM_LANE_STRIDE];
+static uint32_t zones[ROWS * KASTEPUHM_ZONE_STRIDE];
+static uint32_t spots[ROWS * KASTEPUHM_SPOT_STRIDE];
+static int32_t points[POINTS * KASTEPUHM_POINT_STRIDE];
+static uint32_t checkpoints[ROWS * KASTEPUHM_CHECKPOINT_STRIDE];
+static uint32_t stops[ROWS * KASTEPUHM_STOP_STRIDE];
+static uint32_t exits[ROWS * KASTEPUHM_EXIT_STRIDE];
+static uint32_t goals[ROWS * KASTEPUHM_GOAL_STRIDE];
+static uint32_t limits[ROWS * KASTEPUHM_LIMIT_STRIDE];
+
+/* Whether the file could be taken; if not, why is printed. */
+static int load(const char *path, uint8_t *text, size_t *length)
+{
+    FILE *file = fopen(path, "rb");
+    int bad;
+    if (file == NULL) {
+        puts("no file");
+        return 0;
+    }
+    *length = fread(text, 1, MOST_BYTES + 1, file);
+    bad = ferror(file);
+    fclose(file);
+    if (bad || *length > MOST_BYTES) {
+        puts(bad ? "no file" : "file too big");
+        return 0;
+    }
+    return 1;
+}
+
+static void print_name(const uint8_t *text, uint32_t start, uint32_t length)
+{
+    if (length == 0)
+        printf(" -");
+    else
+        printf(" %.*s", (int)length, (const char *)text + start);
+}
+
+static void print_width(uint32_t width)
+{
+    if (width == KASTEPUHM_NO_WIDTH)
+        printf(" no width");
+    else
+        printf(" width %" PRIu32, width);
+}
+
+/* Millionths of a degree. The sign is the whole number's: -500000 is -0.500000. */
+static void print_degrees(int32_t millionths)
+{
+    int64_t size = millionths < 0 ? -(int64_t)millionths : millionths;
+    printf(" %s%" PRId64 ".%06" PRId64, millionths < 0 ? "-" : "", size / 1000000, size % 1000000);
+}
+
+static void print_point(uint32_t point)
+{
+    const int32_t *row;
+    if (point == KASTEPUHM_NO_POINT) {
+        printf(" none");
+        return;
+    }
+    row = points + (size_t)point * KASTEPUHM_POINT_STRIDE;
+    printf(" %" PRIu32 " at", point);
+    print_degrees(row[KASTEPUHM_POINT_LATITUDE]);
+    print_degrees(row[KASTEPUHM_POINT_LONGITUDE]);
+}
+
+static void print_summary(const kastepuhm_answer *a)
+{
+    printf("ok %" PRIu32 " %" PRIu32 " %" PRIu32 " %" PRIu32 " %" PRIu32, a->segments, a->zones, a->lanes, a->points, a->spots);
+    printf(" %" PRIu32 " %" PRIu32 " %" PRIu32 " %" PRIu32 " %" PRIu32 "\n", a->checkpoints, a->stops, a->exits, a->goals, a->limits);
+}
+
+static void print_file(const char *what, const uint8_t *text, kastepuhm_name name, kastepuhm_name version, kastepuhm_name date)
+{
+    printf("%s", what);
+    print_name(text, name.start, name.length);
+    printf(" version");
+    print_name(text, version.start, version.length);
+    printf(" date");
+    print_name(text, date.start, date.length);
+}
+
+static void print_lanes(uint32_t segment, const uint32_t *row)
+{
+    for (uint32_t n = 0; n < row[KASTEPUHM_SEGMENT_LANES]; n++) {
+        const uint32_t *lane = lanes + (size_t)(row[KASTEPUHM_SEGMENT_FIRST_LANE] + n) * KASTEPUHM_LANE_STRIDE;
+        printf("lane %" PRIu32 ".%" PRIu32 " points %" PRIu32, segment, n + 1, lane[KASTEPUHM_LANE_POINTS]);
+        print_width(lane[KASTEPUHM_LANE_WIDTH]);
+        printf(" boundaries %" PRIu32 " %" PRIu32 " first", lane[KASTEPUHM_LANE_LEFT], lane[KASTEPUHM_LANE_RIGHT]);
+        print_point(lane[KASTEPUHM_LANE_FIRST_POINT]);
+        printf("\n");
+    }
+}
+
+static void print_spots(uint32_t zone, const uint32_t *row)
+{
+    for (uint32_t n = 0; n < row[KASTEPUHM_ZONE_SPOTS]; n++) {
+        const uint32_t *spot = spots + (size_t)(row[KASTEPUHM_ZONE_FIRST_SPOT] + n) * KASTEPUHM_SPOT_STRIDE;
+        printf("spot %" PRIu32 ".%" PRIu32, zone, n + 1);
+        print_width(spot[KASTEPUHM_SPOT_WIDTH]);
+        printf(" first");
+        print_point(spot[KASTEPUHM_SPOT_FIRST_POINT]);
+        printf("\n");
+    }
+}
+
+static void print_network(const kastepuhm_answer *a)
+{
+    print_file("network", rndf, a->rndf_name, a->rndf_version, a->rndf_date);
+    printf("\n");
+    for (uint32_t i = 0; i < a->segments; i++) {
+        const uint32_t *row = segments + (size_t)i * KASTEPUHM_SEGMENT_STRIDE;
+        printf("segment %" PRIu32, i + 1);
+        print_name(rndf, row[KASTEPUHM_SEGMENT_NAME_START], row[KASTEPUHM_SEGMENT_NAME_LENGTH]);
+        printf("\n");
+        print_lanes(i + 1, row);
+    }
+    for (uint32_t i = 0; i < a->zones; i++) {
+        const uint32_t *row = zones + (size_t)i * KASTEPUHM_ZONE_STRIDE;
+        printf("zone %" PRIu32, a->segments + i + 1);
+        print_name(rndf, row[KASTEPUHM_ZONE_NAME_START], row[KASTEPUHM_ZONE_NAME_LENGTH]);
+        printf(" points %" PRIu32 " first", row[KASTEPUHM_ZONE_POINTS]);
+        print_point(row[KASTEPUHM_ZONE_FIRST_POINT]);
+        printf("\n");
+        print_spots(a->segments + i + 1, row);
+    }
+    for (uint32_t i = 0; i < a->stops; i++) {
+        printf("stop");
+        print_point(stops[(size_t)i * KASTEPUHM_STOP_STRIDE + KASTEPUHM_STOP_POINT]);
+        printf("\n");
+    }
+    for (uint32_t i = 0; i < a->exits; i++) {
+        const uint32_t *row = exits + (size_t)i * KASTEPUHM_EXIT_STRIDE;
+        printf("exit %" PRIu32 " to %" PRIu32 "\n", row[KASTEPUHM_EXIT_POINT], row[KASTEPUHM_EXIT_ENTRY]);
+    }
+}
+
+static void print_mission(const kastepuhm_answer *a)
+{
+    print_file("mission", mdf, a->mdf_name, a->mdf_version, a->mdf_date);
+    printf(" for");
+    print_name(mdf, a->mdf_rndf.start, a->mdf_rndf.length);
+    printf("\n");
+    for (uint32_t i = 0; i < a->goals; i++) {
+        uint32_t number = goals[(size_t)i * KASTEPUHM_GOAL_STRIDE + KASTEPUHM_GOAL_NUMBER];
+        printf("goal %" PRIu32 " point", number);
+        print_point(kastepuhm_point_of(checkpoints, LENGTH(checkpoints), number));
+        printf("\n");
+    }
+    for (uint32_t i = 0; i < a->limits; i++) {
+        const uint32_t *row = limits + (size_t)i * KASTEPUHM_LIMIT_STRIDE;
+        printf("limit %" PRIu32 " minimum %" PRIu32 " maximum %" PRIu32 "\n", row[KASTEPUHM_LIMIT_ID], row[KASTEPUHM_LIMIT_MINIMUM], row[KASTEPUHM_LIMIT_MAXIMUM]);
+    }
+}
+
+int main(int count, char **words)
+{
+    size_t rndf_length, mdf_length;
+    kastepuhm_answer a;
+    if (count != 2 && count != 3) {
+        fputs("usage: caller NETWORK [MISSION]\n", stderr);
+        return 2;
+    }
+    if (!load(words[1], rndf, &rndf_length) || (count == 3 && !load(words[2], mdf, &mdf_length)))
+        return 0;
+    if (count == 2)
+        a = kastepuhm_read_rndf(rndf, rndf_length, segments, LENGTH(segments), lanes, LENGTH(lanes), zones, LENGTH(zones), spots, LENGTH(spots), points, LENGTH(points),
+                                checkpoints, LENGTH(checkpoints), stops, LENGTH(stops), exits, LENGTH(exits));
+    else
+        a = kastepuhm_read_pair(rndf, rndf_length, mdf, mdf_length, segments, LENGTH(segments), lanes, LENGTH(lanes), zones, LENGTH(zones), spots, LENGTH(spots), points, LENGTH(points),
+                                checkpoints, LENGTH(checkpoints), stops, LENGTH(stops), exits, LENGTH(exits), goals, LENGTH(goals), limits, LENGTH(limits));
+    if (!a.accepted) {
+        printf("refused %" PRIu32 " %" PRIu32 " %" PRIu32 "\n", a.file, a.line, a.number);
+        return 0;
+    }
+    print_summary(&a);
+    print_network(&a);
+    if (count == 3)
+        print_mission(&a);
+    return 0;
+}

@@ -1,0 +1,245 @@
+//! A worked caller in Rust, without crates: `caller NETWORK [MISSION]` reads an RNDF, alone or with its MDF, and prints the summary program's line and then what stands in the
+//! tables. The module `kastepuhm` is what to copy: the declarations and safe functions over them. include/kastepuhm.h says what every column and number means.
+//! Texts up to 8,192 bytes, 256 points and 128 rows of every other table, as the summary program has them.
+use std::io::Read;
+
+mod kastepuhm {
+    /// A name: its start and length in the text that was lent; a missing one is 0, 0.
+    #[repr(C)]
+    #[derive(Clone, Copy)]
+    pub struct Name {
+        pub start: u32,
+        pub length: u32,
+    }
+
+    impl Name {
+        /// Its bytes; empty where start and length do not fit in the text, or the name is missing.
+        pub fn of(self, text: &[u8]) -> &[u8] {
+            let start = self.start as usize;
+            text.get(start..start + self.length as usize).unwrap_or(&[])
+        }
+    }
+
+    /// What a reader answers: `kastepuhm_answer` of the header, field by field.
+    #[repr(C)]
+    #[derive(Clone, Copy)]
+    pub struct Answer {
+        pub accepted: u32,
+        pub file: u32,
+        pub line: u32,
+        pub number: u32,
+        pub segments: u32,
+        pub lanes: u32,
+        pub zones: u32,
+        pub spots: u32,
+        pub points: u32,
+        pub checkpoints: u32,
+        pub stops: u32,
+        pub exits: u32,
+        pub goals: u32,
+        pub limits: u32,
+        pub rndf_name: Name,
+        pub rndf_version: Name,
+        pub rndf_date: Name,
+        pub mdf_name: Name,
+        pub mdf_rndf: Name,
+        pub mdf_version: Name,
+        pub mdf_date: Name,
+    }
+
+    pub const NO_WIDTH: u32 = 65_535;
+    pub const NO_POINT: u32 = u32::MAX;
+
+    /// The tables to lend, each so many numbers to a row: 4, 5, 6, 2, 2, 2, 1, 2, and for an MDF 1, 3.
+    pub struct Tables {
+        pub segments: Vec<u32>,
+        pub lanes: Vec<u32>,
+        pub zones: Vec<u32>,
+        pub spots: Vec<u32>,
+        pub points: Vec<i32>,
+        pub checkpoints: Vec<u32>,
+        pub stops: Vec<u32>,
+        pub exits: Vec<u32>,
+        pub goals: Vec<u32>,
+        pub limits: Vec<u32>,
+    }
+
+    // Each slice crosses as a pointer and then its length in elements.
+    extern "C" {
+        fn kastepuhm_read_rndf(
+            text: *const u8, text_length: usize,
+            segments: *mut u32, segments_length: usize,
+            lanes: *mut u32, lanes_length: usize,
+            zones: *mut u32, zones_length: usize,
+            spots: *mut u32, spots_length: usize,
+            points: *mut i32, points_length: usize,
+            checkpoints: *mut u32, checkpoints_length: usize,
+            stops: *mut u32, stops_length: usize,
+            exits: *mut u32, exits_length: usize,
+        ) -> Answer;
+
+        fn kastepuhm_read_pair(
+            rndf: *const u8, rndf_length: usize,
+            mdf: *const u8, mdf_length: usize,
+            segments: *mut u32, segments_length: usize,
+            lanes: *mut u32, lanes_length: usize,
+            zones: *mut u32, zones_length: usize,
+            spots: *mut u32, spots_length: usize,
+            points: *mut i32, points_length: usize,
+            checkpoints: *mut u32, checkpoints_length: usize,
+            stops: *mut u32, stops_length: usize,
+            exits: *mut u32, exits_length: usize,
+            goals: *mut u32, goals_length: usize,
+            limits: *mut u32, limits_length: usize,
+        ) -> Answer;
+
+        fn kastepuhm_point_of(checkpoints: *const u32, checkpoints_length: usize, number: u32) -> u32;
+    }
+
+    /// An RNDF alone.
+    pub fn read_rndf(text: &[u8], t: &mut Tables) -> Answer {
+        // Safe: the functions require nothing of what the slices hold or how long they are, and keep no pointer; the borrows are the slices' own.
+        unsafe {
+            kastepuhm_read_rndf(
+                text.as_ptr(), text.len(),
+                t.segments.as_mut_ptr(), t.segments.len(),
+                t.lanes.as_mut_ptr(), t.lanes.len(),
+                t.zones.as_mut_ptr(), t.zones.len(),
+                t.spots.as_mut_ptr(), t.spots.len(),
+                t.points.as_mut_ptr(), t.points.len(),
+                t.checkpoints.as_mut_ptr(), t.checkpoints.len(),
+                t.stops.as_mut_ptr(), t.stops.len(),
+                t.exits.as_mut_ptr(), t.exits.len(),
+            )
+        }
+    }
+
+    /// An RNDF with its MDF.
+    pub fn read_pair(rndf: &[u8], mdf: &[u8], t: &mut Tables) -> Answer {
+        // Safe: as in `read_rndf`.
+        unsafe {
+            kastepuhm_read_pair(
+                rndf.as_ptr(), rndf.len(),
+                mdf.as_ptr(), mdf.len(),
+                t.segments.as_mut_ptr(), t.segments.len(),
+                t.lanes.as_mut_ptr(), t.lanes.len(),
+                t.zones.as_mut_ptr(), t.zones.len(),
+                t.spots.as_mut_ptr(), t.spots.len(),
+                t.points.as_mut_ptr(), t.points.len(),
+                t.checkpoints.as_mut_ptr(), t.checkpoints.len(),
+                t.stops.as_mut_ptr(), t.stops.len(),
+                t.exits.as_mut_ptr(), t.exits.len(),
+                t.goals.as_mut_ptr(), t.goals.len(),
+                t.limits.as_mut_ptr(), t.limits.len(),
+            )
+        }
+    }
+
+    /// The point of the first row with that checkpoint number, or `NO_POINT`.
+    pub fn point_of(checkpoints: &[u32], number: u32) -> u32 {
+        // Safe: as in `read_rndf`.
+        unsafe { kastepuhm_point_of(checkpoints.as_ptr(), checkpoints.len(), number) }
+    }
+}
+
+use kastepuhm::{Answer, Name, Tables};
+
+const MOST_BYTES: usize = 8192;
+
+fn load(path: &str) -> Result<Vec<u8>, &'static str> {
+    let mut text = Vec::new();
+    let file = std::fs::File::open(path).map_err(|_| "no file")?;
+    file.take(MOST_BYTES as u64 + 1).read_to_end(&mut text).map_err(|_| "no file")?;
+    if text.len() > MOST_BYTES { Err("file too big") } else { Ok(text) }
+}
+
+fn name(text: &[u8], n: Name) -> String {
+    let bytes = n.of(text);
+    if bytes.is_empty() { "-".to_string() } else { String::from_utf8_lossy(bytes).into_owned() }
+}
+
+fn width(feet: u32) -> String {
+    if feet == kastepuhm::NO_WIDTH { "no width".to_string() } else { format!("width {feet}") }
+}
+
+/// Millionths of a degree. The sign is the whole number's: -500000 is -0.500000.
+fn degrees(millionths: i32) -> String {
+    let size = millionths.unsigned_abs();
+    format!("{}{}.{:06}", if millionths < 0 { "-" } else { "" }, size / 1_000_000, size % 1_000_000)
+}
+
+fn point(t: &Tables, i: u32) -> String {
+    if i == kastepuhm::NO_POINT {
+        return "none".to_string();
+    }
+    let at = i as usize * 2;
+    format!("{i} at {} {}", degrees(t.points[at]), degrees(t.points[at + 1]))
+}
+
+fn print_network(a: &Answer, t: &Tables, text: &[u8]) {
+    println!("network {} version {} date {}", name(text, a.rndf_name), name(text, a.rndf_version), name(text, a.rndf_date));
+    for (i, row) in t.segments.chunks_exact(4).take(a.segments as usize).enumerate() {
+        println!("segment {} {}", i + 1, name(text, Name { start: row[2], length: row[3] }));
+        for (n, lane) in t.lanes.chunks_exact(5).skip(row[0] as usize).take(row[1] as usize).enumerate() {
+            println!("lane {}.{} points {} {} boundaries {} {} first {}", i + 1, n + 1, lane[1], width(lane[2]), lane[3], lane[4], point(t, lane[0]));
+        }
+    }
+    for (i, row) in t.zones.chunks_exact(6).take(a.zones as usize).enumerate() {
+        let id = a.segments as usize + i + 1;
+        println!("zone {id} {} points {} first {}", name(text, Name { start: row[4], length: row[5] }), row[1], point(t, row[0]));
+        for (n, spot) in t.spots.chunks_exact(2).skip(row[2] as usize).take(row[3] as usize).enumerate() {
+            println!("spot {id}.{} {} first {}", n + 1, width(spot[1]), point(t, spot[0]));
+        }
+    }
+    for &stop in t.stops.iter().take(a.stops as usize) {
+        println!("stop {}", point(t, stop));
+    }
+    for row in t.exits.chunks_exact(2).take(a.exits as usize) {
+        println!("exit {} to {}", row[0], row[1]);
+    }
+}
+
+fn print_mission(a: &Answer, t: &Tables, text: &[u8]) {
+    println!("mission {} version {} date {} for {}", name(text, a.mdf_name), name(text, a.mdf_version), name(text, a.mdf_date), name(text, a.mdf_rndf));
+    for &goal in t.goals.iter().take(a.goals as usize) {
+        println!("goal {goal} point {}", point(t, kastepuhm::point_of(&t.checkpoints, goal)));
+    }
+    for row in t.limits.chunks_exact(3).take(a.limits as usize) {
+        println!("limit {} minimum {} maximum {}", row[0], row[1], row[2]);
+    }
+}
+
+fn run(network: &str, mission: Option<&str>) -> Result<(), &'static str> {
+    let rndf = load(network)?;
+    let mdf = mission.map(load).transpose()?;
+    let rows = |stride: usize| vec![0u32; 128 * stride];
+    let mut t = Tables {
+        segments: rows(4), lanes: rows(5), zones: rows(6), spots: rows(2), points: vec![0; 256 * 2],
+        checkpoints: rows(2), stops: rows(1), exits: rows(2), goals: rows(1), limits: rows(3),
+    };
+    let a = match &mdf {
+        Some(mdf) => kastepuhm::read_pair(&rndf, mdf, &mut t),
+        None => kastepuhm::read_rndf(&rndf, &mut t),
+    };
+    if a.accepted == 0 {
+        println!("refused {} {} {}", a.file, a.line, a.number);
+        return Ok(());
+    }
+    println!("ok {} {} {} {} {} {} {} {} {} {}", a.segments, a.zones, a.lanes, a.points, a.spots, a.checkpoints, a.stops, a.exits, a.goals, a.limits);
+    print_network(&a, &t, &rndf);
+    if let Some(mdf) = &mdf {
+        print_mission(&a, &t, mdf);
+    }
+    Ok(())
+}
+
+fn main() {
+    let words: Vec<String> = std::env::args().collect();
+    if words.len() != 2 && words.len() != 3 {
+        eprintln!("usage: caller NETWORK [MISSION]");
+        std::process::exit(2);
+    }
+    if let Err(why) = run(&words[1], words.get(2).map(String::as_str)) {
+        println!("{why}");
+    }
+}
