@@ -16,7 +16,8 @@ use Rattle.terms.specs.Words.{pick}
 use Rattle.scan.specs.Allowed.{digit, all}
 use Rattle.terms.proofs.Tests.{clash, both}
 use Rattle.number.specs.Decimal.{decimal, padded}
-use Rattle.coordinate.specs.Spelling.{SpellsCoordinate, sign, signed}
+use Rattle.coordinate.specs.Spelling.{SpellsCoordinate}
+use Rattle.coordinate.specs.Sign.{sign, signed}
 use Rattle.coordinate.specs.Meaning.{CoordinateMeans}
 use Rattle.number.specs.Executable.{worth, digits, plain, numberOf, plainOf}
 use Rattle.coordinate.specs.Executable.{Small, joined, millionthsOf, withSign, minusFirst, coordinateOf}

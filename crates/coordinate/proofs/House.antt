@@ -16,7 +16,8 @@ use Rattle.number.specs.House.{numberByte}
 use Rattle.number.proofs.Digits.{plain-long}
 use Rattle.number.proofs.Decimals.{decimal-plain, decimal-short, padded-is}
 use Rattle.number.proofs.House.{digits-number, dot-number, minus-number, decimal-number}
-use Rattle.coordinate.specs.Spelling.{SpellsCoordinate, sign, signed}
+use Rattle.coordinate.specs.Spelling.{SpellsCoordinate}
+use Rattle.coordinate.specs.Sign.{sign, signed}
 use Rattle.coordinate.specs.House.{houseDegrees, houseCoordinate}
 use Rattle.coordinate.specs.Executable.{coordinateOf}
 use Rattle.coordinate.specs.declared.Degrees.the-variants as D

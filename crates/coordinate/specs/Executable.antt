@@ -11,7 +11,7 @@ use Rattle.terms.specs.Words.{pick}
 use Rattle.number.specs.Executable.{numberOf, plainOf}
 use Rattle.number.specs.declared.Number as DN
 use Rattle.number.specs.declared.Number.the-variants as N
-use Rattle.coordinate.specs.Spelling.{signed}
+use Rattle.coordinate.specs.Sign.{signed}
 use Rattle.coordinate.specs.declared.Degrees as DD
 use Rattle.coordinate.specs.declared.Degrees.the-variants as D
 

@@ -1,4 +1,4 @@
--- WHAT A READER MUST BELIEVE. Which line of a text is the first at fault with a number of 12 to 18. Document 01, "Refusal numbers": "then the first line with 12 or 13. Then the MDF likewise, 14 to 18 by first line, 16 before 17". Assumes nothing.
+-- Which line of a text is the first at fault with a number of 12 to 18. Document 01, "Refusal numbers": "then the first line with 12 or 13. Then the MDF likewise, 14 to 18 by first line, 16 before 17". Assumes nothing.
 use mathlib.Core.Path.{_≡_}
 use mathlib.Core.List.{List, [], _∷_, _++_}
 use mathlib.Core.Option.{some}

@@ -1,4 +1,4 @@
--- WHAT A READER MUST BELIEVE. How many rows each table has, and how many the count lines of an RNDF and of an MDF declare. Document 01, "Tables". Assumes nothing.
+-- How many rows each table has, and how many the count lines of an RNDF and of an MDF declare. Document 01, "Tables". Assumes nothing.
 use mathlib.Core.List.{List, [], _∷_}
 use Prim.Native.Nat.{ℕ, _+_, _*_}
 use lib.ListN.{length}

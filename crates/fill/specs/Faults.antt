@@ -1,4 +1,4 @@
--- WHAT A READER MUST BELIEVE. Which row of a table, and which statement, is the first at fault, and with which number. Document 01, "Refusal numbers", 12 to 18. Assumes nothing.
+-- Which row of a table, and which statement, is the first at fault, and with which number. Document 01, "Refusal numbers", 12 to 18. Assumes nothing.
 use mathlib.Core.Path.{_≡_}
 use mathlib.Core.List.{List, [], _∷_, _++_, map}
 use Prim.Native.Nat.{ℕ}

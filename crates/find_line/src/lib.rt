@@ -9,8 +9,7 @@ use mission_judge::MissionVerdict;
 use mission_judge::mission_judge_line;
 use mission_place::MissionPlace;
 use place::Place;
-use scan::Until;
-use scan::scan;
+use scan::far_byte_from;
 use walk::Seen;
 ghost use mathlib.Core.Path.{_≡_};
 ghost use Prim.Native.Nat.{_≤_};
@@ -27,7 +26,7 @@ pub fn rndf_line(text: &[u8], kind: u8, row: u32) -> u32
     let mut from: usize = 0;
     let mut line: u32 = 1;
     while from < text.len() {
-        let e = scan(text, from, Until::Byte(10));
+        let e = far_byte_from(text, from, 10);
         let v = judge_line(&text[from..e], from, place);
         match v {
             Verdict::Blank => {}
@@ -55,7 +54,7 @@ pub fn mdf_line(text: &[u8], kind: u8, row: u32) -> u32
     let mut from: usize = 0;
     let mut line: u32 = 1;
     while from < text.len() {
-        let e = scan(text, from, Until::Byte(10));
+        let e = far_byte_from(text, from, 10);
         let v = mission_judge_line(&text[from..e], from, place);
         match v {
             MissionVerdict::Blank => {}

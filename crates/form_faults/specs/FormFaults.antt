@@ -1,4 +1,4 @@
--- WHAT A READER MUST BELIEVE. What it says of a text that it gets 2 to 9 at a line, and what that it gets 10. Document 01, "Refusal numbers". Assumes nothing.
+-- What it says of a text that it gets 2 to 9 at a line, and what that it gets 10. Document 01, "Refusal numbers". Assumes nothing.
 use mathlib.Core.Path.{_≡_}
 use mathlib.Core.List.{List, [], _∷_, _++_}
 use Prim.Native.Nat.{ℕ, suc, _+_}

@@ -1,4 +1,4 @@
--- WHAT A READER MUST BELIEVE. Networks and missions that keep the ranges, and the house order of their statements. Document 01, "House writing": "options in the order listed above, repeats in file order within their kind". Assumes nothing.
+-- Networks and missions that keep the ranges, and the house order of their statements. Document 01, "House writing": "options in the order listed above, repeats in file order within their kind". Assumes nothing.
 use mathlib.Core.List.{List, [], _∷_, _++_, map}
 use Prim.Native.Nat.{ℕ, suc, _+_, _≤_}
 use lib.ListN.{length}

@@ -1,4 +1,4 @@
--- WHAT A READER MUST BELIEVE. A statement is a kind and what is said with it; the statements of one kind among others. Assumes nothing.
+-- A statement is a kind and what is said with it; the statements of one kind among others. Assumes nothing.
 use mathlib.Core.Path.{_≡_, subst}
 use mathlib.Core.List.{List, [], _∷_}
 use mathlib.Core.Option.{Option, none, some}

@@ -1,4 +1,4 @@
--- WHAT A READER MUST BELIEVE. What an MDF says, and which statements say it. Document 01, "The order of an MDF". Assumes nothing.
+-- What an MDF says, and which statements say it. Document 01, "The order of an MDF". Assumes nothing.
 use mathlib.Core.Path.{_≡_}
 use mathlib.Core.List.{List, [], _∷_, _++_, map}
 use mathlib.Core.Option.{Option}
@@ -7,33 +7,11 @@ use lib.ListN.{length}
 use Rattle.terms.specs.Words.{Each, perhaps, Between}
 use Rattle.grammar.specs.Network.{largest}
 use Rattle.grammar.specs.MissionStatements.{Limit, Statement, say, ofKind, Only, MDF-name, RNDF, format-version, creation-date, checkpoints, num-checkpoints, end-checkpoints, speed-limits, num-speed-limits, end-speed-limits, end-file, goal, limit}
+pub use Rattle.law.specs.Network.{Mission, GoodLimit, GoodMission}
 
-pub record Mission (N : Type 0) : Type 0 where
-  pub name : N
-  pub rndf : N
-  pub version : Option N
-  pub date : Option N
-  pub goals : List ℕ
-  pub limits : List Limit
-
--- ## What is permitted
--- 01: "A speed limit's minimum is not above its maximum"
+-- law/specs/Network.GoodLimit's last test
 abbrev pub NotAbove : (minimum maximum : ℕ) → Type 0
 NotAbove minimum maximum = minimum ≤ maximum
-
--- 01: "id > 0, minimum, maximum (miles per hour)"
-pub record GoodLimit (a : Limit) : Type 0 where
-  pub id : Between 1 largest (a .id)
-  pub minimum : a .minimum ≤ largest
-  pub maximum : a .maximum ≤ largest
-  pub in-order : NotAbove (a .minimum) (a .maximum)
-
--- 01: "`num_checkpoints` > 0; so many numbers > 0"; "`num_speed_limits` > 0; so many lines"
-pub record GoodMission {N : Type 0} (a : Mission N) : Type 0 where
-  pub some-goals : Between 1 largest (length (a .goals))
-  pub goals : Each (Between 1 largest) (a .goals)
-  pub some-limits : Between 1 largest (length (a .limits))
-  pub limits : Each GoodLimit (a .limits)
 
 -- ## How a mission is spelled
 module _ {N : Type 0} where

@@ -1,14 +1,9 @@
--- WHAT A READER MUST BELIEVE. The statements of an MDF: their kinds, by keyword, and what the fields say. Document 01, "The order of an MDF". Assumes nothing.
+-- The statements of an MDF: their kinds, by keyword, and what the fields say. Document 01, "The order of an MDF". Assumes nothing.
 use mathlib.Core.List.{List}
 use Prim.Native.Nat.{ℕ}
 use Rattle.grammar.specs.Language.{Lang, S, allOf}
 use Rattle.grammar.specs.Language as Language
-
--- 01: "so many lines id > 0, minimum, maximum (miles per hour)"
-pub record Limit : Type 0 where
-  pub id : ℕ
-  pub minimum : ℕ
-  pub maximum : ℕ
+pub use Rattle.law.specs.Network.{Limit}
 
 -- the keywords; `goal` and `limit` are lines that begin with a digit and have none
 pub data Kind : Type 0 where

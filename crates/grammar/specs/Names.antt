@@ -1,4 +1,4 @@
--- WHAT A READER MUST BELIEVE. A network or mission with its names told in another way: as their bytes instead of their places in a text. Assumes nothing.
+-- A network or mission with its names told in another way: as their bytes instead of their places in a text. Assumes nothing.
 use mathlib.Core.List.{List, map}
 use mathlib.Core.Option.{Option, none, some}
 use Rattle.grammar.specs.Network.{Segment, Zone, Network}

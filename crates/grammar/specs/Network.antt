@@ -1,4 +1,4 @@
--- WHAT A READER MUST BELIEVE. What an RNDF says, and which statements say it. Document 01, "The order of an RNDF". Assumes nothing.
+-- What an RNDF says, and which statements say it. Document 01, "The order of an RNDF". Assumes nothing.
 use mathlib.Core.Path.{_≡_}
 use mathlib.Core.List.{List, [], _∷_, _++_, map}
 use mathlib.Core.Option.{Option}
@@ -7,87 +7,24 @@ use lib.ListN.{length}
 use lib.IntN.{natAbs}
 use Rattle.terms.specs.Words.{Each, perhaps, Between, InTurn}
 use Rattle.grammar.specs.Statements.{Boundary, PointId, Position, CheckpointLine, ExitLine, Statement, say, ofKind, Only, part-id, point-id, point-line, numbered, RNDF-name, num-segments, num-zones, format-version, creation-date, segment, num-lanes, segment-name, end-segment, lane, num-waypoints, lane-width, left-boundary, right-boundary, checkpoint, stop, exit, end-lane, zone, num-spots, zone-name, end-zone, perimeter, num-perimeterpoints, end-perimeter, spot, spot-width, end-spot, end-file}
+pub use Rattle.law.specs.Network.{largest, Checkpoint, Exit, Lane, Segment, Spot, Perimeter, Zone, Network, OnEarth, GoodCheckpoint, GoodSpot}
 
--- 01: "Integer: 1 to 5 digits ..; at most 32,768"
-abbrev pub largest : ℕ
-largest = 32768
-
--- ## What there is
--- 01: "`checkpoint` waypoint number": the waypoint is the i-th of its lane or spot
-pub record Checkpoint : Type 0 where
-  pub waypoint : ℕ
-  pub number : ℕ
-
--- 01: "`exit` waypoint entry": the waypoint is the i-th of its lane or perimeter
-pub record Exit : Type 0 where
-  pub waypoint : ℕ
-  pub entry : PointId
-
-pub record Lane : Type 0 where
-  pub width : Option ℕ
-  pub left : Option Boundary
-  pub right : Option Boundary
-  pub checkpoints : List Checkpoint
-  pub stops : List ℕ
-  pub exits : List Exit
-  pub points : List Position
-
-pub record Segment (N : Type 0) : Type 0 where
-  pub name : Option N
-  pub lanes : List Lane
-
-pub record Spot : Type 0 where
-  pub width : Option ℕ
-  pub checkpoint : Option Checkpoint
-  pub first : Position
-  pub second : Position
-
-pub record Perimeter : Type 0 where
-  pub exits : List Exit
-  pub points : List Position
-
-pub record Zone (N : Type 0) : Type 0 where
-  pub name : Option N
-  pub border : Perimeter
-  pub spots : List Spot
-
-pub record Network (N : Type 0) : Type 0 where
-  pub name : N
-  pub version : Option N
-  pub date : Option N
-  pub segments : List (Segment N)
-  pub zones : List (Zone N)
-
--- ## What is permitted
--- 01: "latitude -90,000,000 to 90,000,000, longitude -180,000,000 to 180,000,000"
-pub record OnEarth (p : Position) : Type 0 where
-  pub latitude : natAbs (p .latitude) ≤ 90000000
-  pub longitude : natAbs (p .longitude) ≤ 180000000
-
--- 01: "The waypoint named by a checkpoint or stop .. is one of this lane" (or spot), which has w; "Checkpoint numbers are > 0"
-pub record GoodCheckpoint (w : ℕ) (c : Checkpoint) : Type 0 where
-  pub waypoint : Between 1 w (c .waypoint)
-  pub number : Between 1 largest (c .number)
-
--- 01: "The entry is any point identifier x.y.z with x, z > 0; y = 0 names a perimeter point"
+-- ## What is permitted, as the places test it
 pub record GoodEntry (e : PointId) : Type 0 where
   pub x : Between 1 largest (e .x)
   pub y : e .y ≤ largest
   pub z : Between 1 largest (e .z)
 
--- 01: "and the first of an exit, is one of this lane", which has w
 pub record GoodExit (w : ℕ) (e : Exit) : Type 0 where
   pub waypoint : Between 1 w (e .waypoint)
   pub entry : GoodEntry (e .entry)
 
--- 01: "any number of `exit`, the first a point of this perimeter, the second x.y.z with all three > 0"
 pub record GoodPerimeterExit (w : ℕ) (e : Exit) : Type 0 where
   pub waypoint : Between 1 w (e .waypoint)
   pub x : Between 1 largest (e .entry .x)
   pub y : Between 1 largest (e .entry .y)
   pub z : Between 1 largest (e .entry .z)
 
--- 01: "`num_waypoints` > 0"; "`lane_width` ≥ 0 (feet)"
 pub record GoodLane (a : Lane) : Type 0 where
   pub count : Between 1 largest (length (a .points))
   pub points : Each OnEarth (a .points)
@@ -96,14 +33,6 @@ pub record GoodLane (a : Lane) : Type 0 where
   pub stops : Each (Between 1 (length (a .points))) (a .stops)
   pub exits : Each (GoodExit (length (a .points))) (a .exits)
 
--- 01: "`spot_width` > 0 (feet) and one `checkpoint` on waypoint 1 or 2"
-pub record GoodSpot (a : Spot) : Type 0 where
-  pub width : Each (Between 1 largest) (perhaps (a .width))
-  pub checkpoint : Each (GoodCheckpoint 2) (perhaps (a .checkpoint))
-  pub first : OnEarth (a .first)
-  pub second : OnEarth (a .second)
-
--- 01: "`num_perimeterpoints` > 0"
 pub record GoodPerimeter (a : Perimeter) : Type 0 where
   pub count : Between 1 largest (length (a .points))
   pub points : Each OnEarth (a .points)

@@ -1,4 +1,4 @@
--- WHAT A READER MUST BELIEVE. The one table of places by statements for each file. Document 01: "Which statement may stand at which place is one table of places by statements". Assumes nothing.
+-- The one table of places by statements for each file. Document 01: "Which statement may stand at which place is one table of places by statements". Assumes nothing.
 use mathlib.Core.List.{List, [], _∷_}
 use Prim.Native.Nat.{ℕ}
 use lib.ListN.{getD}

@@ -1,28 +1,15 @@
--- WHAT A READER MUST BELIEVE. The statements of an RNDF: their kinds, by keyword, and what the fields behind the keyword say. Document 01, "The order of an RNDF". Assumes nothing.
+-- The statements of an RNDF: their kinds, by keyword, and what the fields behind the keyword say. Document 01, "The order of an RNDF". Assumes nothing.
 use mathlib.Core.List.{List, [], _∷_}
 use Prim.Native.Nat.{ℕ, suc}
 use lib.IntN.{ℤ}
 use Rattle.grammar.specs.Language.{Lang, S, allOf}
 use Rattle.grammar.specs.Language as Language
+pub use Rattle.law.specs.Network.{Boundary, double-yellow, solid-yellow, solid-white, broken-white, PointId, Position}
 
--- 01: "each of `double_yellow`, `solid_yellow`, `solid_white`, `broken_white`"
-pub data Boundary : Type 0 where
-  double-yellow solid-yellow solid-white broken-white : Boundary
-
--- 01: "Identifiers: integers joined by dots": m.n and x.y.z
+-- 01: "Identifiers: integers joined by dots": m.n
 pub record PartId : Type 0 where
   pub m : ℕ
   pub n : ℕ
-
-pub record PointId : Type 0 where
-  pub x : ℕ
-  pub y : ℕ
-  pub z : ℕ
-
--- 01: "Its value is a signed count of millionths of a degree"
-pub record Position : Type 0 where
-  pub latitude : ℤ
-  pub longitude : ℤ
 
 -- 01: "`checkpoint` waypoint number"
 pub record CheckpointLine : Type 0 where

@@ -1,4 +1,4 @@
--- WHAT A READER MUST BELIEVE. The tables of a network and of a mission. Document 01, "Tables": "All rows stand in file order, indexes from 0." Assumes nothing.
+-- The tables of a network and of a mission. Document 01, "Tables": "All rows stand in file order, indexes from 0." Assumes nothing.
 use mathlib.Core.List.{List, [], _∷_, _++_, map}
 use mathlib.Core.Option.{Option, none, some}
 use Prim.Native.Nat.{ℕ, zero, suc, pred, _+_, _-_}
@@ -7,6 +7,7 @@ use Rattle.grammar.specs.Statements.{Boundary, double-yellow, solid-yell
 use Rattle.grammar.specs.Network.{Checkpoint, Exit, Lane, Segment, Perimeter, Spot, Zone, Network}
 use Rattle.grammar.specs.MissionStatements.{Limit}
 use Rattle.grammar.specs.Mission.{Mission}
+pub use Rattle.law.specs.Tables.{feet, colour, side, gather, along, lane-size, spot-points, row-of, first-spot, all-lanes, zone-points, zone-size, lane-points, first-zone-point, over-spots}
 
 -- ## Rows. N: what a name is; a missing name is none (written 0, 0 where start and length are kept)
 -- 01: "File: its name, format version, creation date"
@@ -63,45 +64,7 @@ pub record Tables (N E : Type 0) : Type 0 where
   pub stops : List ℕ
   pub exits : List (ExitRow E)
 
--- 01: "A missing width is 65,535, since 0 is a lane width."
-abbrev pub feet : Option ℕ → ℕ
-feet none = 65535
-feet (some w) = w
-
--- 01: "(1 to 4 in the order above)"
-abbrev pub colour : Boundary → ℕ
-colour double-yellow = 1
-colour solid-yellow = 2
-colour solid-white = 3
-colour broken-white = 4
-
--- 01: "A missing boundary is 0."
-abbrev pub side : Option Boundary → ℕ
-side none = 0
-side (some b) = colour b
-
--- ## In file order
--- what each thing of a list gives, one behind the other
-abbrev pub gather : {A B : Type 0} → (A → List B) → List A → List B
-gather f [] = []
-gather f (a ∷ l) = f a ++ gather f l
-
--- the same, where each thing is told the first row that is its own, and takes so many rows
-abbrev pub along : {A B : Type 0} → (A → ℕ) → (ℕ → A → List B) → ℕ → List A → List B
-along size f first [] = []
-along size f first (a ∷ l) = f first a ++ along size f (first + size a) l
-
-abbrev pub lane-size : Lane → ℕ
-lane-size a = length (a .points)
-
-abbrev pub spot-points : Spot → List Position
-spot-points s = s .first ∷ s .second ∷ []
-
 -- ## The row of a part whose points begin at row `first`
--- the i-th point of a part stands i - 1 rows behind its first
-abbrev pub row-of : ℕ → ℕ → ℕ
-row-of first i = first + pred i
-
 abbrev pub lane-row : ℕ → Lane → LaneRow
 lane-row first a = record { first-point = first; points = length (a .points); width = feet (a .width); left = side (a .left); right = side (a .right) }
 
@@ -118,11 +81,6 @@ spot-checkpoint first (some c) = checkpoint-row first c ∷ []
 abbrev pub exit-row : {E : Type 0} → (PointId → E) → ℕ → Exit → ExitRow E
 exit-row f first e = record { point = row-of first (e .waypoint); entry = f (e .entry) }
 
--- 01: "first spot (0 without spots)"
-abbrev pub first-spot : ℕ → ℕ → ℕ
-first-spot spot zero = 0
-first-spot spot (suc n) = spot
-
 -- what stands where there is no row
 abbrev pub no-lane : LaneRow
 no-lane = record { first-point = 0; points = 0; width = 0; left = 0; right = 0 }
@@ -137,22 +95,6 @@ abbrev pub no-zone : {N : Type 0} → ZoneRow N
 no-zone = record { first-point = 0; points = 0; first-spot = 0; spots = 0; name = none }
 
 module _ {N : Type 0} where
-  abbrev pub all-lanes : Network N → List Lane
-  all-lanes n = gather (λ s. s .lanes) (n .segments)
-
-  -- 01: "for points: waypoints, perimeter points and two for each spot"
-  abbrev pub zone-points : Zone N → List Position
-  zone-points z = z .border .points ++ gather spot-points (z .spots)
-
-  abbrev pub zone-size : Zone N → ℕ
-  zone-size z = length (zone-points z)
-
-  abbrev pub lane-points : Network N → List Position
-  lane-points n = gather (λ a. a .points) (all-lanes n)
-
-  abbrev pub first-zone-point : Network N → ℕ
-  first-zone-point n = length (lane-points n)
-
   abbrev pub file-row : Network N → FileRow N
   file-row n = record { name = n .name; version = n .version; date = n .date }
 
@@ -175,10 +117,6 @@ module _ {N : Type 0} where
 
   abbrev pub zone-rows : Network N → List (ZoneRow N)
   zone-rows n = zone-rows-from (first-zone-point n) 0 (n .zones)
-
-  -- what each spot of a zone gives, where the zone's points begin at row `first`
-  abbrev pub over-spots : {B : Type 0} → (ℕ → Spot → List B) → ℕ → Zone N → List B
-  over-spots f first z = along (λ s. 2) f (first + length (z .border .points)) (z .spots)
 
   -- ## All of them, with the entries as f gives them
   unfoldable pub tables-with : {E : Type 0} → (PointId → E) → Network N → Tables N E

@@ -10,5 +10,7 @@ pub mod SameSpelling
 pub mod References
 -- The return trip.
 pub mod Theorems
+-- As the law has it.
+pub mod Lawful
 -- Decided.
 pub mod YardA

@@ -1,4 +1,4 @@
--- WHAT A READER MUST BELIEVE. The house writing of a network and of a mission, as bytes. Document 01, "House writing": "one tab between fields, LF after every line, no comment, blank line or CR; options in the order listed above, repeats in file order within their kind." Assumes nothing.
+-- The house writing of a network and of a mission, as bytes. Document 01, "House writing": "one tab between fields, LF after every line, no comment, blank line or CR; options in the order listed above, repeats in file order within their kind." Assumes nothing.
 use mathlib.Core.List.{List, _++_}
 use Rattle.terms.specs.Ascii.{Bytes, ascii}
 use Rattle.line.specs.Content.{Field}

@@ -1,4 +1,4 @@
--- WHAT A READER MUST BELIEVE. A network, or a mission, whose names are names: what can stand in a field. Document 01, "Lines, comments, fields". Assumes nothing.
+-- A network, or a mission, whose names are names: what can stand in a field. Document 01, "Lines, comments, fields". Assumes nothing.
 use lib.ListN.{length}
 use Rattle.terms.specs.Words.{Each, perhaps}
 use Rattle.line.specs.Content.{Field, IsField}

@@ -9,3 +9,4 @@ pub mod Faults
 pub mod Spans
 pub mod Located
 pub mod Examples
+pub mod Plain

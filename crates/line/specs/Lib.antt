@@ -1,4 +1,5 @@
 -- Lines, comments, fields: what they are, and how they are found.
+pub mod Line
 pub mod Text
 pub mod Content
 pub mod Faults

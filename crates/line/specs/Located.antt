@@ -1,4 +1,4 @@
--- WHAT A READER MUST BELIEVE. Where fields and lines stand in a text. Assumes nothing.
+-- Where fields and lines stand in a text. Assumes nothing.
 use mathlib.Core.Path.{_≡_}
 use mathlib.Core.List.{List, [], _∷_, _++_}
 use Prim.Native.Nat.{ℕ, suc, _+_}

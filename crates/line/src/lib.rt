@@ -1,10 +1,14 @@
 // A line: its end without CR, its form (refusals 2, 3, 4, or where its fields end) and its fields.
 // Rests on `scan` (every loop over bytes is there) and `terms`. A text's lines are found by scanning for LF.
-use scan::Until;
-use scan::scan;
+use scan::not_inside_from;
+use scan::not_outside_from;
+use scan::not_separator_from;
+use scan::plain_from;
+use scan::separator_from;
+use scan::two_from;
 ghost use mathlib.Core.Path.{_≡_};
 ghost use Rattle.scan.specs.Allowed.{separates, outside, inside, all};
-ghost use Rattle.scan.specs.Reach.{upTo};
+ghost use Rattle.scan.specs.Reach.{upTo, fails, plain};
 ghost use Rattle.line.specs.Lines.{trimOf};
 ghost use Rattle.line.specs.Forms.{opens, closes, shut, clean, formOf, spanAt, countOf, fieldsIn};
 
@@ -26,26 +30,26 @@ pub fn trimmed(s: &[u8]) -> usize
 fn all_separators(s: &[u8]) -> bool
     ensures { λ r. ⌜ r ≡ all separates (now (s .entry)) ⌝ }
 {
-    scan(s, 0, Until::NotSeparator) == s.len()
+    not_separator_from(s, 0) == s.len()
 }
 
 fn outside_bytes(s: &[u8]) -> bool
     ensures { λ r. ⌜ r ≡ all outside (now (s .entry)) ⌝ }
 {
-    scan(s, 0, Until::NotOutside) == s.len()
+    not_outside_from(s, 0) == s.len()
 }
 
 fn inside_bytes(s: &[u8]) -> bool
     ensures { λ r. ⌜ r ≡ all inside (now (s .entry)) ⌝ }
 {
-    scan(s, 0, Until::NotInside) == s.len()
+    not_inside_from(s, 0) == s.len()
 }
 
 // Behind the opening: the first */, and nothing but separators behind it.
 fn closed(s: &[u8]) -> bool
     ensures { λ r. ⌜ r ≡ closes (now (s .entry)) ⌝ }
 {
-    let e = scan(s, 0, Until::Two(b'*', b'/'));
+    let e = two_from(s, 0, b'*', b'/');
     if e < s.len() {
         let k = e + 2;
         all_separators(&s[k..])
@@ -67,12 +71,12 @@ fn is_shut(s: &[u8], mark: usize) -> bool
     }
 }
 
-// Every byte is allowed where it stands.
-fn is_clean(s: &[u8], mark: usize) -> bool
-    requires { ⌜ mark ≡ upTo opens (now s) ⌝ }
+// Every byte is allowed where it stands. Before `stop` each is plain.
+fn is_clean(s: &[u8], stop: usize, mark: usize) -> bool
+    requires { ⌜ (stop ≡ upTo (fails plain) (now s)) × (mark ≡ upTo opens (now s)) ⌝ }
     ensures { λ r. ⌜ r ≡ clean (now (s .entry)) ⌝ }
 {
-    if outside_bytes(&s[..mark]) {
+    if outside_bytes(&s[stop..mark]) {
         inside_bytes(&s[mark..])
     } else {
         false
@@ -91,9 +95,14 @@ pub fn form_of(s: &[u8]) -> Form
     if 512 < s.len() {
         return Form::Bad(2);
     }
-    let mark = scan(s, 0, Until::Two(b'/', b'*'));
+    // most lines are plain throughout: they have no comment, and no byte that is not allowed
+    let stop = plain_from(s, 0);
+    if stop == s.len() {
+        return Form::Body(stop);
+    }
+    let mark = two_from(s, stop, b'/', b'*');
     if is_shut(s, mark) {
-        if is_clean(s, mark) {
+        if is_clean(s, stop, mark) {
             Form::Body(mark)
         } else {
             Form::Bad(4)
@@ -113,8 +122,8 @@ pub struct Span {
 fn span_at(s: &[u8], from: usize) -> Span
     ensures { λ r. ⌜ r ≡ spanAt (now (s .entry)) from ⌝ }
 {
-    let start = scan(s, from, Until::NotSeparator);
-    let stop = scan(s, start, Until::Separator);
+    let start = not_separator_from(s, from);
+    let stop = separator_from(s, start);
     Span { start, stop }
 }
 

@@ -7,12 +7,12 @@ use mathlib.Core.Bool.{Bool, true, false}
 use Prim.Native.Nat.{ℕ, zero, suc, _+_, _*_, _<_, _≤_}
 use native.Mathlib.Omega.{arith}
 use lib.Dec.{ltb, eqb}
-use lib.ListN.{length, getD}
+use lib.ListN.{length, getD, take, drop, length-drop}
 use borrow.Author.Tests.{ltb-true, ltb-false, eqb-true, eqb-false}
 use Rattle.rows.specs.Lay.{rowsOf, rowAt}
 use Rattle.rows.specs.Strides.{checkpointStride}
-use Rattle.rows.proofs.Lay.{row-outside, length-row, word-of-row}
-use Rattle.look_up.specs.LookUp.{Row, None, NoneBefore, PointOf, first-row, no-row}
+use Rattle.rows.proofs.Lay.{fits-row, row-inside, length-row, word-of-row}
+use Rattle.look_up.specs.LookUp.{Row, NoneBefore, PointOf, first-row, no-row}
 
 -- two numbers, neither below the other
 ordered : {X : Type 0} (i j : ℕ) → (i < j → X) → (j < i → X) → (i ≡ j → X) → X
@@ -25,7 +25,7 @@ ordered {X} i j less more same = go (ltb i j) (ltb j i) refl refl
 
 one-row : (t : List ℕ) (i j number p q : ℕ) → Row t i number p → Row t j number q → NoneBefore t i number → NoneBefore t j number → p ≡ q
 one-row t i j number p q a b before before′ =
-    ordered i j (λ l. absurd (before′ i p l a)) (λ l. absurd (before j q l b)) (λ e. let f : rowAt checkpointStride t i ≡ rowAt checkpointStride t j = ap (rowAt checkpointStride t) e in cc)
+    ordered i j (λ l. absurd (before′ i p l a)) (λ l. absurd (before j q l b)) (λ e. let f : take 2 (drop (i * 2) t) ≡ take 2 (drop (j * 2) t) = ap (λ (k : ℕ). take 2 (drop (k * 2) t)) e in cc)
 
 pub point-one : (t : List ℕ) (number p q : ℕ) → PointOf t number p → PointOf t number q → p ≡ q
 point-one t number p q (first-row i n a before) (first-row j m b before′) = one-row t i j number p q a b before before′
@@ -42,23 +42,30 @@ two-words (a ∷ []) e = absurd (omega arith)
 two-words (a ∷ b ∷ []) e = refl
 two-words (a ∷ b ∷ c ∷ l) e = absurd (omega arith)
 
+-- one word is no row
+short : (l : List ℕ) (a b : ℕ) → (2 ≤ length l → ⊥) → take 2 l ≡ a ∷ b ∷ [] → ⊥
+short [] a b h e = let z : _≡_ {A = ℕ} 0 2 = ap length e in omega arith
+short (x ∷ []) a b h e = let z : _≡_ {A = ℕ} 1 2 = ap length e in omega arith
+short (x ∷ y ∷ l) a b h e = h (omega arith)
+
 module _ (t : List ℕ) (i : ℕ) where
   -- the words of a row that is there
-  pub row-words : i < rowsOf (length t) checkpointStride → rowAt checkpointStride t i ≡ getD t (i * checkpointStride) 0 ∷ getD t (i * checkpointStride + 1) 0 ∷ []
+  pub row-words : i < rowsOf (length t) checkpointStride → take 2 (drop (i * 2) t) ≡ getD t (i * checkpointStride) 0 ∷ getD t (i * checkpointStride + 1) 0 ∷ []
   row-words h =
-      two-words (rowAt checkpointStride t i) (length-row checkpointStride t i h)
+      sym (row-inside checkpointStride t i h)
+      ∙ two-words (rowAt checkpointStride t i) (length-row checkpointStride t i h)
       ∙ rw (word-of-row checkpointStride t i 0 0 h (omega arith), word-of-row checkpointStride t i 1 0 h (omega arith)) (ap (λ (n : ℕ). getD t n 0 ∷ getD t (i * checkpointStride + 1) 0 ∷ []) (let e : i * checkpointStride + 0 ≡ i * checkpointStride = omega arith in e))
 
   -- one more row that is not it
   pub one-more : (number : ℕ) → i < rowsOf (length t) checkpointStride → (getD t (i * checkpointStride) 0 ≡ number → ⊥) → NoneBefore t i number → NoneBefore t (i + 1) number
-  one-more number h other before j point l a = ordered i j (λ m. omega arith) (λ m. before j point m a) (λ e. other (let f : rowAt checkpointStride t i ≡ rowAt checkpointStride t j = ap (rowAt checkpointStride t) e in let g = row-words h in cc))
+  one-more number h other before j point l a = ordered i j (λ m. omega arith) (λ m. before j point m a) (λ e. other (let f : take 2 (drop (i * 2) t) ≡ take 2 (drop (j * 2) t) = ap (λ (k : ℕ). take 2 (drop (k * 2) t)) e in let g = row-words h in cc))
 
   -- none before the last is none at all
-  pub none-at-all : (number : ℕ) → rowsOf (length t) checkpointStride ≤ i → NoneBefore t i number → None t number
+  pub none-at-all : (number : ℕ) → rowsOf (length t) checkpointStride ≤ i → NoneBefore t i number → (j point : ℕ) → Row t j number point → ⊥
   none-at-all number h before j point a = ordered i j (λ m. outside j (omega arith) a) (λ m. before j point m a) (λ e. outside j (omega arith) a)
     where
-      outside : (j : ℕ) → rowsOf (length t) checkpointStride ≤ j → rowAt checkpointStride t j ≡ number ∷ point ∷ [] → ⊥
-      outside j h a = let e = row-outside checkpointStride t j h in let z : _≡_ {A = ℕ} 0 1 = cc in omega arith
+      outside : (j : ℕ) → rowsOf (length t) checkpointStride ≤ j → take 2 (drop (j * 2) t) ≡ number ∷ point ∷ [] → ⊥
+      outside j h a = short (drop (j * 2) t) number point (λ l. let k = fits-row (length t) 2 j (omega arith) (let d = length-drop (j * 2) t in omega arith) in omega arith) a
 
 -- ## An answer for every table and number
 pub record Answered (t : List ℕ) (number : ℕ) : Type 0 where

@@ -13,8 +13,7 @@ use mission_progress::MissionRow;
 use mission_progress::mission_row;
 use rows::store_goal;
 use rows::store_limit;
-use scan::Until;
-use scan::scan;
+use scan::far_byte_from;
 ghost use mathlib.Core.Path.{_≡_};
 ghost use Prim.Native.Nat.{_≤_};
 ghost use lib.ListN.{length};
@@ -49,7 +48,7 @@ pub fn fill_orders(text: &[u8], goals: &mut [u32], limits: &mut [u32]) -> Missio
     let mut from: usize = 0;
     let mut line: u32 = 1;
     while from < text.len() {
-        let e = scan(text, from, Until::Byte(10));
+        let e = far_byte_from(text, from, 10);
         let v = mission_judge_line(&text[from..e], from, place);
         match v {
             MissionVerdict::Blank => {}

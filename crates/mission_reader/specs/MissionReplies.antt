@@ -1,4 +1,4 @@
--- WHAT A READER MUST BELIEVE. When an MDF is accepted for a network, and when it is refused, at which line and with which number. Document 01, "Refusal numbers". Assumes nothing.
+-- When an MDF is accepted for a network, and when it is refused, at which line and with which number. Document 01, "Refusal numbers". Assumes nothing.
 use mathlib.Core.Path.{_≡_}
 use mathlib.Core.List.{List}
 use Prim.Native.Nat.{ℕ, _≤_, _<_}

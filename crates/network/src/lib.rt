@@ -20,8 +20,7 @@ use rows::store_segment;
 use rows::store_spot;
 use rows::store_stop;
 use rows::store_zone;
-use scan::Until;
-use scan::scan;
+use scan::far_byte_from;
 ghost use mathlib.Core.Path.{_≡_};
 ghost use Prim.Native.Nat.{_≤_};
 ghost use lib.ListN.{length};
@@ -93,7 +92,7 @@ pub fn fill_lines(
     let mut from: usize = 0;
     let mut line: u32 = 1;
     while from < text.len() {
-        let e = scan(text, from, Until::Byte(10));
+        let e = far_byte_from(text, from, 10);
         let v = judge_line(&text[from..e], from, place);
         match v {
             Verdict::Blank => {}

@@ -1,4 +1,4 @@
--- WHAT A READER MUST BELIEVE. When an RNDF is taken, and which line and number it is refused with, in document 01's order. Assumes nothing.
+-- When an RNDF is taken, and which line and number it is refused with, in document 01's order. Assumes nothing.
 use Prim.Native.Nat.{ℕ, _≤_, _<_}
 use lib.ListN.{length}
 use Rattle.terms.specs.Ascii.{Bytes}

@@ -1,10 +1,5 @@
 -- WHAT A READER MUST BELIEVE. The digits of a number. Assumes nothing.
-use mathlib.Core.List.{[], _∷_, _++_}
-use Prim.Native.Nat.{ℕ, zero, suc, _+_, _/_, _%_}
-use Prim.Native.Char.{code}
-use lib.Dec.{ltb}
-use Rattle.terms.specs.Ascii.{Bytes}
-use Rattle.terms.specs.Words.{pick}
+use Rattle.terms.specs.Words.{[], _∷_, _++_, ℕ, zero, suc, _+_, _/_, _%_, code, ltb, Bytes, pick}
 
 -- the byte of a number below ten
 abbrev pub digitOf : ℕ → ℕ
@@ -15,8 +10,7 @@ unfoldable pub spell : ℕ → ℕ → Bytes
 spell zero n = []
 spell (suc k) n = pick (ltb n 10) (digitOf n ∷ []) (spell k (n / 10) ++ (digitOf (n % 10) ∷ []))
 
--- 01: "no leading zero but `0` itself"
--- the digits of a number: n + 1 are always enough (laws: `decimal-one`, `decimal-more`)
+-- 01: "no leading zero but `0` itself": n + 1 digits are always enough (laws: `decimal-one`, `decimal-more`)
 unfoldable pub decimal : ℕ → Bytes
 decimal n = spell (suc n) n
 

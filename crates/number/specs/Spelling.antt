@@ -1,4 +1,4 @@
--- WHAT A READER MUST BELIEVE. Which fields spell which integers and identifiers, and which are names. Assumes nothing.
+-- Which fields spell which integers and identifiers, and which are names. Assumes nothing.
 use mathlib.Core.Path.{_≡_}
 use mathlib.Core.List.{_++_}
 use Prim.Native.Nat.{ℕ, _≤_}

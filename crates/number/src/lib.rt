@@ -1,9 +1,8 @@
 // Integers and identifiers in fields, and the length of a name.
 // A field that is not spelled right is `No` (refusal 8). A value stays raw, up to 99,999: whether it is in range
 // (refusal 9) is a test apart. Rests on `terms` and `scan`.
-use scan::Until;
+use scan::byte_from;
 use scan::is_digit;
-use scan::scan;
 ghost use mathlib.Core.Path.{_≡_};
 ghost use Prim.Native.Nat.{_≤_};
 ghost use lib.ListN.{length};
@@ -84,7 +83,7 @@ fn both(a: Number, b: Number) -> Pair
 pub fn pair_of(s: &[u8]) -> Pair
     ensures { λ r. ⌜ r ≡ pairOf (now (s .entry)) ⌝ }
 {
-    let p = scan(s, 0, Until::Byte(b'.'));
+    let p = byte_from(s, 0, b'.');
     if p < s.len() {
         let q = p + 1;
         let a = integer_of(&s[..p]);
@@ -125,7 +124,7 @@ fn three(a: Number, b: Pair) -> Triple
 pub fn triple_of(s: &[u8]) -> Triple
     ensures { λ r. ⌜ r ≡ tripleOf (now (s .entry)) ⌝ }
 {
-    let p = scan(s, 0, Until::Byte(b'.'));
+    let p = byte_from(s, 0, b'.');
     if p < s.len() {
         let q = p + 1;
         let a = integer_of(&s[..p]);

@@ -352,23 +352,25 @@ impl Place {
         }
     }
 
-    fn due_step(self, s: Statement, row: u8) -> Outcome
+    fn due_step(self, s: Statement, row: u8, fine: bool) -> Outcome
+        requires { ⌜ fine ≡ permitsOf self s ⌝ }
         ensures { λ r. ⌜ r ≡ dueOf self s row ⌝ }
     {
-        if self.permits(s) {
+        if fine {
             Outcome::Next(self.after(s, row))
         } else {
             Outcome::Refused(9)
         }
     }
 
-    fn option_step(self, s: Statement, slot: u8) -> Outcome
+    fn option_step(self, s: Statement, slot: u8, fine: bool) -> Outcome
+        requires { ⌜ fine ≡ permitsOf self s ⌝ }
         ensures { λ r. ⌜ r ≡ optionOf self s slot ⌝ }
     {
         if self.has(slot) {
             return Outcome::Refused(6);
         }
-        if self.permits(s) {
+        if fine {
             Outcome::Next(self.opted(slot))
         } else {
             Outcome::Refused(9)
@@ -390,16 +392,17 @@ impl Place {
         }
     }
 
-    // The place after a statement, or the refusal's number: 5, 6 or 9.
+    // The place after a statement, or the refusal's number: 5, 6 or 9. The values are tested in one place, so that the compiler can do it here.
     pub fn step(self, s: Statement) -> Outcome
         ensures { λ r. ⌜ r ≡ stepOf self s ⌝ }
     {
         let c = place_table::rndf_next(self.index(), s.kind() as usize);
+        let fine = self.permits(s);
         if c < 128 {
-            return self.due_step(s, c);
+            return self.due_step(s, c, fine);
         }
         if c < place_table::REFUSED {
-            self.option_step(s, c - 128)
+            self.option_step(s, c - 128, fine)
         } else {
             Outcome::Refused(5)
         }

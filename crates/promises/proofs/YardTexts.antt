@@ -1,14 +1,13 @@
--- Yard A's bytes and one change of them each: what is read of each text, and the networks of those that are well-formed. Document 01, "Yard A". Assumes nothing.
+-- Yard A's RNDF and one change of it each, by computation: the networks that the well-formed ones spell, and the faults of the others. Document 01, "Yard A". Assumes nothing.
 use mathlib.Core.Path.{_≡_, refl, sym, subst, _∙_}
 use mathlib.Core.List.{List, [], _∷_, _++_}
-use mathlib.Core.Option.{none}
-use Prim.Native.String.{String}
+use Prim.Native.Nat.{ℕ}
 use native.Mathlib.Omega.{arith}
-use lib.IntN.{pos, negsuc}
+use lib.Dec.{lit<}
 use Rattle.terms.specs.Ascii.{Bytes, ascii}
 use Rattle.scan.specs.Allowed as Allowed
 use Rattle.scan.specs.Reach as Reach
-use Rattle.line.specs.Content.{Field, at}
+use Rattle.line.specs.Content.{Field}
 use Rattle.line.specs.Content as Content
 use Rattle.line.specs.Lines as Lines
 use Rattle.line.specs.Forms as Forms
@@ -18,10 +17,11 @@ use Rattle.word.specs.Keywords as Keywords
 use Rattle.word.specs.Number as Word
 use Rattle.grammar.specs.Machine as Machine
 use Rattle.grammar.specs.Stands as Stands
-use Rattle.grammar.specs.Statements.{Statement, Position, PointId, say, point-id, part-id, point-line, numbered, RNDF-name, num-segments, num-zones, segment, num-lanes, end-segment, lane, num-waypoints, checkpoint, exit, end-lane, end-file}
-use Rattle.grammar.specs.Network.{Network, Checkpoint, SpellsNetwork}
+use Rattle.grammar.specs.Statements.{Statement, PointId, say, point-id, part-id, point-line, numbered, RNDF-name, num-segments, num-zones, segment, num-lanes, end-segment, lane, num-waypoints, checkpoint, exit, end-lane, end-file}
+use Rattle.grammar.specs.Network.{Network, SpellsNetwork}
 use Rattle.grammar.specs.HouseOrder.{GoodNetwork, house-network, house-segment, segment-options, house-lane, lane-options, file-options}
 use Rattle.grammar.specs.Places.{rndf, name-due}
+use Rattle.grammar.specs.Tables.{tables-with}
 use Rattle.grammar.proofs.Written.{network-written}
 use Rattle.grammar.proofs.Theorems.{network-unique}
 use Rattle.text.specs.Judge as Judge
@@ -29,91 +29,30 @@ use Rattle.text.specs.Answers.{read, faulty, short}
 use Rattle.text.specs.Answers as Answers
 use Rattle.text.specs.RndfLines.{rndf-line}
 use Rattle.text.specs.RndfWords.{rndf-lexis}
-use Rattle.text.specs.Spelling.{SpellsRndf}
+use Rattle.text.specs.Spelling as Old
 use Rattle.text.proofs.TextReading.{Means}
 use Rattle.text.proofs.Theorems.{read-rndf, rndf-means, rndf-file}
-
--- ## The texts
--- yard A with another count of waypoints, other options of its lane, and another end
-abbrev changed : (count options end : String) → Bytes
-changed count options end =
-    ascii "RNDF_name\tyard_a\nnum_segments\t1\nnum_zones\t0\nsegment\t1\nnum_lanes\t1\nlane\t1.1\n"
-    ++ (ascii count ++ (ascii options ++ (ascii "1.1.1\t45.000000\t-93.000000\n1.1.2\t45.000100\t-93.000000\nend_lane\nend_segment\n" ++ ascii end)))
-
-abbrev pub yard : Bytes
-yard = changed "num_waypoints\t2\n" "checkpoint\t1.1.2\t7\nexit\t1.1.2\t1.1.1\n" "end_file\n"
-
-abbrev pub entry-3 : Bytes
-entry-3 = changed "num_waypoints\t2\n" "checkpoint\t1.1.2\t7\nexit\t1.1.2\t1.1.3\n" "end_file\n"
-
-abbrev pub exit-from-3 : Bytes
-exit-from-3 = changed "num_waypoints\t2\n" "checkpoint\t1.1.2\t7\nexit\t1.1.3\t1.1.1\n" "end_file\n"
-
-abbrev pub three-waypoints : Bytes
-three-waypoints = changed "num_waypoints\t3\n" "checkpoint\t1.1.2\t7\nexit\t1.1.2\t1.1.1\n" "end_file\n"
-
-abbrev pub one-waypoint : Bytes
-one-waypoint = changed "num_waypoints\t1\n" "checkpoint\t1.1.2\t7\nexit\t1.1.2\t1.1.1\n" "end_file\n"
-
-abbrev pub without-end : Bytes
-without-end = changed "num_waypoints\t2\n" "checkpoint\t1.1.2\t7\nexit\t1.1.2\t1.1.1\n" ""
-
-abbrev pub line-8-twice : Bytes
-line-8-twice = changed "num_waypoints\t2\n" "checkpoint\t1.1.2\t7\ncheckpoint\t1.1.2\t7\nexit\t1.1.2\t1.1.1\n" "end_file\n"
-
--- texts with a good first line, a good first lane, and a good first segment, and a fault in the second
-abbrev pub second-line : Bytes
-second-line = ascii "RNDF_name\ta\nnum_segment\t1\n"
-
-abbrev two-lanes : String → Bytes
-two-lanes last = ascii "RNDF_name\ta\nnum_segments\t1\nnum_zones\t0\nsegment\t1\nnum_lanes\t2\nlane\t1.1\nnum_waypoints\t1\n1.1.1\t0.000000\t0.000000\nend_lane\n"
-    ++ (ascii "lane\t1.2\nnum_waypoints\t1\n" ++ (ascii last ++ ascii "end_lane\nend_segment\nend_file\n"))
-
-abbrev pub second-lane : Bytes
-second-lane = two-lanes "1.2.2\t0.000000\t0.000000\n"
-
-abbrev two-segments : String → Bytes
-two-segments last = ascii "RNDF_name\ta\nnum_segments\t2\nnum_zones\t0\nsegment\t1\nnum_lanes\t1\nlane\t1.1\nnum_waypoints\t1\n1.1.1\t0.000000\t0.000000\nend_lane\nend_segment\n"
-    ++ (ascii "segment\t2\nnum_lanes\t1\nlane\t2.1\nnum_waypoints\t1\n" ++ (ascii last ++ ascii "end_lane\nend_segment\nend_file\n"))
-
-abbrev pub second-segment : Bytes
-second-segment = two-segments "2.1.1\t90.000001\t0.000000\n"
-
--- ## The networks of those that are well-formed
-abbrev near : Position
-near = record { latitude = pos 45000000; longitude = negsuc 92999999 }
-
-abbrev far : Position
-far = record { latitude = pos 45000100; longitude = negsuc 92999999 }
-
-abbrev its-name : Field
-its-name = at 10 (ascii "yard_a")
-
-abbrev network-with : List Checkpoint → PointId → Network Field
-network-with cs e = record {
-  name = its-name;
-  version = none;
-  date = none;
-  segments = record { name = none; lanes = record { width = none; left = none; right = none; checkpoints = cs; stops = []; exits = record { waypoint = 2; entry = e } ∷ []; points = near ∷ far ∷ [] } ∷ [] } ∷ [];
-  zones = [];
-}
-
-abbrev seven : Checkpoint
-seven = record { waypoint = 2; number = 7 }
-
-abbrev pub network : Network Field
-network = network-with (seven ∷ []) (point-id 1 1 1)
-
-abbrev pub network-entry-3 : Network Field
-network-entry-3 = network-with (seven ∷ []) (point-id 1 1 3)
-
-abbrev pub network-twice : Network Field
-network-twice = network-with (seven ∷ seven ∷ []) (point-id 1 1 1)
+use Rattle.form_faults.proofs.FormFaults.{rndf-bad-line-right, rndf-unended-right}
+use Rattle.fill.specs.Resolve.{resolve}
+use Rattle.fill.specs.FirstFaults.{fault, first-fault, is-among}
+use Rattle.fill.specs.FirstLines.{place-of}
+use Rattle.walk.specs.Standing as Standing
+use Rattle.find_line.proofs.Theorems.{rndf-line-there}
+use Rattle.fault_lines.specs.FaultLines.{FirstRndfFault}
+use Rattle.fault_lines.proofs.RndfFaults.{exit-line, checkpoint-line, only-undeclared, only-repeated}
+use Rattle.law.specs.Network.{AnyOrder}
+use Rattle.law.specs.Network as Law
+use Rattle.law.specs.Short.{SpellsRndf}
+use Rattle.law.specs.Faults.{BadLine, Unended, FirstFault, RndfFault}
+use Rattle.law_spelling.proofs.Texts.{rndf-to}
+use Rattle.law_faults.proofs.Theorems.{rndf-bad-to, rndf-unended-to}
+use Rattle.law_tables.proofs.RndfFirst.{rndf-first-to}
+use Rattle.promises.specs.Yards.{yard, entry-3, exit-from-3, three-waypoints, one-waypoint, without-end, line-8-twice, second-line, second-lane, second-segment, position, network, network-entry-3, network-twice}
 
 abbrev lines-with : List (Statement Field) → PointId → List (Statement Field)
 lines-with cs e =
-    say RNDF-name its-name ∷ say num-segments 1 ∷ say num-zones 0 ∷ say segment 1 ∷ say num-lanes 1 ∷ say lane (part-id 1 1) ∷ say num-waypoints 2
-    ∷ (cs ++ (say exit (record { waypoint = point-id 1 1 2; entry = e }) ∷ point-line (point-id 1 1 1) near ∷ point-line (point-id 1 1 2) far ∷ say end-lane tt ∷ say end-segment tt ∷ say end-file tt ∷ []))
+    say RNDF-name (network .name) ∷ say num-segments 1 ∷ say num-zones 0 ∷ say segment 1 ∷ say num-lanes 1 ∷ say lane (part-id 1 1) ∷ say num-waypoints 2
+    ∷ (cs ++ (say exit (record { waypoint = point-id 1 1 2; entry = e }) ∷ point-line (point-id 1 1 1) (position 45000000 93000000) ∷ point-line (point-id 1 1 2) (position 45000100 93000000) ∷ say end-lane tt ∷ say end-segment tt ∷ say end-file tt ∷ []))
 
 abbrev line-8 : Statement Field
 line-8 = say checkpoint (record { waypoint = point-id 1 1 2; number = 7 })
@@ -121,10 +60,10 @@ line-8 = say checkpoint (record { waypoint = point-id 1 1 2; number = 7 })
 abbrev yard-lines : List (Statement Field)
 yard-lines = lines-with (line-8 ∷ []) (point-id 1 1 1)
 
-abbrev pub entry-3-lines : List (Statement Field)
+abbrev entry-3-lines : List (Statement Field)
 entry-3-lines = lines-with (line-8 ∷ []) (point-id 1 1 3)
 
-abbrev pub twice-lines : List (Statement Field)
+abbrev twice-lines : List (Statement Field)
 twice-lines = lines-with (line-8 ∷ line-8 ∷ []) (point-id 1 1 1)
 
 -- their statements are the networks' house writing
@@ -133,7 +72,7 @@ unfolding house-network file-options house-segment segment-options house-lane la
 house = (refl, refl, refl)
 
 -- ## What is read, by computation
-pub record Answered : Type 0 where
+record Answered : Type 0 where
   pub yard : read-rndf yard ≡ read yard-lines
   pub entry-3 : read-rndf entry-3 ≡ read entry-3-lines
   pub line-8-twice : read-rndf line-8-twice ≡ read twice-lines
@@ -146,21 +85,75 @@ pub record Answered : Type 0 where
   pub second-lane : read-rndf second-lane ≡ faulty 12 9
   pub second-segment : read-rndf second-segment ≡ faulty 15 9
 
-pub answered : Answered
+answered : Answered
 unfolding ascii Answers.readText Answers.walk Lines.linesOf Judge.judge Lines.dropCr Forms.formOf Forms.closes Forms.noteOf Forms.outerOf Forms.fieldsAt Content.parted Allowed.separates Allowed.all Reach.two Reach.sameBytes Reach.begins Reach.first Reach.upTo Reach.stopsBy Judge.tell Judge.read Judge.numbered Number.integerOf Number.plainOf Number.plain Number.worth Number.numberOf Number.pairOf Number.tripleOf Coordinate.coordinateOf Coordinate.millionthsOf Word.boundary-number Word.indexOf Keywords.rndf-keywords Keywords.boundary-words Machine.step Machine.guard Stands.stands
 answered = record { yard = refl; entry-3 = refl; line-8-twice = refl; exit-from-3 = refl; three-waypoints = refl; one-waypoint = refl; without-end = refl; nothing = refl; second-line = refl; second-lane = refl; second-segment = refl }
 
 -- ## What is spelled
-spelled-by : (text : Bytes) (n : Network Field) (ss : List (Statement Field)) → read-rndf text ≡ read ss → GoodNetwork n → house-network n ≡ ss → SpellsRndf n text
+spelled-by : (text : Bytes) (n : Network Field) (ss : List (Statement Field)) → read-rndf text ≡ read ss → GoodNetwork n → house-network n ≡ ss → Old.SpellsRndf n text
 spelled-by text n ss e good h =
     let m = subst (Means (rndf Field) rndf-lexis rndf-line SpellsNetwork name-due rndf-file text) e (rndf-means text) in
-    subst (λ (x : Network Field). SpellsRndf x text) (network-unique (m .0) n (m .1 .said) (house-network n) (m .1 .net) (network-written n good) (m .2 ∙ sym h)) (m .1)
+    subst (λ (x : Network Field). Old.SpellsRndf x text) (network-unique (m .0) n (m .1 .said) (house-network n) (m .1 .net) (network-written n good) (m .2 ∙ sym h)) (m .1)
 
-pub yard-spelled : SpellsRndf network yard
-yard-spelled = spelled-by yard network yard-lines (answered .yard) (omega arith) (house .0)
+entry-3-read : Old.SpellsRndf network-entry-3 entry-3
+entry-3-read = spelled-by entry-3 network-entry-3 entry-3-lines (answered .entry-3) (omega arith) (house .1)
 
-pub entry-3-spelled : SpellsRndf network-entry-3 entry-3
-entry-3-spelled = spelled-by entry-3 network-entry-3 entry-3-lines (answered .entry-3) (omega arith) (house .1)
+twice-read : Old.SpellsRndf network-twice line-8-twice
+twice-read = spelled-by line-8-twice network-twice twice-lines (answered .line-8-twice) (omega arith) (house .2)
 
-pub twice-spelled : SpellsRndf network-twice line-8-twice
-twice-spelled = spelled-by line-8-twice network-twice twice-lines (answered .line-8-twice) (omega arith) (house .2)
+pub record Spelled : Type 0 where
+  pub yard : SpellsRndf network yard
+  pub entry-3 : SpellsRndf network-entry-3 entry-3
+  pub line-8-twice : SpellsRndf network-twice line-8-twice
+
+pub spelled : Spelled
+spelled = record { yard = rndf-to network yard (spelled-by yard network yard-lines (answered .yard) (omega arith) (house .0)); entry-3 = rndf-to network-entry-3 entry-3 entry-3-read; line-8-twice = rndf-to network-twice line-8-twice twice-read }
+
+-- ## What has a fault
+bad : (text : Bytes) (line number : ℕ) → read-rndf text ≡ faulty line number → BadLine (Law.SpellsNetwork AnyOrder) text line number
+bad text line number e = rndf-bad-to text line number (rndf-bad-line-right text line number e)
+
+open-ended : (text : Bytes) (line : ℕ) → read-rndf text ≡ short line → Unended (Law.SpellsNetwork AnyOrder) text line
+open-ended text line e = rndf-unended-to text line (rndf-unended-right text line e)
+
+exit-on-9 : exit-line entry-3 0 ≡ 9
+unfolding ascii place-of Standing.standing Standing.speaks Lines.linesOf Lines.dropCr Forms.formOf Forms.closes Forms.noteOf Forms.outerOf Forms.fieldsAt Content.parted Allowed.separates Allowed.all Reach.two Reach.sameBytes Reach.begins Reach.first Reach.upTo Reach.stopsBy
+exit-on-9 = rndf-line-there exit 0 entry-3 entry-3-lines (answered .entry-3) (lit< tt)
+
+wrong-entry : FirstRndfFault network-entry-3 entry-3 9 12
+unfolding first-fault is-among resolve tables-with
+wrong-entry = subst (λ (i : ℕ). FirstRndfFault network-entry-3 entry-3 i 12) exit-on-9 (only-undeclared network-entry-3 entry-3 entry-3-read (fault 0 12) refl refl)
+
+checkpoint-on-9 : checkpoint-line line-8-twice 1 ≡ 9
+unfolding ascii place-of Standing.standing Standing.speaks Lines.linesOf Lines.dropCr Forms.formOf Forms.closes Forms.noteOf Forms.outerOf Forms.fieldsAt Content.parted Allowed.separates Allowed.all Reach.two Reach.sameBytes Reach.begins Reach.first Reach.upTo Reach.stopsBy
+checkpoint-on-9 = rndf-line-there checkpoint 1 line-8-twice twice-lines (answered .line-8-twice) (lit< tt)
+
+seven-twice : FirstRndfFault network-twice line-8-twice 9 13
+unfolding first-fault is-among resolve tables-with
+seven-twice = subst (λ (i : ℕ). FirstRndfFault network-twice line-8-twice i 13) checkpoint-on-9 (only-repeated network-twice line-8-twice twice-read (fault 1 13) refl refl)
+
+pub record Faults : Type 0 where
+  pub entry-3 : FirstFault (Law.SpellsNetwork AnyOrder) (RndfFault network-entry-3) entry-3 9 12
+  pub exit-from-3 : BadLine (Law.SpellsNetwork AnyOrder) exit-from-3 9 9
+  pub three-waypoints : BadLine (Law.SpellsNetwork AnyOrder) three-waypoints 12 5
+  pub one-waypoint : BadLine (Law.SpellsNetwork AnyOrder) one-waypoint 8 9
+  pub without-end : Unended (Law.SpellsNetwork AnyOrder) without-end 14
+  pub nothing : Unended (Law.SpellsNetwork AnyOrder) [] 1
+  pub line-8-twice : FirstFault (Law.SpellsNetwork AnyOrder) (RndfFault network-twice) line-8-twice 9 13
+  pub second-line : BadLine (Law.SpellsNetwork AnyOrder) second-line 2 5
+  pub second-lane : BadLine (Law.SpellsNetwork AnyOrder) second-lane 12 9
+  pub second-segment : BadLine (Law.SpellsNetwork AnyOrder) second-segment 15 9
+
+pub faults : Faults
+faults = record {
+  entry-3 = rndf-first-to network-entry-3 entry-3 entry-3-read 9 12 wrong-entry;
+  exit-from-3 = bad exit-from-3 9 9 (answered .exit-from-3);
+  three-waypoints = bad three-waypoints 12 5 (answered .three-waypoints);
+  one-waypoint = bad one-waypoint 8 9 (answered .one-waypoint);
+  without-end = open-ended without-end 14 (answered .without-end);
+  nothing = open-ended [] 1 (answered .nothing);
+  line-8-twice = rndf-first-to network-twice line-8-twice twice-read 9 13 seven-twice;
+  second-line = bad second-line 2 5 (answered .second-line);
+  second-lane = bad second-lane 12 9 (answered .second-lane);
+  second-segment = bad second-segment 15 9 (answered .second-segment);
+}

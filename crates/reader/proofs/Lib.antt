@@ -1,5 +1,7 @@
 -- Laws of the entry points.
+pub mod Lawful
 pub mod Steps
 pub mod Pairing
+pub mod SettledByStatements
+pub mod PairSettledByStatements
 pub mod Settled
-pub mod PairSettled

@@ -36,7 +36,9 @@ use Rattle.mission_reader.proofs.References.{accepted-rndf}
 use Rattle.mission_reader.proofs.Theorems as MT
 use Rattle.reader.specs.declared.PairReply as DP
 use Rattle.reader.specs.declared.PairReply.the-variants as Pair
-use Rattle.reader.specs.Replies.{refusal, mission-lent, ReadsPair, accepted, rndf-refused, mdf-refused}
+use Rattle.reader.specs.ByStatements.{refusal, mission-lent, accepted, rndf-refused, mdf-refused}
+use Rattle.reader.specs.Replies.{ReadsPair}
+use Rattle.reader.proofs.Lawful.{pair-reads-to}
 use Rattle.reader.specs.Pairs.{joinedOf, Read, outcome, from-mission, from-network, pairOf}
 use Rattle.reader.specs.Pairs as P
 
@@ -115,12 +117,12 @@ pub pair-accepted : (rndf mdf : Bytes) (t left : Lent) (u mission-left : Mission
     → ReadsPair rndf mdf t u (Pair.Accepted c file m g) left mission-left
 pair-accepted rndf mdf t left u mission-left c file m g e =
     let h = subst (Meant rndf mdf t u) (sym e) (meant rndf mdf t u) in
-    accepted (h .net) (h .mission) (h .accepts) (h .takes) (h .reply) (h .holds) (h .mission-holds)
+    pair-reads-to rndf mdf t u (Pair.Accepted c file m g) left mission-left (accepted (h .net) (h .mission) (h .accepts) (h .takes) (h .reply) (h .holds) (h .mission-holds))
 
 pub pair-refused : (rndf mdf : Bytes) (t behind left : Lent) (u mission-behind mission-left : MissionLent) (file line number : ℕ) → P.refused file line number ≡ pairOf rndf mdf t u
     → left ≡ zeros behind → zeros behind ≡ zeros t → mission-left ≡ mission-zeros mission-behind → mission-zeros mission-behind ≡ mission-zeros u → ReadsPair rndf mdf t u (Pair.Refused (refusal file line number)) left mission-left
 pair-refused rndf mdf t behind left u mission-behind mission-left file line number e z k y j = go (subst (Meant rndf mdf t u) (sym e) (meant rndf mdf t u))
   where
     go : Refused rndf mdf t u file line number → ReadsPair rndf mdf t u (Pair.Refused (refusal file line number)) left mission-left
-    go (by-rndf h f) = rndf-refused line number h (ap (λ (x : ℕ). Pair.Refused (refusal x line number)) f) (z ∙ k) (y ∙ j)
-    go (by-mdf n a h f) = mdf-refused n line number a h (ap (λ (x : ℕ). Pair.Refused (refusal x line number)) f) (z ∙ k) (y ∙ j)
+    go (by-rndf h f) = pair-reads-to rndf mdf t u (Pair.Refused (refusal file line number)) left mission-left (rndf-refused line number h (ap (λ (x : ℕ). Pair.Refused (refusal x line number)) f) (z ∙ k) (y ∙ j))
+    go (by-mdf n a h f) = pair-reads-to rndf mdf t u (Pair.Refused (refusal file line number)) left mission-left (mdf-refused n line number a h (ap (λ (x : ℕ). Pair.Refused (refusal x line number)) f) (z ∙ k) (y ∙ j))

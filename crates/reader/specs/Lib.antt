@@ -1,3 +1,4 @@
--- The entry points.
+-- The entry points: Replies is what their contracts say.
 pub mod Replies
+pub mod ByStatements
 pub mod Pairs

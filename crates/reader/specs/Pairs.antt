@@ -13,7 +13,8 @@ use Rattle.mission_reader.specs.declared.MissionReply as DM
 use Rattle.mission_reader.specs.declared.MissionReply.the-variants as Mission
 use Rattle.mission_reader.specs.MissionReading as M
 use Rattle.mission_reader.specs.MissionReading.{rndf-of, missionOf}
-use Rattle.reader.specs.Replies.{refusal, mission-lent}
+use Rattle.law.specs.Tables.{mission-lent}
+use Rattle.reader.specs.Replies.{refusal}
 use Rattle.reader.specs.declared.PairReply as DP
 use Rattle.reader.specs.declared.PairReply.the-variants as Pair
 

@@ -1,42 +1,86 @@
--- WHAT A READER MUST BELIEVE. What the entry points reply, and what the lent tables then hold. Assumes nothing.
-use mathlib.Core.Path.{_≡_}
-use mathlib.Core.List.{List}
-use Prim.Native.Nat.{ℕ}
-use Rattle.terms.specs.Ascii.{Bytes}
-use Rattle.line.specs.Content.{Field}
-use Rattle.grammar.specs.Network.{Network}
-use Rattle.grammar.specs.Tables.{tables, mission-tables}
-use Rattle.grammar.specs.Mission.{Mission}
-use Rattle.fill.specs.Counts.{sizes}
-use Rattle.table_words.specs.Words.{Lent, MissionLent, zeros, mission-zeros, network-filled, mission-filled}
-use Rattle.table_words.specs.FileRows.{network-file, mission-file}
-use Rattle.network_reader.specs.Replies.{rows-used, AcceptsRndf, RefusesRndf}
-use Rattle.mission_reader.specs.MissionReplies.{AcceptsMdf, RefusesMdf}
-use Rattle.mission_reader.specs.MissionReplies as M
+-- WHAT A READER MUST BELIEVE. What the entry points reply, and what the lent tables then hold. Document 01, "Refusal numbers", "Tables". Assumes nothing.
+use Rattle.terms.specs.Words.{_≡_, List, Option, none, some, ℕ, _≤_, _<_, length, Bytes}
+use Rattle.line.specs.Line.{Field}
+use Rattle.law.specs.Network.{Network, Mission, Line, AnyOrder, SpellsNetwork, SpellsMission, SpellsText}
+use Rattle.law.specs.Tables.{Lent, MissionLent, segment-rows, lane-rows, zone-rows, spot-rows, point-rows, checkpoint-rows, stop-rows, exit-rows, HasRoom, MissionHasRoom, filled, mission-filled, zeros, mission-zeros}
+use Rattle.law.specs.Faults.{BadLine, Unended, FirstFault, RndfFault, MdfFault, Sound, Fits}
+use Rattle.rows.specs.declared.Stretch.{Stretch}
+use Rattle.rows.specs.declared.FileRow.{FileRow}
+use Rattle.rows.specs.declared.MissionFileRow.{MissionFileRow}
+use Rattle.network_reader.specs.declared.Counts.{Counts}
 use Rattle.reader.specs.declared.Refusal.{Refusal}
 use Rattle.reader.specs.declared.RndfReply.{RndfReply}
 use Rattle.reader.specs.declared.RndfReply.the-variants as Reply
 use Rattle.reader.specs.declared.PairReply.{PairReply}
 use Rattle.reader.specs.declared.PairReply.the-variants as Pair
 
+-- 01: 1 "text over 16,777,215 bytes"
+abbrev pub most : ℕ
+most = 16777215
+
+-- ## One file: how it is spelled; whether there is room for what it spells, and its references are right; which lines have wrong ones
+module _ {Net : Type 0} (Spells : Net → List Line → Type 0) (Roomy Right : Net → Type 0) (Wrong : Net → List Line → Line → ℕ → Type 0) (text : Bytes) where
+  pub record Accepts (n : Net) : Type 0 where
+    pub size : length text ≤ most
+    pub spelled : SpellsText Spells n text
+    pub room : Roomy n
+    pub right : Right n
+
+  -- 01: "Order: for the RNDF 1; then the first line with a fault of 2 to 9, ..; then 10; 11; then the first line with 12 or 13. Then the MDF likewise, 14 to 18 by first line"
+  pub data Refuses : (line number : ℕ) → Type 0 where
+    too-long : most < length text → Refuses 0 1
+    bad-line : {line number : ℕ} → length text ≤ most → BadLine Spells text line number → Refuses line number
+    unended : {line : ℕ} → length text ≤ most → Unended Spells text line → Refuses line 10
+    no-room : (n : Net) → length text ≤ most → SpellsText Spells n text → (Roomy n → ⊥) → Refuses 0 11
+    bad-reference : (n : Net) {line number : ℕ} → length text ≤ most → SpellsText Spells n text → Roomy n → FirstFault Spells (Wrong n) text line number → Refuses line number
+
+-- t: the tables as they were lent; u: those of the MDF; n: the network of the RNDF, which was accepted before
+module _ (text : Bytes) (t : Lent) where
+  abbrev pub AcceptsRndf : Network Field → Type 0
+  AcceptsRndf = Accepts (SpellsNetwork AnyOrder) (λ n. HasRoom n t) Sound RndfFault text
+
+  abbrev pub RefusesRndf : (line number : ℕ) → Type 0
+  RefusesRndf = Refuses (SpellsNetwork AnyOrder) (λ n. HasRoom n t) Sound RndfFault text
+
+module _ (n : Network Field) (text : Bytes) (u : MissionLent) where
+  abbrev pub AcceptsMdf : Mission Field → Type 0
+  AcceptsMdf = Accepts (SpellsMission AnyOrder) (λ m. MissionHasRoom m u) (Fits n) (λ m. MdfFault n) text
+
+  abbrev pub RefusesMdf : (line number : ℕ) → Type 0
+  RefusesMdf = Refuses (SpellsMission AnyOrder) (λ m. MissionHasRoom m u) (Fits n) (λ m. MdfFault n) text
+
+-- ## What is replied
 -- 01: "Each gives file (1 RNDF, 2 MDF), line, number."
 abbrev pub refusal : (file line number : ℕ) → Refusal
 refusal file line number = record { file = file; line = line; number = number }
 
-abbrev pub mission-lent : (goals limits : List ℕ) → MissionLent
-mission-lent goals limits = record { goals = goals; limits = limits }
+-- 01: "Acceptance replies with the rows used of each table"
+abbrev pub rows-used : Network Field → Counts
+rows-used n = record { segments = length (segment-rows n); lanes = length (lane-rows n); zones = length (zone-rows n); spots = length (spot-rows n); points = length (point-rows n); checkpoints = length (checkpoint-rows n); stops = length (stop-rows n); exits = length (exit-rows n) }
 
--- ## An RNDF alone: the reply, and what is left in the lent tables. t: these tables as they were lent
+-- 01: "A name is its start and length in the lent text; a missing name is 0, 0."
+abbrev pub stretch : Option Field → Stretch
+stretch none = record { start = 0; length = 0 }
+stretch (some v) = record { start = v .start; length = length (v .bytes) }
+
+-- 01: "File: its name, format version, creation date, in an MDF its `RNDF` name too." Readings, 17: part of the reply
+abbrev pub network-file : Network Field → FileRow
+network-file n = record { name = stretch (some (n .name)); version = stretch (n .version); date = stretch (n .date) }
+
+abbrev pub mission-file : Mission Field → MissionFileRow
+mission-file m = record { name = stretch (some (m .name)); rndf = stretch (some (m .rndf)); version = stretch (m .version); date = stretch (m .date) }
+
+-- ## An RNDF alone: the reply, and what is left in the lent tables
 pub data ReadsRndf (text : Bytes) (t : Lent) (reply : RndfReply) (left : Lent) : Type 0 where
-  -- 01: "Acceptance replies with the rows used of each table; rows beyond are zero."
-  accepted : (n : Network Field) → AcceptsRndf text t n → reply ≡ Reply.Accepted (rows-used (sizes (tables n))) (network-file n) → left ≡ network-filled n t → ReadsRndf text t reply left
+  -- 01: "rows beyond are zero"
+  accepted : (n : Network Field) → AcceptsRndf text t n → reply ≡ Reply.Accepted (rows-used n) (network-file n) → left ≡ filled n t → ReadsRndf text t reply left
   -- 01: "All lent tables .. are then zero over their whole length"
   refused : (line number : ℕ) → RefusesRndf text t line number → reply ≡ Reply.Refused (refusal 1 line number) → left ≡ zeros t → ReadsRndf text t reply left
 
--- ## An RNDF with its MDF. u: the goals and limits as they were lent
+-- ## An RNDF with its MDF
 pub data ReadsPair (rndf mdf : Bytes) (t : Lent) (u : MissionLent) (reply : PairReply) (left : Lent) (mission-left : MissionLent) : Type 0 where
-  accepted : (n : Network Field) (m : Mission Field) → AcceptsRndf rndf t n → AcceptsMdf n mdf u m → reply ≡ Pair.Accepted (rows-used (sizes (tables n))) (network-file n) (M.rows-used m) (mission-file m)
-      → left ≡ network-filled n t → mission-left ≡ mission-filled (mission-tables m) u → ReadsPair rndf mdf t u reply left mission-left
+  accepted : (n : Network Field) (m : Mission Field) → AcceptsRndf rndf t n → AcceptsMdf n mdf u m → reply ≡ Pair.Accepted (rows-used n) (network-file n) (record { goals = length (m .goals); limits = length (m .limits) }) (mission-file m)
+      → left ≡ filled n t → mission-left ≡ mission-filled m u → ReadsPair rndf mdf t u reply left mission-left
   -- 01: "for the RNDF 1; ..": everything about the RNDF comes first
   rndf-refused : (line number : ℕ) → RefusesRndf rndf t line number → reply ≡ Pair.Refused (refusal 1 line number) → left ≡ zeros t → mission-left ≡ mission-zeros u → ReadsPair rndf mdf t u reply left mission-left
   -- 01: "Then the MDF likewise"

@@ -1,8 +1,8 @@
 // The entry points: an RNDF alone, and an RNDF with its MDF, read into lent tables. What they reply, and what every lent table then holds, is specs/Replies: for all texts, and
 // all tables. Nothing is required. A refusal leaves every lent table zero.
 //
-// specs/Replies: the contracts, what a reader must believe. specs/Pairs: a pair's, executable. proofs/Settled: no second reply and no second memory satisfies them.
-// (PairSettled: of a pair.) proofs/Pairing: what both files get together. What follows from the contracts alone is the crate `promises`.
+// specs/Replies: the contracts, what a reader must believe. specs/ByStatements: the same over statements and typed rows, as the proofs have it; proofs/Lawful: that both say the same.
+// specs/Pairs: what a pair gets, executable. proofs/Settled: no second reply and no second memory satisfies the contracts. What follows from the contracts alone is the crate `promises`.
 //
 // Rests on `network_reader`, `mission_reader` and what they rest on. Beside it: `look_up` (a checkpoint number's point), `rows` (names, and how rows lie in a table).
 use mission_reader::MissionCounts;
@@ -17,8 +17,8 @@ use rows::MissionFileRow;
 use rows::clear;
 ghost use mathlib.Core.Path.{_≡_};
 ghost use Rattle.progress.specs.Given.{fitted};
-ghost use Rattle.network_reader.specs.Reading.{lent};
-ghost use Rattle.reader.specs.Replies.{mission-lent, ReadsRndf, ReadsPair};
+ghost use Rattle.law.specs.Tables.{lent, mission-lent};
+ghost use Rattle.reader.specs.Replies.{ReadsRndf, ReadsPair};
 ghost use Prim.Native.Nat.{_+_};
 ghost use Rattle.reader.specs.Pairs.{joinedOf, outcome, pairOf};
 

@@ -23,8 +23,7 @@ use read_rows::segment_at;
 use read_rows::zone_at;
 use rows::ExitRow;
 use rows::store_exit;
-use scan::Until;
-use scan::scan;
+use scan::far_byte_from;
 use statement::Id;
 ghost use mathlib.Core.Path.{_≡_};
 ghost use mathlib.Core.List.{[]};
@@ -43,7 +42,7 @@ pub fn line_at(text: &[u8], start: usize) -> &[u8]
     ensures { λ r. ⌜ now r ≡ lineAt (now (text .entry)) start ⌝ }
 {
     if start < text.len() {
-        let stop = scan(text, start, Until::Byte(10));
+        let stop = far_byte_from(text, start, 10);
         &text[start..stop]
     } else {
         &text[..0]

@@ -1,2 +1,3 @@
 -- The return trip of accepted texts.
 pub mod Returns
+pub mod ByStatements

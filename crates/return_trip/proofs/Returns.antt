@@ -1,90 +1,127 @@
 -- THE RETURN TRIP of an accepted RNDF, and of an accepted RNDF with its MDF. Assumes nothing.
-use mathlib.Core.Path.{_≡_, refl, sym, ap, ap₂, subst, _∙_}
+use mathlib.Core.Path.{_≡_, sym, ap, subst, _∙_}
 use Prim.Native.Nat.{_≤_}
 use lib.ListN.{length}
 use Rattle.terms.specs.Ascii.{Bytes}
 use Rattle.line.specs.Content.{Field}
-use Rattle.grammar.specs.Network.{Network}
-use Rattle.grammar.specs.Mission.{Mission}
+use Rattle.law.specs.Network.{Network, Mission}
+use Rattle.law.specs.Tables as Law
+use Rattle.law.specs.Tables.{Lent, MissionLent}
 use Rattle.grammar.specs.Names.{network-named, mission-named}
-use Rattle.grammar.specs.Tables.{tables, mission-tables}
+use Rattle.grammar.specs.Tables.{mission-tables}
 use Rattle.grammar.specs.References.{Fits}
+use Rattle.grammar.proofs.Theorems.{network-ranges, mission-ranges}
 use Rattle.text.specs.Spelling.{Name, bytes-of}
-use Rattle.fill.specs.Counts.{Counts, MissionCounts, sizes}
-use Rattle.table_words.specs.Words.{Lent, MissionLent, HasRoom, MissionHasRoom, network-filled, mission-filled}
-use Rattle.table_words.specs.FileRows.{network-file, mission-file}
-use Rattle.network_reader.specs.Replies.{most, rows-used, AcceptsRndf}
-use Rattle.mission_reader.specs.MissionReplies.{AcceptsMdf}
-use Rattle.mission_reader.specs.MissionReplies as M
+use Rattle.fill.specs.Counts.{Counts, MissionCounts, mission-sizes}
+use Rattle.table_words.specs.Words.{HasRoom, MissionHasRoom}
+use Rattle.law_spelling.proofs.Texts.{rndf-to, mdf-to}
+use Rattle.law_spelling.proofs.Texts as Texts
+use Rattle.law_tables.proofs.SameTables.{room-to, room-back, mission-room-to, mission-room-back, mission-counts-same, mission-filled-same}
+use Rattle.law_tables.proofs.SameFits.{fits-to, fits-back}
+use Rattle.network_reader.specs.declared.Counts as Declared
+use Rattle.network_reader.specs.Replies as N
 use Rattle.reader.specs.declared.RndfReply.{RndfReply}
 use Rattle.reader.specs.declared.RndfReply.the-variants as Reply
 use Rattle.reader.specs.declared.PairReply.{PairReply}
 use Rattle.reader.specs.declared.PairReply.the-variants as Pair
-use Rattle.reader.specs.Replies.{ReadsRndf, ReadsPair}
-use Rattle.reader.specs.Replies as R
-use Rattle.reader.proofs.Settled.{rndf-settled}
-use Rattle.reader.proofs.PairSettled.{pair-settled}
+use Rattle.reader.specs.Replies.{most, AcceptsRndf, AcceptsMdf, rows-used, network-file, mission-file, ReadsRndf, ReadsPair}
+use Rattle.reader.proofs.Lawful.{counts-are}
+use Rattle.promises.specs.Accepted.{mission-rows-used}
+use Rattle.promises.proofs.Promises.{spelled-accepted}
+use Rattle.promises.proofs.PairPromises.{spelled-pair-accepted}
+use Rattle.house_text.specs.House.{HouseRndf, HouseMdf}
 use Rattle.house_text.specs.HouseText.{house-rndf, house-mdf}
+use Rattle.house_text.proofs.Lawful.{house-rndf-only, house-mdf-only, house-rndf-is, house-mdf-is}
 use Rattle.house_text.proofs.References.{sound-alike, sizes-alike, mission-sizes-alike, mission-words-alike}
 use Rattle.house_text.proofs.Theorems.{rndf-back, mdf-back}
-use Rattle.return_trip.specs.Returns.{SameNetwork, RndfReturns, MdfReturns, PairReturns}
+use Rattle.return_trip.specs.Returns.{SameNetwork, SameMission, RndfReturns, MdfReturns, PairReturns}
+
+-- ## The house writing: one and only one
+pub rndf-house : (text : Bytes) (t : Lent) (n : Network Field) → AcceptsRndf text t n → (house : Bytes) × HouseRndf n house
+rndf-house text t n a = let s = Texts.rndf-back n text (a .spelled) in (house-rndf n, house-rndf-is n (network-ranges n (s .said) (s .net)))
+
+pub one-rndf-house : (n : Network Field) (house house′ : Bytes) → HouseRndf n house → HouseRndf n house′ → house ≡ house′
+one-rndf-house n house house′ h h′ = house-rndf-only n house h ∙ sym (house-rndf-only n house′ h′)
+
+pub mdf-house : (mdf : Bytes) (u : MissionLent) (n : Network Field) (m : Mission Field) → AcceptsMdf n mdf u m → (house : Bytes) × HouseMdf m house
+mdf-house mdf u n m a = let s = Texts.mdf-back m mdf (a .spelled) in (house-mdf m, house-mdf-is m (mission-ranges m (s .said) (s .net)))
+
+pub one-mdf-house : (m : Mission Field) (house house′ : Bytes) → HouseMdf m house → HouseMdf m house′ → house ≡ house′
+one-mdf-house m house house′ h h′ = house-mdf-only m house h ∙ sym (house-mdf-only m house′ h′)
 
 -- ## Accepted again
 -- in any tables that have room for its rows
-pub rndf-returns-in : (text : Bytes) (t t′ : Lent) (n : Network Field) → AcceptsRndf text t n → length (house-rndf n) ≤ most → HasRoom (sizes (tables n)) t′ → RndfReturns n t′
-rndf-returns-in text t t′ n a size room =
-    let b = rndf-back n text (a .spelled) in
-    record {
-      again = b .0;
-      accepts = record { size = size; spelled = b .1; room = subst (λ (c : Counts). HasRoom c t′) (sizes-alike bytes-of n (b .0) (sym (b .2))) room; sound = sound-alike bytes-of n (b .0) (sym (b .2)) (a .sound) };
-      same = b .2;
-    }
-
--- so in the same tables: as many rows are needed
-pub rndf-returns : (text : Bytes) (t : Lent) (n : Network Field) → AcceptsRndf text t n → length (house-rndf n) ≤ most → RndfReturns n t
-rndf-returns text t n a size = rndf-returns-in text t t n a size (a .room)
-
--- for every network that is the same as the one that the MDF was accepted for: that one, or what its house writing spells
-pub mdf-returns : (mdf : Bytes) (u : MissionLent) (n n′ : Network Field) (m : Mission Field) → AcceptsMdf n mdf u m → SameNetwork n′ n → length (house-mdf m) ≤ M.most → MdfReturns n′ m u
-mdf-returns mdf u n n′ m a e size =
-    let b = mdf-back m mdf (a .spelled) in
-    record {
+pub rndf-returns-in : (text : Bytes) (t t′ : Lent) (n : Network Field) → AcceptsRndf text t n → (house : Bytes) → HouseRndf n house → length house ≤ most → Law.HasRoom n t′ → RndfReturns n house t′
+rndf-returns-in text t t′ n a house h size room =
+    let e = house-rndf-only n house h in
+    let b = rndf-back n text (Texts.rndf-back n text (a .spelled)) in
+    subst (λ (w : Bytes). RndfReturns n w t′) (sym e)
+    (record {
       again = b .0;
       accepts = record {
-        size = size;
-        spelled = b .1;
-        room = subst (λ (c : MissionCounts). MissionHasRoom c u) (mission-sizes-alike bytes-of m (b .0) (sym (b .2))) (a .room);
-        fits = subst (λ (x : Mission Name). Fits (network-named bytes-of n′) x) (sym (b .2)) (subst (λ (x : Network Name). Fits x (mission-named bytes-of m)) (sym e) (a .fits));
+        size = subst (λ (w : Bytes). length w ≤ most) e size;
+        spelled = rndf-to (b .0) (house-rndf n) (b .1);
+        room = room-to (b .0) t′ (subst (λ (c : Counts). HasRoom c t′) (sizes-alike bytes-of n (b .0) (sym (b .2))) (room-back n t′ room));
+        right = sound-alike bytes-of n (b .0) (sym (b .2)) (a .right);
       };
       same = b .2;
-    }
+    })
+
+-- so in the same tables: as many rows are needed
+pub rndf-returns : (text : Bytes) (t : Lent) (n : Network Field) → AcceptsRndf text t n → (house : Bytes) → HouseRndf n house → length house ≤ most → RndfReturns n house t
+rndf-returns text t n a house h size = rndf-returns-in text t t n a house h size (a .room)
+
+-- for every network that is the same as the one that the MDF was accepted for: that one, or what its house writing spells
+pub mdf-returns : (mdf : Bytes) (u : MissionLent) (n n′ : Network Field) (m : Mission Field) → AcceptsMdf n mdf u m → SameNetwork n′ n → (house : Bytes) → HouseMdf m house → length house ≤ most → MdfReturns n′ m house u
+mdf-returns mdf u n n′ m a e house h size =
+    let q = house-mdf-only m house h in
+    let b = mdf-back m mdf (Texts.mdf-back m mdf (a .spelled)) in
+    subst (λ (w : Bytes). MdfReturns n′ m w u) (sym q)
+    (record {
+      again = b .0;
+      accepts = record {
+        size = subst (λ (w : Bytes). length w ≤ most) q size;
+        spelled = mdf-to (b .0) (house-mdf m) (b .1);
+        room = mission-room-to (b .0) u (subst (λ (c : MissionCounts). MissionHasRoom c u) (mission-sizes-alike bytes-of m (b .0) (sym (b .2))) (mission-room-back m u (a .room)));
+        right = fits-to n′ (b .0) (subst (λ (x : Mission Name). Fits (network-named bytes-of n′) x) (sym (b .2)) (subst (λ (x : Network Name). Fits x (mission-named bytes-of m)) (sym e) (fits-back n m (a .right))));
+      };
+      same = b .2;
+    })
 
 -- THE RETURN TRIP
-pub pair-returns : (rndf mdf : Bytes) (t : Lent) (u : MissionLent) (n : Network Field) (m : Mission Field) → AcceptsRndf rndf t n → AcceptsMdf n mdf u m → length (house-rndf n) ≤ most → length (house-mdf m) ≤ M.most → PairReturns n m t u
-pair-returns rndf mdf t u n m a b size mission-size =
-    let x = rndf-returns rndf t n a size in
-    record { network = x; mission = mdf-returns mdf u n (x .again) m b (x .same) mission-size }
+pub pair-returns : (rndf mdf : Bytes) (t : Lent) (u : MissionLent) (n : Network Field) (m : Mission Field) → AcceptsRndf rndf t n → AcceptsMdf n mdf u m
+    → (rndf-house mdf-house : Bytes) → HouseRndf n rndf-house → HouseMdf m mdf-house → length rndf-house ≤ most → length mdf-house ≤ most → PairReturns n m rndf-house mdf-house t u
+pair-returns rndf mdf t u n m a b v w h g size mission-size =
+    let x = rndf-returns rndf t n a v h size in
+    record { network = x; mission = mdf-returns mdf u n (x .again) m b (x .same) w g mission-size }
 
 -- ## What a reader replies: the same rows used; the file's own row and the tables are those of what came back
-pub rndf-read-again : (text : Bytes) (t : Lent) (n : Network Field) → AcceptsRndf text t n → length (house-rndf n) ≤ most → (reply : RndfReply) (left : Lent) → ReadsRndf (house-rndf n) t reply left
-    → (x : RndfReturns n t) × (reply ≡ Reply.Accepted (rows-used (sizes (tables n))) (network-file (x .again))) × (left ≡ network-filled (x .again) t)
-rndf-read-again text t n a size reply left h =
-    let x = rndf-returns text t n a size in
-    let n′ = x .again in
-    let s = rndf-settled (house-rndf n) t reply (Reply.Accepted (rows-used (sizes (tables n′))) (network-file n′)) left (network-filled n′ t) h (R.accepted n′ (x .accepts) refl refl) in
-    (x, s .0 ∙ ap (λ (c : Counts). Reply.Accepted (rows-used c) (network-file n′)) (sizes-alike bytes-of n′ n (x .same)), s .1)
+counts-alike : (n n′ : Network Field) → SameNetwork n n′ → rows-used n ≡ rows-used n′
+counts-alike n n′ e = sym (counts-are n) ∙ ap (λ (c : Counts). N.rows-used c) (sizes-alike bytes-of n n′ e) ∙ counts-are n′
+
+mission-counts-alike : (m m′ : Mission Field) → SameMission m m′ → mission-rows-used m ≡ mission-rows-used m′
+mission-counts-alike m m′ e =
+    let q : mission-sizes (mission-tables m) ≡ mission-sizes (mission-tables m′) = mission-sizes-alike bytes-of m m′ e in
+    ap (λ (c : MissionCounts). record { goals = c .goals; limits = c .limits }) (sym (mission-counts-same m) ∙ q ∙ mission-counts-same m′)
+
+pub rndf-read-again : (text : Bytes) (t : Lent) (n : Network Field) → AcceptsRndf text t n → (house : Bytes) → HouseRndf n house → length house ≤ most → (reply : RndfReply) (left : Lent) → ReadsRndf house t reply left
+    → (x : RndfReturns n house t) × (reply ≡ Reply.Accepted (rows-used n) (network-file (x .again))) × (left ≡ Law.filled (x .again) t)
+rndf-read-again text t n a house g size reply left h =
+    let x = rndf-returns text t n a house g size in
+    let s = spelled-accepted house t reply left h (x .again) (x .accepts) in
+    (x, s .0 ∙ ap (λ (c : Declared.Counts). Reply.Accepted c (network-file (x .again))) (counts-alike (x .again) n (x .same)), s .1)
 
 -- and the goals and limits are the same words
-pub pair-read-again : (rndf mdf : Bytes) (t : Lent) (u : MissionLent) (n : Network Field) (m : Mission Field) → AcceptsRndf rndf t n → AcceptsMdf n mdf u m → length (house-rndf n) ≤ most → length (house-mdf m) ≤ M.most
-    → (reply : PairReply) (left : Lent) (mission-left : MissionLent) → ReadsPair (house-rndf n) (house-mdf m) t u reply left mission-left
-    → (x : PairReturns n m t u) × (reply ≡ Pair.Accepted (rows-used (sizes (tables n))) (network-file (x .network .again)) (M.rows-used m) (mission-file (x .mission .again)))
-    × (left ≡ network-filled (x .network .again) t) × (mission-left ≡ mission-filled (mission-tables m) u)
-pair-read-again rndf mdf t u n m a b size mission-size reply left mission-left h =
-    let x = pair-returns rndf mdf t u n m a b size mission-size in
+pub pair-read-again : (rndf mdf : Bytes) (t : Lent) (u : MissionLent) (n : Network Field) (m : Mission Field) → AcceptsRndf rndf t n → AcceptsMdf n mdf u m
+    → (rndf-house mdf-house : Bytes) → HouseRndf n rndf-house → HouseMdf m mdf-house → length rndf-house ≤ most → length mdf-house ≤ most
+    → (reply : PairReply) (left : Lent) (mission-left : MissionLent) → ReadsPair rndf-house mdf-house t u reply left mission-left
+    → (x : PairReturns n m rndf-house mdf-house t u) × (reply ≡ Pair.Accepted (rows-used n) (network-file (x .network .again)) (mission-rows-used m) (mission-file (x .mission .again)))
+    × (left ≡ Law.filled (x .network .again) t) × (mission-left ≡ Law.mission-filled m u)
+pair-read-again rndf mdf t u n m a b v w g f size mission-size reply left mission-left h =
+    let x = pair-returns rndf mdf t u n m a b v w g f size mission-size in
     let n′ = x .network .again in
     let m′ = x .mission .again in
-    let s = pair-settled (house-rndf n) (house-mdf m) t u reply (Pair.Accepted (rows-used (sizes (tables n′))) (network-file n′) (M.rows-used m′) (mission-file m′)) left (network-filled n′ t) mission-left (mission-filled (mission-tables m′) u) h
-    (R.accepted n′ m′ (x .network .accepts) (x .mission .accepts) refl refl refl) in
-    let c = sizes-alike bytes-of n′ n (x .network .same) in
-    let d = mission-sizes-alike bytes-of m′ m (x .mission .same) in
-    (x, s .0 ∙ ap₂ (λ (c : Counts) (d : MissionCounts). Pair.Accepted (rows-used c) (network-file n′) (record { goals = d .goals; limits = d .limits }) (mission-file m′)) c d, s .1, s .2 ∙ mission-words-alike m′ m (x .mission .same) u)
+    let s = spelled-pair-accepted v w t u reply left mission-left h n′ m′ (x .network .accepts) (x .mission .accepts) in
+    let c = counts-alike n′ n (x .network .same) in
+    let d = mission-counts-alike m′ m (x .mission .same) in
+    (x, s .0 ∙ (λ i. Pair.Accepted (c i) (network-file n′) (d i) (mission-file m′)), s .1, s .2 ∙ sym (mission-filled-same m′ u) ∙ mission-words-alike m′ m (x .mission .same) u ∙ mission-filled-same m u)

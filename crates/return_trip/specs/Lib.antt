@@ -1,2 +1,3 @@
 -- What comes back.
 pub mod Returns
+pub mod ByStatements

@@ -1,4 +1,4 @@
--- WHAT A READER MUST BELIEVE. How the rows of a table lie in a flat slice of numbers. Assumes nothing.
+-- How the rows of a table lie in a flat slice of numbers. Assumes nothing.
 use mathlib.Core.List.{List, [], _++_}
 use Prim.Native.Nat.{ℕ, _+_, _*_, _/_}
 use lib.ListN.{length, take, drop}

@@ -1,10 +1,5 @@
 -- WHAT A READER MUST BELIEVE. The bytes of a name. Assumes nothing.
-use mathlib.Core.List.{[]}
-use Prim.Native.Nat.{_+_}
-use lib.ListN.{length, take, drop}
-use lib.Dec.{leb}
-use Rattle.terms.specs.Words.{pick}
-use Rattle.terms.specs.Ascii.{Bytes}
+use Rattle.terms.specs.Words.{[], _+_, length, take, drop, leb, pick, Bytes}
 use Rattle.rows.specs.declared.Stretch.{Stretch}
 
 -- 01: "Asking for a name returns that stretch of the caller's own text, or an empty part where start and length don't fit in it."

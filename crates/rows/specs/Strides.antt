@@ -1,4 +1,4 @@
--- WHAT A READER MUST BELIEVE. How many words a row of each table has: its columns (Columns.antt), a name being two. Assumes nothing.
+-- How many words a row of each table has: its columns (Columns.antt), a name being two. Assumes nothing.
 use Prim.Native.Nat.{ℕ}
 
 abbrev pub segmentStride : ℕ

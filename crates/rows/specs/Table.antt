@@ -1,4 +1,4 @@
--- WHAT A READER MUST BELIEVE. What a whole table holds, given its rows. Assumes nothing.
+-- What a whole table holds, given its rows. Assumes nothing.
 use mathlib.Core.List.{List, [], _∷_, _++_}
 use Prim.Native.Nat.{ℕ, suc, _-_}
 use lib.ListN.{length, replicate}

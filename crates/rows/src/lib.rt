@@ -2,7 +2,8 @@
 // A store asks for nothing: where no such row lies wholly inside the slice, it changes nothing. The crate `read_rows` reads rows.
 // Rests on `units` (the kinds of number) and `terms`.
 //
-// Settled: every contract here reads `r ≡ f ..` or `now (t .exit) ≡ f ..`, so no second answer and no second memory satisfies it.
+// Settled: every contract here reads `r ≡ f ..` or `now (t .exit) ≡ f ..`, so no second answer and no second memory satisfies it. `name_of` settles the bytes of the
+// part that it returns; which stretch of the text these are, where they stand there twice, the logic does not say.
 use units::CheckpointNumber;
 use units::Feet;
 use units::Mph;

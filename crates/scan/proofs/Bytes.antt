@@ -1,14 +1,15 @@
 -- Laws of the byte classes: what every definition above needs to know of them, so that nothing else opens `separates`. Assumes nothing.
-use mathlib.Core.Path.{_≡_, refl, sym}
+use mathlib.Core.Path.{_≡_, refl, sym, ap}
 use mathlib.Core.List.{[], _∷_, _++_}
-use mathlib.Core.Bool.{Bool, true, false, not, _&&_, _||_}
+use mathlib.Core.Bool.{Bool, true, false, not, _&&_, _||_, and-assoc}
 use Prim.Native.Nat.{ℕ, _≤_}
 use native.Mathlib.Omega.{arith}
-use borrow.Author.Tests.{ne-eqb, le-leb, leb-true}
+use borrow.Author.Tests.{eqb-true, ne-eqb, le-leb, leb-true}
 use lib.Dec.{eqb, leb}
 use Rattle.terms.specs.Ascii.{Bytes}
 use Rattle.terms.proofs.Tests.{clash, both, and, or-right}
 use Rattle.scan.specs.Allowed.{within, separates, fieldByte, outside, inside, all}
+use Rattle.scan.specs.Reach.{plain}
 
 -- ## Classes
 pub within-is : (m n b : ℕ) → within m n b ≡ true → (m ≤ b) × (b ≤ n)
@@ -58,6 +59,14 @@ cr-not-inside = refl
 pub star-not-outside : outside 42 ≡ false
 unfolding separates
 star-not-outside = refl
+
+-- a plain byte, test by test
+pub plain-flat : (b : ℕ) → (separates b || (leb 33 b && leb b 126 && not (eqb b 92) && not (eqb b 42) && not (eqb b 47))) ≡ plain b
+plain-flat b = go (separates b) refl
+  where
+    go : (x : Bool) → separates b ≡ x → (x || (leb 33 b && leb b 126 && not (eqb b 92) && not (eqb b 42) && not (eqb b 47))) ≡ ((x || fieldByte b) && not (eqb b 47))
+    go true e = let q : b ≡ 9 = eqb-true b 9 (unfold separates in e) in rw q
+    go false e = ap (λ x. x && not (eqb b 47)) (and-assoc (leb 33 b && leb b 126) (not (eqb b 92)) (not (eqb b 42)))
 
 -- ## Every byte
 pub all-imp : (s t : ℕ → Bool) → ((b : ℕ) → s b ≡ true → t b ≡ true) → (l : Bytes) → all s l ≡ true → all t l ≡ true

@@ -2,3 +2,4 @@
 pub mod Reach
 pub mod Bytes
 pub mod Equal
+pub mod Eights

@@ -14,7 +14,7 @@ use Rattle.terms.specs.Ascii.{Bytes}
 use Rattle.terms.specs.Words.{pick}
 use Rattle.scan.specs.Allowed.{separates, outside, inside, digit, all}
 use Rattle.scan.specs.Reach.{upTo, reach, begins, fails, first, two, stopsBy}
-use Rattle.scan.specs.declared.Until.the-variants.{Byte, Two, NotSeparator, NotOutside, NotInside, NotDigit}
+use Rattle.scan.specs.declared.Until.the-variants.{Byte, Two, Separator, NotSeparator, NotOutside, NotInside, NotDigit}
 use Rattle.terms.proofs.Tests.{clash, both, and}
 
 -- what comes next, at a place of the whole
@@ -167,6 +167,23 @@ not-inside l = refl
 pub not-digit : (l : Bytes) → stopsBy NotDigit l ≡ fails digit l
 unfolding stopsBy
 not-digit l = refl
+
+-- ## What a test of the first byte says at a place of the whole
+pub first-at : (x : ℕ) (s : Bytes) (i : ℕ) → i < length s → stopsBy (Byte x) (drop i s) ≡ eqb (getD s i 0) x
+unfolding stopsBy first
+first-at x s i h = rw (drop-cons s i 0 h)
+
+pub separator-at : (s : Bytes) (i : ℕ) → i < length s → stopsBy Separator (drop i s) ≡ separates (getD s i 0)
+unfolding stopsBy begins
+separator-at s i h = rw (drop-cons s i 0 h)
+
+pub not-passing : (test : Bytes → Bool) (t : ℕ → Bool) → ((l : Bytes) → test l ≡ fails t l) → (s : Bytes) (i : ℕ) → i < length s → test (drop i s) ≡ not (t (getD s i 0))
+unfolding fails
+not-passing test t h s i l = h (drop i s) ∙ rw (drop-cons s i 0 l)
+
+pub two-here : (x y : ℕ) (l : Bytes) → stopsBy (Two x y) l ≡ two x y l
+unfolding stopsBy
+two-here x y l = refl
 
 -- ## One byte
 -- a byte that is found stands there

@@ -1,10 +1,6 @@
--- WHAT A READER MUST BELIEVE. Which bytes separate fields, which are allowed outside and inside comments, which are digits. Assumes nothing.
-use mathlib.Core.List.{[], _∷_}
-use mathlib.Core.Bool.{Bool, true, not, _&&_, _||_}
-use Prim.Native.Nat.{ℕ}
-use Prim.Native.Char.{code}
-use lib.Dec.{eqb, leb}
-use Rattle.terms.specs.Ascii.{Bytes}
+-- WHAT A READER MUST BELIEVE. Which bytes separate fields, which are allowed outside and inside comments. Assumes nothing.
+use Rattle.terms.specs.Words.{[], _∷_, Bool, true, not, _&&_, _||_, ℕ, code, eqb, leb, Bytes}
+pub use Rattle.scan.specs.Digit.{digit}
 
 -- the numbers from m to n
 abbrev pub within : ℕ → ℕ → ℕ → Bool
@@ -26,10 +22,6 @@ outside b = separates b || fieldByte b
 -- 01: "Inside, 32 to 126 and tab."
 abbrev pub inside : ℕ → Bool
 inside b = separates b || within 32 126 b
-
--- 0 to 9
-abbrev pub digit : ℕ → Bool
-digit b = within (code "0") (code "9") b
 
 -- every byte passes a test
 unfoldable pub all : (ℕ → Bool) → Bytes → Bool

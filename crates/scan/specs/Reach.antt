@@ -2,6 +2,7 @@
 use mathlib.Core.List.{[], _∷_}
 use mathlib.Core.Bool.{Bool, true, false, not, _&&_}
 use Prim.Native.Nat.{ℕ, suc, _+_}
+use Prim.Native.Char.{code}
 use lib.ListN.{drop}
 use lib.Dec.{eqb}
 use Rattle.terms.specs.Ascii.{Bytes}
@@ -46,6 +47,14 @@ stopsBy NotSeparator l = fails separates l
 stopsBy NotOutside l = fails outside l
 stopsBy NotInside l = fails inside l
 stopsBy NotDigit l = fails digit l
+
+-- any byte but x
+abbrev pub other : ℕ → ℕ → Bool
+other x b = not (eqb b x)
+
+-- a byte that is allowed outside comments and opens none
+abbrev pub plain : ℕ → Bool
+plain b = outside b && other (code "/") b
 
 -- byte for byte
 unfoldable pub sameBytes : Bytes → Bytes → Bool

@@ -1,4 +1,4 @@
--- WHAT A READER MUST BELIEVE. The file's own row, which is no lent table but part of the reply (Readings, 17): each name as a start and a length. Document 01, "Tables". Assumes nothing.
+-- The file's own row, which is no lent table but part of the reply (Readings, 17): each name as a start and a length. Document 01, "Tables". Assumes nothing.
 use mathlib.Core.Option.{Option, none, some}
 use Prim.Native.Nat.{ℕ}
 use lib.ListN.{length}

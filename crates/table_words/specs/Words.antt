@@ -1,4 +1,4 @@
--- WHAT A READER MUST BELIEVE. The words of every lent table, given the tables of a network or of a mission. Document 01, "Tables". Assumes nothing.
+-- The words of every lent table, given the tables of a network or of a mission. Document 01, "Tables". Assumes nothing.
 use mathlib.Core.List.{List, [], _∷_}
 use mathlib.Core.Option.{Option, none, some}
 use Prim.Native.Nat.{ℕ, _≤_}
@@ -13,6 +13,7 @@ use Rattle.fill.specs.Counts.{Counts, MissionCounts}
 use Rattle.rows.specs.Lay.{rowsOf}
 use Rattle.rows.specs.Strides.{segmentStride, laneStride, zoneStride, spotStride, pointStride, checkpointStride, stopStride, exitStride, goalStride, limitStride}
 use Rattle.rows.specs.Table.{tableOf}
+pub use Rattle.law.specs.Tables.{Lent, MissionLent}
 
 -- ## The words of a row without a name
 -- 01: "Lane: first point, points, width, left and right"
@@ -46,22 +47,6 @@ goal-words number = number ∷ []
 -- 01: "Limit: id, minimum, maximum."
 abbrev pub limit-words : Limit → List ℕ
 limit-words r = r .id ∷ r .minimum ∷ r .maximum ∷ []
-
--- ## What is lent
--- Readings, 16: "A lent table is a slice of numbers". The tables that are lent for an RNDF, and those for an MDF
-pub record Lent : Type 0 where
-  pub segments : List ℕ
-  pub lanes : List ℕ
-  pub zones : List ℕ
-  pub spots : List ℕ
-  pub points : List ℤ
-  pub checkpoints : List ℕ
-  pub stops : List ℕ
-  pub exits : List ℕ
-
-pub record MissionLent : Type 0 where
-  pub goals : List ℕ
-  pub limits : List ℕ
 
 -- 01: "All lent tables .. are then zero over their whole length"
 abbrev pub zeros : Lent → Lent

@@ -1,4 +1,4 @@
--- WHAT A READER MUST BELIEVE. What is wrong with a line at a place: one definition for each number 2 to 9, none of which holds where a lower one does. Document 01, "Refusal numbers". Assumes nothing.
+-- What is wrong with a line at a place: one definition for each number 2 to 9, none of which holds where a lower one does. Document 01, "Refusal numbers". Assumes nothing.
 use mathlib.Core.Path.{_≡_}
 use mathlib.Core.List.{List, _∷_}
 use mathlib.Core.Option.{Option, none, some}

@@ -1,4 +1,4 @@
--- WHAT A READER MUST BELIEVE. The house writing of a line. Document 01, "House writing": "one tab between fields". Assumes nothing.
+-- The house writing of a line. Document 01, "House writing": "one tab between fields". Assumes nothing.
 use mathlib.Core.List.{List, [], _∷_, _++_, map}
 use Rattle.terms.specs.Ascii.{Bytes, ascii}
 use Rattle.number.specs.House.{houseInteger, housePair, houseTriple}

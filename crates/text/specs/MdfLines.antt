@@ -1,4 +1,4 @@
--- WHAT A READER MUST BELIEVE. The fields of every statement of an MDF, from the first on. Document 01, "The order of an MDF". Assumes nothing.
+-- The fields of every statement of an MDF, from the first on. Document 01, "The order of an MDF". Assumes nothing.
 use mathlib.Core.List.{List, [], _∷_}
 use Rattle.line.specs.Content.{Field}
 use Rattle.grammar.specs.MissionStatements.{Kind, Says, MDF-name, RNDF, format-version, creation-date, checkpoints, num-checkpoints, end-checkpoints, speed-limits, num-speed-limits, end-speed-limits, end-file, goal, limit}

@@ -1,4 +1,4 @@
--- WHAT A READER MUST BELIEVE. What it means that lines begin a well-formed file, and that none begins with them and one more. Document 01, "Refusal numbers". Assumes nothing.
+-- What it means that lines begin a well-formed file, and that none begins with them and one more. Document 01, "Refusal numbers". Assumes nothing.
 use mathlib.Core.List.{List, _∷_, _++_}
 use Rattle.terms.specs.Ascii.{Bytes}
 use Rattle.line.specs.Text.{Cut}

@@ -1,4 +1,4 @@
--- WHAT A READER MUST BELIEVE. The fields of every statement of an RNDF, from the first on. Document 01, "The order of an RNDF". Assumes nothing.
+-- The fields of every statement of an RNDF, from the first on. Document 01, "The order of an RNDF". Assumes nothing.
 use mathlib.Core.List.{List, [], _∷_}
 use Rattle.line.specs.Content.{Field}
 use Rattle.grammar.specs.Statements.{Kind, Says, Statement, RNDF-name, num-segments, num-zones, format-version, creation-date, segment, num-lanes, segment-name, end-segment, lane, num-waypoints, lane-width, left-boundary, right-boundary, checkpoint, stop, exit, end-lane, zone, num-spots, zone-name, end-zone, perimeter, num-perimeterpoints, end-perimeter, spot, spot-width, end-spot, end-file, point}

@@ -1,4 +1,4 @@
--- WHAT A READER MUST BELIEVE. What a field can say, and how it is spelled. Document 01, "Lines, comments, fields". Assumes nothing.
+-- What a field can say, and how it is spelled. Document 01, "Lines, comments, fields". Assumes nothing.
 use mathlib.Core.Path.{_≡_}
 use mathlib.Core.List.{List, [], _∷_}
 use Prim.Native.Nat.{ℕ}

@@ -1,4 +1,4 @@
--- WHAT A READER MUST BELIEVE. What a text spells: its lines, each blank or one statement; these statements spell the network or mission. Assumes nothing.
+-- What a text spells: its lines, each blank or one statement; these statements spell the network or mission. Assumes nothing.
 use mathlib.Core.Path.{_≡_}
 use mathlib.Core.List.{List, [], _∷_}
 use mathlib.Core.Option.{Option, none, some}

@@ -3,7 +3,7 @@ use mathlib.Core.Path.{_≡_, refl, sym, ap, _∙_}
 use mathlib.Core.Logic.{_⊎_, inl, inr}
 use mathlib.Core.List.{List, []}
 use mathlib.Core.Bool.{true, false, _&&_}
-use Prim.Native.Nat.{ℕ, _<_}
+use Prim.Native.Nat.{ℕ, _≤_, _<_}
 use native.Mathlib.Omega.{arith}
 use native.Mathlib.Nat.{eq-or-lt-of-le}
 use borrow.Author.Tests.{ltb-true, leb-true}
@@ -13,11 +13,13 @@ use Rattle.terms.specs.Ascii.{Bytes, ascii}
 use Rattle.terms.specs.Words.{Between}
 use Rattle.terms.proofs.Tests.{clash, both}
 use Rattle.terms.proofs.Computed.{allBelow, below}
+use Rattle.scan.specs.Allowed.{all}
 use Rattle.scan.specs.Reach.{sameBytes}
 use Rattle.scan.proofs.Equal.{same-equal, equal-same}
 use Rattle.word.specs.Keywords.{rndf-keywords, mdf-keywords, boundary-words}
 use Rattle.word.specs.Number.{indexOf, fromOne}
-use Rattle.word.specs.Table.{words, wordAt, facts, OnlyRow}
+use Rattle.word.specs.Table.{words, wordAt, knownOf, sameKnown, OnlyRow}
+use Rattle.word.proofs.Packed.{Small, small-all, same-known}
 use Rattle.word.proofs.Index.{index-most, index-word, allDiffer, own-place}
 
 pub words-length : length words ≡ 41
@@ -51,8 +53,22 @@ pub found-size : (s : Bytes) → indexOf s words < 41 → Between 4 20 (length s
 found-size s h = rw (ap length (row-word s h)) (row-size (indexOf s words) h)
 
 -- a field of another size than any word's is in no row
-pub size-row : (s : Bytes) → (Between 4 20 (length s) → ⊥) → OnlyRow s 0
-size-row s n = record { in-table = lit< tt; only = λ h. absurd (n (found-size s h)) }
+pub size-nowhere : (s : Bytes) → (Between 4 20 (length s) → ⊥) → 41 ≡ indexOf s words
+size-nowhere s n = go (eq-or-lt-of-le (index-most s words))
+  where
+    go : (indexOf s words ≡ length words) ⊎ (indexOf s words < length words) → 41 ≡ indexOf s words
+    go (inl q) = omega (arith, words-length)
+    go (inr q) = absurd (n (found-size s (omega (arith, words-length))))
+
+-- every letter is a byte
+pub row-small : (k : ℕ) → k < 41 → Small (wordAt k)
+unfolding words rndf-keywords mdf-keywords boundary-words ascii all
+row-small k h = small-all (wordAt k) (below (λ k. all (λ b. ltb b 256) (wordAt k)) 41 refl k h)
+
+-- size and letters decide whether a field is a row's word
+pub same-row : (s : Bytes) (k : ℕ) → Small s → length s ≤ 20 → k < 41 → sameKnown s (knownOf k) ≡ sameBytes s (wordAt k)
+unfolding knownOf
+same-row s k p l h = same-known s (wordAt k) p (row-small k h) l
 
 -- with the only row at hand, one comparison decides
 module _ (s : Bytes) (k : ℕ) (o : OnlyRow s k) where
@@ -102,15 +118,15 @@ module _ (ws : List Bytes) (in-table : allBelow (λ j. ltb (indexOf (getD ws j [
 
 -- what is known of the row that the field is in is so of the field, in each of the three lists
 module _ (s : Bytes) where
-  pub rndf-number : getD (facts (indexOf s words)) 1 0 ≡ indexOf s rndf-keywords
+  pub rndf-number : indexOf (wordAt (indexOf s words)) rndf-keywords ≡ indexOf s rndf-keywords
   unfolding words rndf-keywords mdf-keywords boundary-words ascii indexOf sameBytes
   rndf-number = number-by-row rndf-keywords refl refl s
 
-  pub mdf-number : getD (facts (indexOf s words)) 2 0 ≡ indexOf s mdf-keywords
+  pub mdf-number : indexOf (wordAt (indexOf s words)) mdf-keywords ≡ indexOf s mdf-keywords
   unfolding words rndf-keywords mdf-keywords boundary-words ascii indexOf sameBytes
   mdf-number = number-by-row mdf-keywords refl refl s
 
-  pub boundary-number-at : getD (facts (indexOf s words)) 3 0 ≡ fromOne (indexOf s boundary-words)
+  pub boundary-number-at : fromOne (indexOf (wordAt (indexOf s words)) boundary-words) ≡ fromOne (indexOf s boundary-words)
   unfolding words rndf-keywords mdf-keywords boundary-words ascii indexOf sameBytes
   boundary-number-at = ap fromOne (number-by-row boundary-words refl refl s)
 

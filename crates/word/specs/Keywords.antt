@@ -1,4 +1,4 @@
--- WHAT A READER MUST BELIEVE. The keywords of an RNDF, those of an MDF, the boundary words with their numbers, and when a field begins
+-- The keywords of an RNDF, those of an MDF, the boundary words with their numbers, and when a field begins
 -- with a digit. Assumes nothing.
 use mathlib.Core.Path.{_≡_}
 use mathlib.Core.List.{List, [], _∷_}

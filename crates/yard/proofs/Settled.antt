@@ -2,9 +2,9 @@
 -- for all texts and all lent tables; and some answer and memory satisfy it. Assumes nothing.
 use mathlib.Core.Path.{_≡_, refl, sym, ap, _∙_}
 use Rattle.terms.specs.Ascii.{Bytes}
-use Rattle.table_words.specs.Words.{Lent, MissionLent}
+use Rattle.law.specs.Tables.{Lent, MissionLent}
 use Rattle.reader.proofs.Settled.{rndf-settled, rndf-some}
-use Rattle.reader.proofs.PairSettled.{pair-settled, pair-some}
+use Rattle.reader.proofs.Settled.{pair-settled, pair-some}
 use Rattle.yard.specs.declared.Answer.{Answer}
 use Rattle.yard.specs.Answers.{rndf-answer, pair-answer, AnswersRndf, AnswersPair}
 

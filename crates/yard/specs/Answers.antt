@@ -2,7 +2,7 @@
 use mathlib.Core.Path.{_≡_}
 use Prim.Native.Nat.{ℕ}
 use Rattle.terms.specs.Ascii.{Bytes}
-use Rattle.table_words.specs.Words.{Lent, MissionLent}
+use Rattle.law.specs.Tables.{Lent, MissionLent}
 use Rattle.rows.specs.Read.{stretchOf}
 use Rattle.rows.specs.declared.Stretch.{Stretch}
 use Rattle.rows.specs.declared.FileRow.{FileRow}

@@ -19,8 +19,7 @@ use rows::FileRow;
 use rows::MissionFileRow;
 use rows::Stretch;
 ghost use mathlib.Core.Path.{_≡_};
-ghost use Rattle.network_reader.specs.Reading.{lent};
-ghost use Rattle.reader.specs.Replies.{mission-lent};
+ghost use Rattle.law.specs.Tables.{lent, mission-lent};
 ghost use Rattle.look_up.specs.LookUp.{PointOf};
 ghost use Rattle.yard.specs.Answers.{named, laid-out, taken, refused, rndf-answer, pair-answer, AnswersRndf, AnswersPair};
 

@@ -24,7 +24,7 @@ use Rattle.find_line.proofs.mdf_line.Reads as reads
 use Rattle.mission_judge.proofs.mission_judge_line.Reads as mission-judge-line-reads
 use Rattle.mission_place.proofs.MissionPlace.is_over.Reads as is-over-reads
 use Rattle.mission_place.proofs.MissionPlace.start.Reads as start-reads
-use Rattle.scan.proofs.scan.Reads as scan-reads
+use Rattle.scan.proofs.far_byte_from.Reads as far-byte-from-reads
 use Rattle.statement.proofs.Order.kind.Reads as kind-reads
 use Rattle.walk.proofs.Seen.more.Reads as more-reads
 use Rattle.walk.proofs.Seen.none.Reads as none-reads
@@ -49,8 +49,8 @@ unfolding mdfLineOf
 loop-holds c = (omega arith, omega arith, rw (c .none .ensures) (omega arith), rw (c .none .ensures, c .before .start .ensures) refl)
 
 -- src/lib.rt:30:13
-scan-requires : tie.Need-scan-requires Inv-loop μ-loop
-scan-requires c κs = search needs
+far-byte-from-requires : tie.Need-far-byte-from-requires Inv-loop μ-loop
+far-byte-from-requires c κs = search needs
 
 -- src/lib.rt:31:28
 sub-mission-judge-line : tie.Need-sub-mission-judge-line Inv-loop μ-loop
@@ -62,11 +62,11 @@ part-mission-judge-line-start c = search needs
 
 -- src/lib.rt:31:28
 part-mission-judge-line-end : tie.Need-part-mission-judge-line-end Inv-loop μ-loop
-part-mission-judge-line-end c = let s = c .before .before .before .before .before .before .args .text .now in let l = c .before .before .loop .from in omega (arith, c .scan .ensures, reach-le (stopsBy (Byte 10)) s l (omega arith))
+part-mission-judge-line-end c = let s = c .before .before .before .before .before .before .args .text .now in let l = c .before .before .loop .from in omega (arith, c .far-byte-from .ensures, reach-le (stopsBy (Byte 10)) s l (omega arith))
 
 -- src/lib.rt:31:13
 mission-judge-line-requires : tie.Need-mission-judge-line-requires Inv-loop μ-loop
-mission-judge-line-requires c κs = let s = c .before .before .before .before .before .before .before .args .text .now in let l = c .before .before .before .loop .from in let e = c .before .scan .result in let h : e ≤ length s = omega (arith, c .before .scan .ensures, reach-le (stopsBy (Byte 10)) s l (omega arith)) in let p = c .before .before .before .before .before .before .before .pre in omega (arith, length-take-le (e - l) (drop l s) (omega (arith, length-drop l s)))
+mission-judge-line-requires c κs = let s = c .before .before .before .before .before .before .before .args .text .now in let l = c .before .before .before .loop .from in let e = c .before .far-byte-from .result in let h : e ≤ length s = omega (arith, c .before .far-byte-from .ensures, reach-le (stopsBy (Byte 10)) s l (omega arith)) in let p = c .before .before .before .before .before .before .before .pre in omega (arith, length-take-le (e - l) (drop l s) (omega (arith, length-drop l s)))
 
 enum-told : tie.Need-enum-told Inv-loop μ-loop
 enum-told c = search needs
@@ -89,11 +89,11 @@ enum-told-2 c = search needs
 
 -- src/lib.rt:39:17
 returns : tie.Need-returns Inv-loop μ-loop
-returns c = let A = c .before .before .before .before .before .before .before .before .before .before .args in let s = A .text .now in let l = c .before .before .before .before .before .before .loop in sym (ap line-seen (rw (c .enum-told2 .given .1) at (a-line (see orderOf (A .kind) (A .row)) s (l .from) (c .before .before .before .before .scan .result) (omega arith) (c .before .before .before .before .scan .ensures) (l .place) (l .seen) (l .line) (c .before .before .mission-judge-line .result) (c .before .before .mission-judge-line .ensures)))) ∙ l .inv .3
+returns c = let A = c .before .before .before .before .before .before .before .before .before .before .args in let s = A .text .now in let l = c .before .before .before .before .before .before .loop in sym (ap line-seen (rw (c .enum-told2 .given .1) at (a-line (see orderOf (A .kind) (A .row)) s (l .from) (c .before .before .before .before .far-byte-from .result) (omega arith) (c .before .before .before .before .far-byte-from .ensures) (l .place) (l .seen) (l .line) (c .before .before .mission-judge-line .result) (c .before .before .mission-judge-line .ensures)))) ∙ l .inv .3
 
 -- src/lib.rt:42:16
 add-from : tie.Need-add-from Inv-loop μ-loop
-add-from c = let s = c .before .before .before .before .before .before .before .before .before .args .text .now in let l = c .before .before .before .before .before .loop .from in let p = c .before .before .before .before .before .before .before .before .before .pre in omega (arith, c .before .before .before .scan .ensures, reach-le (stopsBy (Byte 10)) s l (omega arith))
+add-from c = let s = c .before .before .before .before .before .before .before .before .before .args .text .now in let l = c .before .before .before .before .before .loop .from in let p = c .before .before .before .before .before .before .before .before .before .pre in omega (arith, c .before .before .before .far-byte-from .ensures, reach-le (stopsBy (Byte 10)) s l (omega arith))
 
 -- src/lib.rt:43:9
 add-line : tie.Need-add-line Inv-loop μ-loop
@@ -105,7 +105,7 @@ loop-less c = search needs
 
 -- src/lib.rt:29:5
 loop-again : tie.Need-loop-again Inv-loop μ-loop
-loop-again c = let A = c .before .before .before .before .before .before .before .before .before .args in let s = A .text .now in let l = c .before .before .before .before .before .loop in let k = reach-le (stopsBy (Byte 10)) s (l .from) (omega arith) in let e = c .before .before .before .scan .ensures in let o = a-line (see orderOf (A .kind) (A .row)) s (l .from) (c .before .before .before .scan .result) (omega arith) (c .before .before .before .scan .ensures) (l .place) (l .seen) (l .line) (c .before .mission-judge-line .result) (c .before .mission-judge-line .ensures) in ⊎-elim (λ w. (omega arith, omega arith, rw (w .3) (omega (arith, l .inv .2)), rw (w .2, w .3) (sym (ap line-seen (rw (w .1 .given .1) at o)) ∙ l .inv .3))) (λ w. (omega arith, omega arith, grows _ _ _ _ _ (l .line) (w .6 ∙ w .4 .ensures) (l .inv .2), rw (w .5, w .6, w .4 .ensures, w .3 .ensures .0) (sym (ap line-seen (rw (w .1 .given .1) at o)) ∙ l .inv .3))) (c .match .came)
+loop-again c = let A = c .before .before .before .before .before .before .before .before .before .args in let s = A .text .now in let l = c .before .before .before .before .before .loop in let k = reach-le (stopsBy (Byte 10)) s (l .from) (omega arith) in let e = c .before .before .before .far-byte-from .ensures in let o = a-line (see orderOf (A .kind) (A .row)) s (l .from) (c .before .before .before .far-byte-from .result) (omega arith) (c .before .before .before .far-byte-from .ensures) (l .place) (l .seen) (l .line) (c .before .mission-judge-line .result) (c .before .mission-judge-line .ensures) in ⊎-elim (λ w. (omega arith, omega arith, rw (w .3) (omega (arith, l .inv .2)), rw (w .2, w .3) (sym (ap line-seen (rw (w .1 .given .1) at o)) ∙ l .inv .3))) (λ w. (omega arith, omega arith, grows _ _ _ _ _ (l .line) (w .6 ∙ w .4 .ensures) (l .inv .2), rw (w .5, w .6, w .4 .ensures, w .3 .ensures .0) (sym (ap line-seen (rw (w .1 .given .1) at o)) ∙ l .inv .3))) (c .match .came)
 
 -- src/lib.rt:45:8
 is-over-requires : tie.Need-is-over-requires Inv-loop μ-loop
@@ -128,7 +128,7 @@ mdf-line-spec =
     start-requires
     none-requires
     loop-holds
-    scan-requires
+    far-byte-from-requires
     sub-mission-judge-line
     part-mission-judge-line-start
     part-mission-judge-line-end

@@ -12,8 +12,8 @@ use borrow.Author.Needs.{needs}
 use Rattle.line.proofs.closed.Statement.{statement}
 use Rattle.line.proofs.closed.Tie as tie
 
-scan-requires : tie.Need-scan-requires
-scan-requires c κs = tt
+two-from-requires : tie.Need-two-from-requires
+two-from-requires c κs = tt
 
 add-k : tie.Need-add-k
 add-k c = search needs
@@ -21,13 +21,13 @@ add-k c = search needs
 sub-all-separators : tie.Need-sub-all-separators
 sub-all-separators c =
     let s = c .before .before .before .args .s .now in
-    let q = c .before .scan .ensures ∙ from-start shuts s in
+    let q = c .before .two-from .ensures ∙ from-start shuts s in
     omega (arith, q, two-fit 42 47 s (rw q at (c .if1 .taken)))
 
 part-all-separators-start : tie.Need-part-all-separators-start
 part-all-separators-start c =
     let s = c .before .before .before .args .s .now in
-    let q = c .before .scan .ensures ∙ from-start shuts s in
+    let q = c .before .two-from .ensures ∙ from-start shuts s in
     omega (arith, q, two-fit 42 47 s (rw q at (c .if1 .taken)))
 
 part-all-separators-end : tie.Need-part-all-separators-end
@@ -39,21 +39,21 @@ all-separators-requires c κs = tt
 returns : tie.Need-returns
 returns c =
     let s = c .before .before .before .before .before .args .s .now in
-    let q = c .before .before .before .scan .ensures ∙ from-start shuts s in
-    let k = c .before .before .before .scan .result + 2 in
+    let q = c .before .before .before .two-from .ensures ∙ from-start shuts s in
+    let k = c .before .before .before .two-from .result + 2 in
     c .all-separators .ensures ∙ ap (all separates) (take-all (length s - k) (drop k s) (omega (arith, length-drop k s))) ∙ rw q (sym (closes-some s (rw q at (c .before .before .if1 .taken))))
 
 returns-2 : tie.Need-returns-2
 returns-2 c =
     let s = c .before .before .before .args .s .now in
-    let q = c .before .scan .ensures ∙ from-start shuts s in
+    let q = c .before .two-from .ensures ∙ from-start shuts s in
     sym (closes-none s (rw q at (c .if1 .left)))
 
 pub closed-spec : {M : Type 1} → statement M
 closed-spec =
     tie.close
     (tie.spec
-    scan-requires
+    two-from-requires
     add-k
     sub-all-separators
     part-all-separators-start

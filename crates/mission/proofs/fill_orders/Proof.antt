@@ -43,8 +43,8 @@ loop-holds : tie.Need-loop-holds Inv-loop μ-loop
 unfolding filledOf
 loop-holds c = (omega arith, omega arith, rw (c .none .ensures) (omega arith), rw (c .none .ensures, c .before .start .ensures) refl, refl, refl)
 
-scan-requires : tie.Need-scan-requires Inv-loop μ-loop
-scan-requires c κs = search needs
+far-byte-from-requires : tie.Need-far-byte-from-requires Inv-loop μ-loop
+far-byte-from-requires c κs = search needs
 
 sub-mission-judge-line : tie.Need-sub-mission-judge-line Inv-loop μ-loop
 sub-mission-judge-line c = search needs
@@ -56,14 +56,14 @@ part-mission-judge-line-end : tie.Need-part-mission-judge-line-end Inv-loop μ-l
 part-mission-judge-line-end c =
     let s = c .before .before .before .before .before .before .before .before .args .text .now in
     let l = c .before .before .loop .from in
-    omega (arith, c .scan .ensures, reach-le (stopsBy (Byte 10)) s l (omega arith))
+    omega (arith, c .far-byte-from .ensures, reach-le (stopsBy (Byte 10)) s l (omega arith))
 
 mission-judge-line-requires : tie.Need-mission-judge-line-requires Inv-loop μ-loop
 mission-judge-line-requires c κs =
     let s = c .before .before .before .before .before .before .before .before .before .args .text .now in
     let l = c .before .before .before .loop .from in
-    let e = c .before .scan .result in
-    let h : e ≤ length s = omega (arith, c .before .scan .ensures, reach-le (stopsBy (Byte 10)) s l (omega arith)) in
+    let e = c .before .far-byte-from .result in
+    let h : e ≤ length s = omega (arith, c .before .far-byte-from .ensures, reach-le (stopsBy (Byte 10)) s l (omega arith)) in
     let p = c .before .before .before .before .before .before .before .before .before .pre in
     omega (arith, length-take-le (e - l) (drop l s) (omega (arith, length-drop l s)))
 
@@ -95,7 +95,7 @@ returns : tie.Need-returns Inv-loop μ-loop
 returns c =
     let l = c .before .before .before .before .before .before .before .loop in
     let s = c .before .before .before .before .before .before .before .before .before .before .before .before .before .args .text .now in
-    let scanned = c .before .before .before .before .before .scan in
+    let scanned = c .before .before .before .before .before .far-byte-from in
     let judged = c .before .before .before .mission-judge-line in
     let o = a-line put s (l .from) (scanned .result) (omega arith) (scanned .ensures) (l .place) (memory (l .gained) (l .goals) (l .limits)) (l .line) (judged .result) (judged .ensures) in
     sym (rw (c .before .v2 .given .1) at o) ∙ l .inv .3
@@ -105,7 +105,7 @@ add-from c =
     let s = c .before .before .before .before .before .before .before .before .before .before .before .args .text .now in
     let l = c .before .before .before .before .before .loop .from in
     let p = c .before .before .before .before .before .before .before .before .before .before .before .pre in
-    omega (arith, c .before .before .before .scan .ensures, reach-le (stopsBy (Byte 10)) s l (omega arith))
+    omega (arith, c .before .before .before .far-byte-from .ensures, reach-le (stopsBy (Byte 10)) s l (omega arith))
 
 add-line : tie.Need-add-line Inv-loop μ-loop
 add-line c = search needs
@@ -117,7 +117,7 @@ loop-again : tie.Need-loop-again Inv-loop μ-loop
 loop-again c =
     let l = c .before .before .before .before .before .loop in
     let s = c .before .before .before .before .before .before .before .before .before .before .before .args .text .now in
-    let scanned = c .before .before .before .scan in
+    let scanned = c .before .before .before .far-byte-from in
     let e = scanned .ensures in
     let k = reach-le (stopsBy (Byte 10)) s (l .from) (omega arith) in
     let judged = c .before .mission-judge-line in
@@ -172,7 +172,7 @@ fill-orders-spec =
     start-requires
     none-requires
     loop-holds
-    scan-requires
+    far-byte-from-requires
     sub-mission-judge-line
     part-mission-judge-line-start
     part-mission-judge-line-end

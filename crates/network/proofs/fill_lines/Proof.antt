@@ -29,7 +29,7 @@ use Rattle.place.proofs.Place.start.Reads as start-reads
 use Rattle.progress.proofs.Progress.after.Reads as after-reads
 use Rattle.progress.proofs.Progress.none.Reads as none-reads
 use Rattle.progress.proofs.Progress.row.Reads as row-reads
-use Rattle.scan.proofs.scan.Reads as scan-reads
+use Rattle.scan.proofs.far_byte_from.Reads as far-byte-from-reads
 
 abbrev Inv-loop : tie.InvT-loop
 Inv-loop text segments₀ lanes₀ zones₀ spots₀ points₀ checkpoints₀ stops₀ exits₀ place₀ gained₀ from₀ line₀ segments lanes zones spots points checkpoints stops exits place gained from line =
@@ -53,8 +53,8 @@ unfolding filledOf
 loop-holds c = (omega arith, omega arith, rw (c .none .ensures) (omega arith), refl, rw (c .none .ensures, c .before .start .ensures) refl)
 
 -- src/lib.rt:75:13
-scan-requires : tie.Need-scan-requires Inv-loop μ-loop
-scan-requires c κs = search needs
+far-byte-from-requires : tie.Need-far-byte-from-requires Inv-loop μ-loop
+far-byte-from-requires c κs = search needs
 
 -- src/lib.rt:76:28
 sub-judge-line : tie.Need-sub-judge-line Inv-loop μ-loop
@@ -66,11 +66,11 @@ part-judge-line-start c = search needs
 
 -- src/lib.rt:76:28
 part-judge-line-end : tie.Need-part-judge-line-end Inv-loop μ-loop
-part-judge-line-end c = let A = c .before .before .before .before .before .before .before .before .before .before .before .before .before .args in let s = A .text .now in let l = c .before .before .loop in let pre = c .before .before .before .before .before .before .before .before .before .before .before .before .before .pre in omega (arith, c .scan .ensures, reach-le (stopsBy (Byte 10)) s (l .from) (omega arith))
+part-judge-line-end c = let A = c .before .before .before .before .before .before .before .before .before .before .before .before .before .args in let s = A .text .now in let l = c .before .before .loop in let pre = c .before .before .before .before .before .before .before .before .before .before .before .before .before .pre in omega (arith, c .far-byte-from .ensures, reach-le (stopsBy (Byte 10)) s (l .from) (omega arith))
 
 -- src/lib.rt:76:13
 judge-line-requires : tie.Need-judge-line-requires Inv-loop μ-loop
-judge-line-requires c κs = let A = c .before .before .before .before .before .before .before .before .before .before .before .before .before .before .args in let s = A .text .now in let l = c .before .before .before .loop in let pre = c .before .before .before .before .before .before .before .before .before .before .before .before .before .before .pre in let e = c .before .scan .result in let h : e ≤ length s = omega (arith, c .before .scan .ensures, reach-le (stopsBy (Byte 10)) s (l .from) (omega arith)) in omega (arith, length-take-le (e - l .from) (drop (l .from) s) (omega (arith, length-drop (l .from) s)))
+judge-line-requires c κs = let A = c .before .before .before .before .before .before .before .before .before .before .before .before .before .before .args in let s = A .text .now in let l = c .before .before .before .loop in let pre = c .before .before .before .before .before .before .before .before .before .before .before .before .before .before .pre in let e = c .before .far-byte-from .result in let h : e ≤ length s = omega (arith, c .before .far-byte-from .ensures, reach-le (stopsBy (Byte 10)) s (l .from) (omega arith)) in omega (arith, length-take-le (e - l .from) (drop (l .from) s) (omega (arith, length-drop (l .from) s)))
 
 enum-told : tie.Need-enum-told Inv-loop μ-loop
 enum-told c = search needs
@@ -133,11 +133,11 @@ same-length-8 c = ap (λ (x : Lengths). x .exits) (c .before .before .before .be
 
 -- src/lib.rt:85:17
 returns : tie.Need-returns Inv-loop μ-loop
-returns c = let A = c .before .before .before .before .before .before .before .before .before .before .before .before .before .before .before .before .before .before .args in let s = A .text .now in let l = c .before .before .before .before .before .before .before .loop in let pre = c .before .before .before .before .before .before .before .before .before .before .before .before .before .before .before .before .before .before .pre in sym (rw (c .before .v2 .given .1) at (a-line put s (l .from) (c .before .before .before .before .before .scan .result) (omega arith) (c .before .before .before .before .before .scan .ensures) (l .place) (memory (l .gained) (l .segments) (l .lanes) (l .zones) (l .spots) (l .points) (l .checkpoints) (l .stops) (l .exits)) (l .line) (c .before .before .before .judge-line .result) (c .before .before .before .judge-line .ensures))) ∙ l .inv .4
+returns c = let A = c .before .before .before .before .before .before .before .before .before .before .before .before .before .before .before .before .before .before .args in let s = A .text .now in let l = c .before .before .before .before .before .before .before .loop in let pre = c .before .before .before .before .before .before .before .before .before .before .before .before .before .before .before .before .before .before .pre in sym (rw (c .before .v2 .given .1) at (a-line put s (l .from) (c .before .before .before .before .before .far-byte-from .result) (omega arith) (c .before .before .before .before .before .far-byte-from .ensures) (l .place) (memory (l .gained) (l .segments) (l .lanes) (l .zones) (l .spots) (l .points) (l .checkpoints) (l .stops) (l .exits)) (l .line) (c .before .before .before .judge-line .result) (c .before .before .before .judge-line .ensures))) ∙ l .inv .4
 
 -- src/lib.rt:88:16
 add-from : tie.Need-add-from Inv-loop μ-loop
-add-from c = let A = c .before .before .before .before .before .before .before .before .before .before .before .before .before .before .before .before .args in let s = A .text .now in let l = c .before .before .before .before .before .loop in let pre = c .before .before .before .before .before .before .before .before .before .before .before .before .before .before .before .before .pre in omega (arith, c .before .before .before .scan .ensures, reach-le (stopsBy (Byte 10)) s (l .from) (omega arith))
+add-from c = let A = c .before .before .before .before .before .before .before .before .before .before .before .before .before .before .before .before .args in let s = A .text .now in let l = c .before .before .before .before .before .loop in let pre = c .before .before .before .before .before .before .before .before .before .before .before .before .before .before .before .before .pre in omega (arith, c .before .before .before .far-byte-from .ensures, reach-le (stopsBy (Byte 10)) s (l .from) (omega arith))
 
 -- src/lib.rt:89:9
 add-line : tie.Need-add-line Inv-loop μ-loop
@@ -149,20 +149,20 @@ loop-less c = search needs
 
 -- src/lib.rt:74:5
 loop-again : tie.Need-loop-again Inv-loop μ-loop
-loop-again c = let A = c .before .before .before .before .before .before .before .before .before .before .before .before .before .before .before .before .args in let s = A .text .now in let l = c .before .before .before .before .before .loop in let pre = c .before .before .before .before .before .before .before .before .before .before .before .before .before .before .before .before .pre in let k = reach-le (stopsBy (Byte 10)) s (l .from) (omega arith) in let e = c .before .before .before .scan .ensures in let o = a-line put s (l .from) (c .before .before .before .scan .result) (omega arith) (c .before .before .before .scan .ensures) (l .place) (memory (l .gained) (l .segments) (l .lanes) (l .zones) (l .spots) (l .points) (l .checkpoints) (l .stops) (l .exits)) (l .line) (c .before .judge-line .result) (c .before .judge-line .ensures) in ⊎-elim
+loop-again c = let A = c .before .before .before .before .before .before .before .before .before .before .before .before .before .before .before .before .args in let s = A .text .now in let l = c .before .before .before .before .before .loop in let pre = c .before .before .before .before .before .before .before .before .before .before .before .before .before .before .before .before .pre in let k = reach-le (stopsBy (Byte 10)) s (l .from) (omega arith) in let e = c .before .before .before .far-byte-from .ensures in let o = a-line put s (l .from) (c .before .before .before .far-byte-from .result) (omega arith) (c .before .before .before .far-byte-from .ensures) (l .place) (memory (l .gained) (l .segments) (l .lanes) (l .zones) (l .spots) (l .points) (l .checkpoints) (l .stops) (l .exits)) (l .line) (c .before .judge-line .result) (c .before .judge-line .ensures) in ⊎-elim
     (λ w. let same : (memory (c .match .gained) (c .match .segments) (c .match .lanes) (c .match .zones) (c .match .spots) (c .match .points) (c .match .checkpoints) (c .match .stops) (c .match .exits)) ≡ (memory (l .gained) (l .segments) (l .lanes) (l .zones) (l .spots) (l .points) (l .checkpoints) (l .stops) (l .exits)) = λ i. memory (w .11 i) (w .2 i) (w .3 i) (w .4 i) (w .5 i) (w .6 i) (w .7 i) (w .8 i) (w .9 i) in (
       omega arith,
       omega arith,
       rw (w .11) (omega (arith, l .inv .2)),
       ap lengths same ∙ l .inv .3,
-      ap₂ (λ (q : Place) (m : Memory). rest put s q m (c .before .before .before .scan .result + 1) (l .line + 1)) (w .10) same ∙ sym (rw (w .1 .given .1) at o) ∙ l .inv .4,
+      ap₂ (λ (q : Place) (m : Memory). rest put s q m (c .before .before .before .far-byte-from .result + 1) (l .line + 1)) (w .10) same ∙ sym (rw (w .1 .given .1) at o) ∙ l .inv .4,
     ))
     (λ w. let same : (memory (c .match .gained) (c .match .segments) (c .match .lanes) (c .match .zones) (c .match .spots) (c .match .points) (c .match .checkpoints) (c .match .stops) (c .match .exits)) ≡ put (place (l .from) (l .line)) (w .1 .given .0 .0) (memory (l .gained) (l .segments) (l .lanes) (l .zones) (l .spots) (l .points) (l .checkpoints) (l .stops) (l .exits)) = (λ i. memory (w .38 i) (w .29 i) (w .30 i) (w .31 i) (w .32 i) (w .33 i) (w .34 i) (w .35 i) (w .36 i)) ∙ stepped (w .1 .given .0 .0) (w .11 .result) (l .from) (l .line) (w .28 .result) (memory (l .gained) (l .segments) (l .lanes) (l .zones) (l .spots) (l .points) (l .checkpoints) (l .stops) (l .exits)) _ (w .12 .ensures) (w .11 .ensures) (w .28 .ensures) in (
       omega arith,
       omega arith,
       grown _ _ _ (l .line) (w .38 ∙ w .28 .ensures) (l .inv .2),
       ap lengths same ∙ put-long _ _ _ ∙ l .inv .3,
-      ap₂ (λ (q : Place) (m : Memory). rest put s q m (c .before .before .before .scan .result + 1) (l .line + 1)) (w .37) same ∙ sym (rw (w .1 .given .1) at o) ∙ l .inv .4,
+      ap₂ (λ (q : Place) (m : Memory). rest put s q m (c .before .before .before .far-byte-from .result + 1) (l .line + 1)) (w .37) same ∙ sym (rw (w .1 .given .1) at o) ∙ l .inv .4,
     ))
     (c .match .came)
 
@@ -251,7 +251,7 @@ fill-lines-spec =
     start-requires
     none-requires
     loop-holds
-    scan-requires
+    far-byte-from-requires
     sub-judge-line
     part-judge-line-start
     part-judge-line-end

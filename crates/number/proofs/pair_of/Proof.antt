@@ -14,18 +14,18 @@ use Rattle.number.proofs.pair_of.Statement.{statement}
 use Rattle.number.proofs.pair_of.Tie as tie
 use Rattle.number.proofs.pair_of.Reads as reads
 use Rattle.number.proofs.pair_of.Lts as lts
-use Rattle.scan.proofs.scan.Reads as scan-reads
+use Rattle.scan.proofs.byte_from.Reads as byte-from-reads
 use Rattle.number.proofs.both.Reads as both-reads
 use Rattle.number.proofs.integer_of.Reads as integer-of-reads
 
-scan-requires : tie.Need-scan-requires
-scan-requires c κs = search needs
+byte-from-requires : tie.Need-byte-from-requires
+byte-from-requires c κs = search needs
 
 add-q : tie.Need-add-q
 add-q c = search needs
 
 slice-aggregate-integer-of : tie.Need-slice-aggregate-integer-of
-slice-aggregate-integer-of c = sym (length-take-le (c .before .before .scan .result) (c .before .before .before .before .args .s .now) (omega arith))
+slice-aggregate-integer-of c = sym (length-take-le (c .before .before .byte-from .result) (c .before .before .before .before .args .s .now) (omega arith))
 
 integer-of-requires : tie.Need-integer-of-requires
 integer-of-requires c κs = search needs
@@ -49,8 +49,8 @@ returns : tie.Need-returns
 unfolding pairOf
 returns c =
     let s = c .before .before .before .before .before .before .before .before .args .s .now in
-    let q : c .before .before .before .before .before .before .scan .result ≡ dot s = c .before .before .before .before .before .before .scan .ensures ∙ from-start (stopsBy (Byte 46)) s in
-    let k = c .before .before .before .before .before .before .scan .result + 1 in
+    let q : c .before .before .before .before .before .before .byte-from .result ≡ dot s = c .before .before .before .before .before .before .byte-from .ensures ∙ from-start (stopsBy (Byte 46)) s in
+    let k = c .before .before .before .before .before .before .byte-from .result + 1 in
     let t = take-all (length s - k) (drop k s) (omega (arith, length-drop k s)) in
     rw (← q, lt-ltb _ _ (c .before .before .before .before .before .if1 .taken)) (c .both .ensures ∙ ap₂ bothOf (c .before .before .before .integer-of .ensures) (c .before .integer-of2 .ensures ∙ ap integerOf t))
 
@@ -58,14 +58,14 @@ returns-2 : tie.Need-returns-2
 unfolding pairOf
 returns-2 c =
     let s = c .before .before .before .args .s .now in
-    let q : c .before .scan .result ≡ dot s = c .before .scan .ensures ∙ from-start (stopsBy (Byte 46)) s in
+    let q : c .before .byte-from .result ≡ dot s = c .before .byte-from .ensures ∙ from-start (stopsBy (Byte 46)) s in
     rw (← q, le-ltb _ _ (c .if1 .left))
 
 pub pair-of-spec : {M : Type 1} → statement M
 pair-of-spec =
     tie.close
     (tie.spec
-    scan-requires
+    byte-from-requires
     add-q
     slice-aggregate-integer-of
     integer-of-requires

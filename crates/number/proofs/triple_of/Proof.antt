@@ -14,19 +14,19 @@ use Rattle.number.proofs.triple_of.Statement.{statement}
 use Rattle.number.proofs.triple_of.Tie as tie
 use Rattle.number.proofs.triple_of.Reads as reads
 use Rattle.number.proofs.triple_of.Lts as lts
-use Rattle.scan.proofs.scan.Reads as scan-reads
+use Rattle.scan.proofs.byte_from.Reads as byte-from-reads
 use Rattle.number.proofs.integer_of.Reads as integer-of-reads
 use Rattle.number.proofs.pair_of.Reads as pair-of-reads
 use Rattle.number.proofs.three.Reads as three-reads
 
-scan-requires : tie.Need-scan-requires
-scan-requires c κs = search needs
+byte-from-requires : tie.Need-byte-from-requires
+byte-from-requires c κs = search needs
 
 add-q : tie.Need-add-q
 add-q c = search needs
 
 slice-aggregate-integer-of : tie.Need-slice-aggregate-integer-of
-slice-aggregate-integer-of c = sym (length-take-le (c .before .before .scan .result) (c .before .before .before .before .args .s .now) (omega arith))
+slice-aggregate-integer-of c = sym (length-take-le (c .before .before .byte-from .result) (c .before .before .before .before .args .s .now) (omega arith))
 
 integer-of-requires : tie.Need-integer-of-requires
 integer-of-requires c κs = search needs
@@ -50,8 +50,8 @@ returns : tie.Need-returns
 unfolding tripleOf
 returns c =
     let s = c .before .before .before .before .before .before .before .before .args .s .now in
-    let q : c .before .before .before .before .before .before .scan .result ≡ dot s = c .before .before .before .before .before .before .scan .ensures ∙ from-start (stopsBy (Byte 46)) s in
-    let k = c .before .before .before .before .before .before .scan .result + 1 in
+    let q : c .before .before .before .before .before .before .byte-from .result ≡ dot s = c .before .before .before .before .before .before .byte-from .ensures ∙ from-start (stopsBy (Byte 46)) s in
+    let k = c .before .before .before .before .before .before .byte-from .result + 1 in
     let t = take-all (length s - k) (drop k s) (omega (arith, length-drop k s)) in
     rw (← q, lt-ltb _ _ (c .before .before .before .before .before .if1 .taken)) (c .three .ensures ∙ ap₂ threeOf (c .before .before .before .integer-of .ensures) (c .before .pair-of .ensures ∙ ap pairOf t))
 
@@ -59,14 +59,14 @@ returns-2 : tie.Need-returns-2
 unfolding tripleOf
 returns-2 c =
     let s = c .before .before .before .args .s .now in
-    let q : c .before .scan .result ≡ dot s = c .before .scan .ensures ∙ from-start (stopsBy (Byte 46)) s in
+    let q : c .before .byte-from .result ≡ dot s = c .before .byte-from .ensures ∙ from-start (stopsBy (Byte 46)) s in
     rw (← q, le-ltb _ _ (c .if1 .left))
 
 pub triple-of-spec : {M : Type 1} → statement M
 triple-of-spec =
     tie.close
     (tie.spec
-    scan-requires
+    byte-from-requires
     add-q
     slice-aggregate-integer-of
     integer-of-requires

@@ -3,7 +3,7 @@ use Prim.Native.Nat.{ℕ}
 use lib.ListN.{length, replicate}
 use lib.IntN.{ℤ, pos}
 use Rattle.network_reader.specs.Reading.{lent}
-use Rattle.reader.specs.Replies.{mission-lent}
+use Rattle.law.specs.Tables.{mission-lent}
 use Rattle.reader.proofs.Pairing.{both-accepted, both-refused}
 use borrow.Author.Needs.{needs}
 use Rattle.reader.proofs.read_both.Statement.{statement}

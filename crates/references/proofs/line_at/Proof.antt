@@ -10,8 +10,8 @@ use Rattle.references.specs.Entry.{lineAt}
 use Rattle.references.proofs.line_at.Statement.{statement}
 use Rattle.references.proofs.line_at.Tie as tie
 
-scan-requires : tie.Need-scan-requires
-scan-requires c κs = search needs
+far-byte-from-requires : tie.Need-far-byte-from-requires
+far-byte-from-requires c κs = search needs
 
 sub-result : tie.Need-sub-result
 sub-result c = search needs
@@ -20,14 +20,14 @@ part-result-start : tie.Need-part-result-start
 part-result-start c = search needs
 
 part-result-end : tie.Need-part-result-end
-part-result-end c = let a = c .before .before .before .args in omega (arith, c .scan .ensures, reach-le (stopsBy (Byte 10)) (a .text .now) (a .start) (omega arith))
+part-result-end c = let a = c .before .before .before .args in omega (arith, c .far-byte-from .ensures, reach-le (stopsBy (Byte 10)) (a .text .now) (a .start) (omega arith))
 
 slice-aggregate-result : tie.Need-slice-aggregate-result
 slice-aggregate-result c = search needs
 
 returns : tie.Need-returns
 unfolding lineAt
-returns c = rw (c .before .scan .ensures, add-sub-cancel-left)
+returns c = rw (c .before .far-byte-from .ensures, add-sub-cancel-left)
 
 returns-2 : tie.Need-returns-2
 unfolding lineAt upTo
@@ -37,7 +37,7 @@ pub line-at-spec : {M : Type 1} → statement M
 line-at-spec =
     tie.close
     (tie.spec
-    scan-requires
+    far-byte-from-requires
     sub-result
     part-result-start
     part-result-end

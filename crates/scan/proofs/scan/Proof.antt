@@ -1,60 +1,93 @@
--- `scan::scan` meets its contract: the scan from i reaches where the scan from `from` does. One proof for every kind of stop. Assumes nothing.
-use mathlib.Core.Path.{_≡_, refl, _∙_, sym}
-use Prim.Native.Nat.{_-_}
-use native.Mathlib.Omega.{arith}
+-- `scan::scan` meets its contract: each kind by its own loop. Assumes nothing.
 use borrow.Author.Needs.{needs}
-use lib.ListN.{length}
-use Rattle.scan.specs.Reach.{reach, stopsBy}
-use Rattle.scan.proofs.Reach.{reach-stop, reach-go, reach-end}
 use Rattle.scan.proofs.scan.Statement.{statement}
 use Rattle.scan.proofs.scan.Tie as tie
 
-abbrev Inv-loop : tie.InvT-loop
-Inv-loop s from until i₀ i = reach (stopsBy until) s i ≡ reach (stopsBy until) s from
+enum-known-until : tie.Need-enum-known-until
+enum-known-until c = search needs
 
-abbrev μ-loop : tie.MeasureT-loop
-μ-loop s from until i₀ i = length s - i
+byte-from-requires : tie.Need-byte-from-requires
+byte-from-requires c κs = search needs
 
-loop-holds : tie.Need-loop-holds Inv-loop μ-loop
-loop-holds c = refl
+enum-known-until-2 : tie.Need-enum-known-until-2
+enum-known-until-2 c = search needs
 
-stops-requires : tie.Need-stops-requires Inv-loop μ-loop
-stops-requires c κs = search needs
+two-from-requires : tie.Need-two-from-requires
+two-from-requires c κs = search needs
 
-returns : tie.Need-returns Inv-loop μ-loop
-returns c =
-    let l = c .before .before .before in
-    let a = l .before .before .args in
-    sym (reach-stop (stopsBy (a .until)) (a .s .now) (l .loop .i) (sym (c .before .stops .ensures) ∙ c .if1 .taken)) ∙ l .loop .inv
+enum-told : tie.Need-enum-told
+enum-told c = search needs
 
-add-i : tie.Need-add-i Inv-loop μ-loop
-add-i c = search needs
+separator-from-requires : tie.Need-separator-from-requires
+separator-from-requires c κs = search needs
 
-loop-less : tie.Need-loop-less Inv-loop μ-loop
-loop-less c = search needs
+enum-told-2 : tie.Need-enum-told-2
+enum-told-2 c = search needs
 
-loop-again : tie.Need-loop-again Inv-loop μ-loop
-loop-again c =
-    let l = c .before .before .before in
-    let a = l .before .before .args in
-    reach-go (stopsBy (a .until)) (a .s .now) (l .loop .i) (omega arith) (sym (c .before .stops .ensures) ∙ c .if1 .left) ∙ l .loop .inv
+not-separator-from-requires : tie.Need-not-separator-from-requires
+not-separator-from-requires c κs = search needs
 
-returns-2 : tie.Need-returns-2 Inv-loop μ-loop
-returns-2 c =
-    let l = c .before in
-    let a = l .before .before .args in
-    sym (reach-end (stopsBy (a .until)) (a .s .now) (l .loop .i) (omega arith)) ∙ l .loop .inv
+enum-told-3 : tie.Need-enum-told-3
+enum-told-3 c = search needs
+
+not-outside-from-requires : tie.Need-not-outside-from-requires
+not-outside-from-requires c κs = search needs
+
+enum-told-4 : tie.Need-enum-told-4
+enum-told-4 c = search needs
+
+not-inside-from-requires : tie.Need-not-inside-from-requires
+not-inside-from-requires c κs = search needs
+
+enum-told-5 : tie.Need-enum-told-5
+enum-told-5 c = search needs
+
+not-digit-from-requires : tie.Need-not-digit-from-requires
+not-digit-from-requires c κs = search needs
+
+returns : tie.Need-returns
+returns c = rw (c .before .before .until .given .1) (c .byte-from .ensures)
+
+returns-2 : tie.Need-returns-2
+returns-2 c = rw (c .before .before .until2 .given .1) (c .two-from .ensures)
+
+returns-3 : tie.Need-returns-3
+returns-3 c = rw (c .before .enum-told .given .1) (c .separator-from .ensures)
+
+returns-4 : tie.Need-returns-4
+returns-4 c = rw (c .before .enum-told2 .given .1) (c .not-separator-from .ensures)
+
+returns-5 : tie.Need-returns-5
+returns-5 c = rw (c .before .enum-told3 .given .1) (c .not-outside-from .ensures)
+
+returns-6 : tie.Need-returns-6
+returns-6 c = rw (c .before .enum-told4 .given .1) (c .not-inside-from .ensures)
+
+returns-7 : tie.Need-returns-7
+returns-7 c = rw (c .before .enum-told5 .given .1) (c .not-digit-from .ensures)
 
 pub scan-spec : {M : Type 1} → statement M
 scan-spec =
     tie.close
     (tie.spec
-    Inv-loop
-    μ-loop
-    loop-holds
-    stops-requires
+    enum-known-until
+    byte-from-requires
+    enum-known-until-2
+    two-from-requires
+    enum-told
+    separator-from-requires
+    enum-told-2
+    not-separator-from-requires
+    enum-told-3
+    not-outside-from-requires
+    enum-told-4
+    not-inside-from-requires
+    enum-told-5
+    not-digit-from-requires
     returns
-    add-i
-    loop-less
-    loop-again
-    returns-2)
+    returns-2
+    returns-3
+    returns-4
+    returns-5
+    returns-6
+    returns-7)

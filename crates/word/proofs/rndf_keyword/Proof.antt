@@ -1,23 +1,18 @@
--- `word::rndf_keyword` meets its contract: what is known of the field's row in an RNDF is so of the field. Assumes nothing.
+-- `word::rndf_keyword` meets its contract: what is known of the word that the field is, is so of the field. Assumes nothing.
 use mathlib.Core.Path.{ap, _∙_}
-use Prim.Native.Nat.{ℕ}
-use native.Mathlib.Omega.{arith}
+use Rattle.word.specs.Table.{knownOf}
+use Rattle.word.specs.declared.Word.{Word}
+use Rattle.word.proofs.Rows.{rndf-number}
 use borrow.Author.Needs.{needs}
-use lib.Dec.{lit<}
-use lib.ListN.{getD}
-use Rattle.word.specs.Table.{facts}
-use Rattle.word.proofs.Rows.{row-below, rndf-number}
 use Rattle.word.proofs.rndf_keyword.Statement.{statement}
 use Rattle.word.proofs.rndf_keyword.Tie as tie
 
-row-of-requires : tie.Need-row-of-requires
-row-of-requires c κs = search needs
-
-fact-requires : tie.Need-fact-requires
-fact-requires c κs = (omega (arith, row-below (c .before .before .args .s .now)), lit< tt)
+found-requires : tie.Need-found-requires
+found-requires c κs = search needs
 
 returns : tie.Need-returns
-returns c = c .fact .ensures ∙ ap (λ (k : ℕ). getD (facts k) 1 0) (c .before .row-of .ensures) ∙ rndf-number (c .before .before .before .args .s .now)
+unfolding knownOf
+returns c = ap (λ (w : Word). w .«in_rndf») (c .found .ensures) ∙ rndf-number (c .before .before .args .s .now)
 
 pub rndf-keyword-spec : {M : Type 1} → statement M
-rndf-keyword-spec = tie.close (tie.spec row-of-requires fact-requires returns)
+rndf-keyword-spec = tie.close (tie.spec found-requires returns)

@@ -4,19 +4,16 @@ use borrow.Author.Needs.{needs}
 use Rattle.place.proofs.Place.due_step.Statement.{statement}
 use Rattle.place.proofs.Place.due_step.Tie as tie
 
-permits-requires : tie.Need-permits-requires
-permits-requires c κs = search needs
-
 after-requires : tie.Need-after-requires
 after-requires c κs = search needs
 
 returns : tie.Need-returns
 unfolding dueOf
-returns c = rw (← c .before .before .permits .ensures, c .before .if1 .taken, ← c .after .ensures)
+returns c = rw (← c .before .before .pre, c .before .if1 .taken, ← c .after .ensures)
 
 returns-2 : tie.Need-returns-2
 unfolding dueOf
-returns-2 c = rw (← c .before .permits .ensures, c .if1 .left)
+returns-2 c = rw (← c .before .pre, c .if1 .left)
 
 pub due-step-spec : {M : Type 1} → statement M
-due-step-spec = tie.close (tie.spec permits-requires after-requires returns returns-2)
+due-step-spec = tie.close (tie.spec after-requires returns returns-2)

@@ -11,20 +11,17 @@ returns : tie.Need-returns
 unfolding optionOf
 returns c = rw (← c .before .has .ensures, c .if1 .taken)
 
-permits-requires : tie.Need-permits-requires
-permits-requires c κs = search needs
-
 opted-requires : tie.Need-opted-requires
 opted-requires c κs = search needs
 
 returns-2 : tie.Need-returns-2
 unfolding optionOf
-returns-2 c = rw (← c .before .before .before .before .has .ensures, c .before .before .before .if1 .left, ← c .before .before .permits .ensures, c .before .if2 .taken, ← c .opted .ensures)
+returns-2 c = rw (← c .before .before .before .has .ensures, c .before .before .if1 .left, ← c .before .before .before .before .pre, c .before .if2 .taken, ← c .opted .ensures)
 
 returns-3 : tie.Need-returns-3
 unfolding optionOf
-returns-3 c = rw (← c .before .before .before .has .ensures, c .before .before .if1 .left, ← c .before .permits .ensures, c .if2 .left)
+returns-3 c = rw (← c .before .before .has .ensures, c .before .if1 .left, ← c .before .before .before .pre, c .if2 .left)
 
 pub option-step-spec : {M : Type 1} → statement M
 option-step-spec =
-    tie.close (tie.spec has-requires returns permits-requires opted-requires returns-2 returns-3)
+    tie.close (tie.spec has-requires returns opted-requires returns-2 returns-3)

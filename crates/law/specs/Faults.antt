@@ -1,0 +1,178 @@
+-- WHAT A READER MUST BELIEVE. What is wrong with a text: one definition for each number 2 to 10 and 12 to 18. Document 01, "Refusal numbers". Assumes nothing.
+use Rattle.terms.specs.Words.{_≡_, List, [], _∷_, _++_, map, ℕ, suc, _+_, _<_, code, length, Bytes, ascii, Each, Among, perhaps, Between}
+use Rattle.line.specs.Line.{Cut, Ended, Field, Content, FormFault}
+use Rattle.law.specs.Network.{PointId, Checkpoint, Exit, Lane, Segment, Zone, Limit, Network, Mission, Said, Line, word, name, numbers, coordinate, boundary, SpellFields, checkpoint-line, exit-line, goal-line, limit-line, SayLines, SpellsText}
+use Rattle.law.specs.Network as Law
+use Rattle.law.specs.Tables.{gather, all-lanes}
+
+-- ## 2 to 9: what is wrong with a line behind others. None of these holds where a lower number does
+-- 01: "field not of its kind": the kinds of fields. Each keyword is one, and so many numbers joined by dots
+pub data Sort : Type 0 where
+  this-word : Bytes → Sort
+  some-numbers : ℕ → Sort
+  a-name a-coordinate a-boundary : Sort
+
+abbrev pub sort : Said → Sort
+sort (word w) = this-word w
+sort (name v) = a-name
+sort (numbers l) = some-numbers (length l)
+sort (coordinate z) = a-coordinate
+sort (boundary b) = a-boundary
+
+-- 01: "A first field that begins with a digit makes a point line in an RNDF and, by its place, a goal or limit line in an MDF"; "Any other first field is a keyword of that file, byte for byte"
+pub data Opens (f : Field) : Line → Type 0 where
+  keyword : {w : Bytes} {l : Line} → f .bytes ≡ w → Opens f (word w ∷ l)
+  digit : {b : ℕ} {rest : Bytes} {i : List ℕ} {l : Line} → f .bytes ≡ b ∷ rest → Between (code "0") (code "9") b → Opens f (numbers i ∷ l)
+
+-- 01, "The order of an RNDF", "The order of an MDF": the options (as in lane-options, spot-options, file-options; `segment_name`, `zone_name`)
+abbrev pub options : List Bytes
+options = ascii "format_version" ∷ ascii "creation_date" ∷ ascii "segment_name" ∷ ascii "lane_width" ∷ ascii "left_boundary" ∷ ascii "right_boundary" ∷ ascii "checkpoint" ∷ ascii "stop" ∷ ascii "exit" ∷ ascii "zone_name" ∷ ascii "spot_width" ∷ []
+
+pub record IsOption (line : Line) : Type 0 where
+  pub first : Bytes
+  pub others : Line
+  pub is : line ≡ word first ∷ others
+  pub listed : Among first options
+
+-- line i of a text, behind lines that say `front`
+pub record LineAt (text : Bytes) (i : ℕ) (front : List Line) (this : Bytes) : Type 0 where
+  pub before : List Bytes
+  pub rest : List Bytes
+  pub cut : Cut text (before ++ (this ∷ rest))
+  -- 01: "Lines count from 1."
+  pub number : i ≡ suc (length before)
+  pub said : SayLines 0 before front
+
+-- for the lines that spell a network, or a mission
+module _ {Net : Type 0} (Spells : Net → List Line → Type 0) where
+  -- lines that spell a network, or a mission, begin with these
+  pub record Begins (lines : List Line) : Type 0 where
+    pub rest : List Line
+    pub net : Net
+    pub spelled : Spells net (lines ++ rest)
+
+  -- the field opens this line, which may stand behind those
+  pub record MayStand (before : List Line) (f : Field) (line : Line) : Type 0 where
+    pub opens : Opens f line
+    pub begins : Begins (before ++ (line ∷ []))
+
+  -- the field opens an option that was given before, with only options behind it, and may not stand once more
+  pub record GivenAgain (before : List Line) (f : Field) : Type 0 where
+    pub earlier : List Line
+    pub given : Line
+    pub since : List Line
+    pub was : before ≡ earlier ++ (given ∷ since)
+    pub same : Opens f given
+    pub still-open : Each IsOption (given ∷ since)
+    pub not-here : (line : Line) → MayStand before f line → ⊥
+
+  -- the fault of a line with the fields f ∷ fs behind these lines. Where a name stands does not matter here: `Content 0` below counts from the line's start
+  pub data FieldFault (before : List Line) (f : Field) (fs : List Field) : ℕ → Type 0 where
+    -- 01: 5 "statement unknown, or not at this place (also a wrong count of items)"
+    misplaced : ((line : Line) → MayStand before f line → ⊥) → (GivenAgain before f → ⊥) → FieldFault before f fs 5
+    -- 01: 6 "single option given again"
+    given-again : GivenAgain before f → FieldFault before f fs 6
+    -- 01: 7 "wrong number of fields"
+    miscounted : (line : Line) → MayStand before f line → (length (f ∷ fs) ≡ length line → ⊥) → FieldFault before f fs 7
+    -- 01: 8 "field not of its kind (spelling, name length, boundary word)"
+    misspelt : (line : Line) → MayStand before f line → length (f ∷ fs) ≡ length line → ((l : Line) → map sort l ≡ map sort line → SpellFields (f ∷ fs) l → ⊥) → FieldFault before f fs 8
+    -- 01: 9 "value not permitted here (range, not the due identifier, point not of this part, minimum above maximum)"
+    forbidden : (line l : Line) → MayStand before f line → map sort l ≡ map sort line → SpellFields (f ∷ fs) l → (Begins (before ++ (l ∷ [])) → ⊥) → FieldFault before f fs 9
+
+  pub data Fault (before : List Line) (line : Bytes) (number : ℕ) : Type 0 where
+    -- 01: 2 "line over 512 bytes"; 3 "comment not closed, or followed by more than tabs"; 4 "byte not allowed"
+    form : {content : Bytes} → Ended line content → FormFault content number → Fault before line number
+    fields : {content : Bytes} {f : Field} {fs : List Field} → Ended line content → Content 0 content (f ∷ fs) → FieldFault before f fs number → Fault before line number
+
+  -- 01: "the first line with a fault of 2 to 9": it is line i, and the lines before it begin a well-formed file
+  pub record BadLine (text : Bytes) (i number : ℕ) : Type 0 where
+    pub front : List Line
+    pub this : Bytes
+    pub at : LineAt text i front this
+    pub begins : Begins front
+    pub fault : Fault front this number
+
+  -- 01: 10 "text ends before `end_file`", at "lines + 1"; "10 is given only if every line is good, so the text begins some well-formed file"
+  pub record Unended (text : Bytes) (i : ℕ) : Type 0 where
+    pub lines : List Bytes
+    pub cut : Cut text lines
+    pub line : i ≡ suc (length lines)
+    pub said : List Line
+    pub spelled : SayLines 0 lines said
+    pub begins : Begins said
+    pub incomplete : (net : Net) → SpellsText Spells net text → ⊥
+
+  -- line i says this, behind lines that say `front`; lines that spell a network, or a mission, begin so
+  pub record SaysAt (text : Bytes) (i : ℕ) (front : List Line) (line : Line) : Type 0 where
+    pub this : Bytes
+    pub at : LineAt text i front this
+    pub says : SayLines 0 (at .before ++ (this ∷ [])) (front ++ (line ∷ []))
+    pub begins : Begins (front ++ (line ∷ []))
+
+  -- 01: "the first line with 12 or 13"; "14 to 18 by first line". F: RndfFault n, MdfFault n
+  pub record FirstFault (F : List Line → Line → ℕ → Type 0) (text : Bytes) (i k : ℕ) : Type 0 where
+    pub front : List Line
+    pub line : Line
+    pub at : SaysAt text i front line
+    pub fault : F front line k
+    pub first : (j m : ℕ) (f : List Line) (l : Line) → j < i → SaysAt text j f l → F f l m → ⊥
+
+-- ## 12 to 18: references
+-- a is the i-th of a list, counted from 1
+pub data Nth {A : Type 0} : ℕ → A → List A → Type 0 where
+  first : {a : A} {l : List A} → Nth 1 a (a ∷ l)
+  later : {i : ℕ} {a b : A} {l : List A} → Nth i a l → Nth (suc i) a (b ∷ l)
+
+-- no number stands twice
+abbrev pub Different : List ℕ → Type 0
+Different [] = Unit {0}
+Different (a ∷ l) = (Among a l → ⊥) × Different l
+
+module _ {N : Type 0} where
+  -- 01: "entry is no declared lane waypoint or perimeter point"; "y = 0 names a perimeter point"; "An entry with y > 0 must be a lane's waypoint; a spot's is not an entry"
+  pub data Declared (n : Network N) (e : PointId) : Type 0 where
+    waypoint : (s : Segment N) (a : Lane) → Nth (e .x) s (n .segments) → Nth (e .y) a (s .lanes) → Between 1 (length (a .points)) (e .z) → Declared n e
+    border : (i : ℕ) (z : Zone N) → e .y ≡ 0 → e .x ≡ length (n .segments) + i → Nth i z (n .zones) → Between 1 (length (z .border .points)) (e .z) → Declared n e
+
+  -- in file order
+  abbrev pub all-numbers : Network N → List ℕ
+  all-numbers n = gather (λ a. map (λ c. c .number) (a .checkpoints)) (all-lanes n)
+      ++ gather (λ z. gather (λ s. map (λ c. c .number) (perhaps (s .checkpoint))) (z .spots)) (n .zones)
+
+  -- 01: "An entry with y > 0 must be ..", refusal 12; "Checkpoint numbers .. differ over the whole RNDF", refusal 13
+  pub record Sound (n : Network N) : Type 0 where
+    pub entries : Each (λ e. Declared n (e .entry)) (gather (λ a. a .exits) (all-lanes n) ++ gather (λ z. z .border .exits) (n .zones))
+    pub numbers : Different (all-numbers n)
+
+  -- the identifiers of segments and zones are 1 to this number
+  abbrev pub parts : Network N → ℕ
+  parts n = length (n .segments) + length (n .zones)
+
+-- a line of the RNDF of n, behind lines that say `front`
+pub data RndfFault (n : Network Field) (front : List Line) (line : Line) : ℕ → Type 0 where
+  -- 01: 12 "entry is no declared lane waypoint or perimeter point"
+  undeclared : (x y : ℕ) (e : Exit) → line ≡ exit-line x y e → (Declared n (e .entry) → ⊥) → RndfFault n front line 12
+  -- 01: 13 "checkpoint number already declared"
+  repeated : (x y x′ y′ : ℕ) (c c′ : Checkpoint) → line ≡ checkpoint-line x y c → Among (checkpoint-line x′ y′ c′) front → c′ .number ≡ c .number → RndfFault n front line 13
+
+-- a line of an MDF for n, behind lines that say `front`
+pub data MdfFault (n : Network Field) (front : List Line) (line : Line) : ℕ → Type 0 where
+  -- 01: 14 "MDF's RNDF name is not this RNDF's"
+  other-name : (v : Field) → line ≡ Law.line "RNDF" (name v ∷ []) → (v .bytes ≡ n .name .bytes → ⊥) → MdfFault n front line 14
+  -- 01: 15 "goal not a checkpoint of the RNDF"
+  foreign-goal : (g : ℕ) → line ≡ goal-line g → (Among g (all-numbers n) → ⊥) → MdfFault n front line 15
+  -- 01: 16 "limit's id not in the RNDF"
+  unknown-id : (a : Limit) → line ≡ limit-line a → (Between 1 (parts n) (a .id) → ⊥) → MdfFault n front line 16
+  -- 01: 17 "limit's id already given"; "16 before 17"
+  limited-again : (a b : Limit) → line ≡ limit-line a → Between 1 (parts n) (a .id) → Among (limit-line b) front → b .id ≡ a .id → MdfFault n front line 17
+  -- 01: 18 "some id has no limit", at `end_speed_limits`
+  unlimited : (id : ℕ) → line ≡ Law.line "end_speed_limits" [] → Between 1 (parts n) id → ((a : Limit) → Among (limit-line a) front → a .id ≡ id → ⊥) → MdfFault n front line 18
+
+-- none of 14 to 18
+pub record Fits (n : Network Field) (m : Mission Field) : Type 0 where
+  pub name : m .rndf .bytes ≡ n .name .bytes
+  pub goals : Each (λ g. Among g (all-numbers n)) (m .goals)
+  pub known : Each (λ a. Between 1 (parts n) (a .id)) (m .limits)
+  -- 01: "Every segment and zone has exactly one limit."
+  pub once : Different (map (λ a. a .id) (m .limits))
+  pub all : (i : ℕ) → Between 1 (parts n) i → Among i (map (λ a. a .id) (m .limits))

@@ -1,0 +1,7 @@
+-- WHAT A READER MUST BELIEVE. The order of options in the house writing. Document 01, "House writing". Assumes nothing.
+use Rattle.terms.specs.Words.{_≡_, List, [], _∷_, _++_}
+
+-- 01: "options in the order listed above, repeats in file order within their kind"
+abbrev pub AsListed : {A : Type 0} → List (List A) → List A → Type 0
+AsListed [] options = options ≡ []
+AsListed {A} (l ∷ ls) options = (rest : List A) × AsListed ls rest × (options ≡ l ++ rest)

@@ -1,0 +1,6 @@
+-- What a reader must believe, bottom up: Network, Tables, Faults; House, of the writers. Short: short names, nothing more.
+pub mod Network
+pub mod Tables
+pub mod Faults
+pub mod House
+pub mod Short

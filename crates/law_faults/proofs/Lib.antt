@@ -1,0 +1,12 @@
+pub mod Sorts
+pub mod Moved
+pub mod Needs
+pub mod Reached
+pub mod Opening
+pub mod Again
+pub mod LineFaults
+pub mod BadLines
+pub mod Listed
+pub mod Rndf
+pub mod Mdf
+pub mod Theorems

@@ -1,0 +1,199 @@
+-- A line has a fault of 2 to 9 at a place if and only if, for the law, it has that fault behind lines that lead to the place. For every file. Assumes nothing.
+use mathlib.Core.Path.{_≡_, refl, sym, ap, subst, _∙_}
+use mathlib.Core.List.{List, [], _∷_, _++_, map, head-eq-of-cons-eq}
+use mathlib.Core.Option.{Option, none, some}
+use mathlib.Core.Bool.{Bool, true, false}
+use mathlib.Core.Logic.{_⊎_, inl, inr}
+use Prim.Native.Nat.{ℕ}
+use native.Mathlib.Omega.{arith}
+use lib.ListN.{length}
+use Rattle.terms.specs.Ascii.{Bytes}
+use Rattle.terms.specs.Words.{Each}
+use Rattle.terms.proofs.Tests.{nothing}
+use Rattle.line.specs.Content.{Field}
+use Rattle.grammar.specs.Language.{Lang, S, say}
+use Rattle.grammar.specs.Machine.{Machine, over, inside, Place, at, step}
+use Rattle.grammar.specs.Stands.{given, asDue, ofRow, stands}
+use Rattle.grammar.proofs.Keeping.{GoodPlace, GoodOut, run-good}
+use Rattle.grammar.proofs.StandLaws.{stands-all}
+use Rattle.text.specs.Said as Said
+use Rattle.text.specs.Judge.{Lexis, kindAt}
+use Rattle.text.specs.Faults.{Fielded, unknown}
+use Rattle.text.specs.Faults as Old
+use Rattle.text.proofs.Telling.{Lawful}
+use Rattle.law.specs.Network.{Line, SpellFields}
+use Rattle.law.specs.Faults.{sort, Opens, IsOption, Begins, MayStand, GivenAgain, FieldFault, Fault, form, fields, misplaced, given-again, miscounted, misspelt, forbidden}
+use Rattle.law_spelling.specs.LineOf.{law-line}
+use Rattle.law_spelling.proofs.Fields.{fields-to, fields-back}
+use Rattle.law_faults.proofs.Sorts.{of-kind, kind-sorts, count-to, count-back}
+use Rattle.law_faults.proofs.Needs.{Values, Needs}
+use Rattle.law_faults.proofs.Reached.{laws, split, cons-nil, Came, line-to, line-back}
+use Rattle.law_faults.proofs.Opening.{word-kind, kind-opens, word-opens, opens-kind, some-value}
+use Rattle.law_faults.proofs.Again.{given-before, stood-before}
+
+-- the same kind, and one answer
+one-kind : {K : Type 0} {o : Option K} {j k : K} → o ≡ some j → o ≡ some k → j ≡ k
+one-kind {o = o} {j = j} {k = k} e f = let h : some j ≡ some k = sym e ∙ f in cc
+
+module _ {L : Lang} (A : Machine L) (X : Lexis L) (line-of : (k : L .Kind) → L .Pay k → List Said.Said) {Net : Type 0} (Said : Net → List (S L) → Type 0) (Spells : Net → List Line → Type 0) (first : A .Base) (N : Needs A X line-of Said Spells first) where
+  open Lang L using (Kind, Pay, disc)
+
+  abbrev W : Lawful A X line-of
+  W = N .file .lawful
+
+  abbrev law : S L → Line
+  law = law-line line-of
+
+  -- a kind that may not stand gets 5 or 6
+  five-or-six : (p : Place A) (k : Kind) (n : ℕ) → stands A p k ≡ some n → (n ≡ 5) ⊎ (n ≡ 6)
+  unfolding stands
+  five-or-six over k n e = inl (let z : 5 ≡ n = cc in sym z)
+  five-or-six (inside b g) k n e = go (given L (A .opts b) g k) (disc k (A .due b .on)) e
+    where
+      go : (x : Option Bool) (d : Dec (k ≡ A .due b .on)) → ofRow x (asDue d) ≡ some n → (n ≡ 5) ⊎ (n ≡ 6)
+      go (some true) d e = inr (let z : 6 ≡ n = cc in sym z)
+      go (some false) d e = nothing e
+      go none (yes q) e = nothing e
+      go none (no m) e = inl (let z : 5 ≡ n = cc in sym z)
+
+  -- behind statements that lead to a place
+  module _ (said : List (S L)) (p : Place A) (came : Came A X line-of Said Spells first N said p) where
+    abbrev front : List Line
+    front = laws line-of said
+
+    values-at : GoodPlace A (Values A) p
+    values-at = subst (GoodOut A (Values A)) came (run-good A (Values A) (λ b y. N .values-after b) (at A first) said (N .values-first))
+
+    good-at : GoodPlace A (N .file .Good) p
+    good-at = subst (GoodOut A (N .file .Good)) came (run-good A (N .file .Good) (N .file .keeps) (at A first) said (N .file .good-first))
+
+    module _ (f : Field) where
+      -- ## A line that may stand
+      may-to : (k : Kind) → kindAt A X p f ≡ some k → stands A p k ≡ none → (v : Pay k) × MayStand Spells front f (law (say L k v))
+      may-to k e s =
+          let x = some-value A X line-of Said Spells first N p values-at good-at k s in
+          (x .0, record { opens = kind-opens A X line-of Said Spells first N p f k (x .0) e; begins = line-to A X line-of Said Spells first N said p (x .1) (say L k (x .0)) came (x .2) })
+
+      record Stands (line : Line) : Type 0 where
+        k : Kind
+        v : Pay k
+        is : line ≡ law (say L k v)
+        made-out : kindAt A X p f ≡ some k
+        here : stands A p k ≡ none
+
+      may-back : (line : Line) → MayStand Spells front f line → Stands line
+      may-back line m =
+          let x = line-back A X line-of Said Spells first N said p line came (m .begins) in
+          let s = x .0 in
+          let h = stands-all A p (s .kind) (s .val) (x .1) (x .3) in
+          record { k = s .kind; v = s .val; is = x .2; made-out = opens-kind A X line-of Said Spells first N p f (s .kind) (s .val) h (subst (Opens f) (x .2) (m .opens)); here = h }
+
+      -- no line may stand where no kind is made out, or one that may not
+      none-may : kindAt A X p f ≡ none → (line : Line) → MayStand Spells front f line → ⊥
+      none-may e line m = let x = may-back line m in nothing (sym e ∙ x .made-out)
+
+      not-may : (k : Kind) (n : ℕ) → kindAt A X p f ≡ some k → stands A p k ≡ some n → (line : Line) → MayStand Spells front f line → ⊥
+      not-may k n e s line m =
+          let x = may-back line m in
+          nothing (sym (x .here) ∙ ap (stands A p) (one-kind (x .made-out) e) ∙ s)
+
+      -- ## An option that was given
+      again-to : (k : Kind) → kindAt A X p f ≡ some k → stands A p k ≡ some 6 → GivenAgain Spells front f
+      again-to k e s =
+          let x = given-before A X line-of Said Spells first N said p k came s in
+          record {
+            earlier = laws line-of (x .earlier);
+            given = law (x .here);
+            since = laws line-of (x .since);
+            was = x .was;
+            same = kind-opens A X line-of Said Spells first N p f (x .here .kind) (x .here .val) (e ∙ ap some (sym (x .of)));
+            still-open = x .only;
+            not-here = not-may k 6 e s;
+          }
+
+      again-back : GivenAgain Spells front f → (k : Kind) × (kindAt A X p f ≡ some k) × (stands A p k ≡ some 6)
+      again-back g = go (split line-of (g .earlier) (g .given ∷ g .since) said (sym (g .was)))
+        where
+          settled : (s : S L) → kindAt A X p f ≡ some (s .kind) → (stands A p (s .kind) ≡ none) ⊎ (stands A p (s .kind) ≡ some 6) → (k : Kind) × (kindAt A X p f ≡ some k) × (stands A p k ≡ some 6)
+          settled s e (inl h) = let x = may-to (s .kind) e h in absurd (g .not-here (law (say L (s .kind) (x .0))) (x .1))
+          settled s e (inr h) = (s .kind, e, h)
+
+          here : (a : List (S L)) (s : S L) (b : List (S L)) → said ≡ a ++ (s ∷ b) → g .given ∷ g .since ≡ law s ∷ laws line-of b → (k : Kind) × (kindAt A X p f ≡ some k) × (stands A p k ≡ some 6)
+          here a s b e q =
+              let o : Each IsOption (law s ∷ laws line-of b) = subst (Each IsOption) q (g .still-open) in
+              let h : g .given ≡ law s = head-eq-of-cons-eq q in
+              let w = word-kind A X line-of Said Spells first N (s .kind) (s .val) (o .0 .first) (o .0 .others) (o .0 .is) in
+              settled s (word-opens A X line-of Said Spells first N p f (s .kind) (s .val) (o .0 .first) w (subst (Opens f) h (g .same)))
+              (stood-before A X line-of Said Spells first N a s b p (subst (λ (l : List (S L)). Came A X line-of Said Spells first N l p) e came) o)
+
+          go : (a : List (S L)) × (b : List (S L)) × (said ≡ a ++ b) × (g .earlier ≡ laws line-of a) × (g .given ∷ g .since ≡ laws line-of b) → (k : Kind) × (kindAt A X p f ≡ some k) × (stands A p k ≡ some 6)
+          go (a, [], e, q, h) = cons-nil (sym h)
+          go (a, s ∷ b, e, q, h) = here a s b e h
+
+      none-again : kindAt A X p f ≡ none → GivenAgain Spells front f → ⊥
+      none-again e g = let x = again-back g in nothing (sym e ∙ x .1)
+
+      not-again : (k : Kind) → kindAt A X p f ≡ some k → stands A p k ≡ some 5 → GivenAgain Spells front f → ⊥
+      not-again k e s g =
+          let x = again-back g in
+          let z : _≡_ {A = Option ℕ} (some 6) (some 5) = sym (x .2) ∙ ap (stands A p) (one-kind (x .1) e) ∙ s in
+          let y : _≡_ {A = ℕ} 6 5 = cc in omega arith
+
+    -- ## A line at fault
+    module _ (line : Bytes) where
+      pub fault-to : (n : ℕ) → Old.Fault A X line-of p 0 line n → Fault Spells front line n
+      fault-to n (Old.form e h) = form e h
+      fault-to n (unknown {f = f} {fs = fs} h e) = fields (h .ended) (h .fields) (misplaced (none-may f e) (none-again f e))
+      fault-to n (Old.misplaced {f = f} {k = k} h e s) = fields (h .ended) (h .fields) (misplaced (not-may f k 5 e s) (not-again f k e s))
+      fault-to n (Old.given-again {f = f} {k = k} h e s) = fields (h .ended) (h .fields) (given-again (again-to f k e s))
+      fault-to n (Old.miscounted {f = f} {fs = fs} {k = k} h c) =
+          let x = may-to f k (h .is) (h .here) in
+          fields (h .fields .ended) (h .fields .fields) (miscounted (law (say L k (x .0))) (x .1) (λ e. c (count-back A X line-of W k (x .0) f fs e)))
+      fault-to n (Old.misspelt {f = f} {fs = fs} {k = k} h c m) =
+          let x = may-to f k (h .is) (h .here) in
+          fields (h .fields .ended) (h .fields .fields) (misspelt (law (say L k (x .0))) (x .1) (count-to A X line-of W k (x .0) f fs c) λ l e s.
+          let y = of-kind A X line-of W k (x .0) l e in
+          m (y .0) (fields-back (f ∷ fs) (line-of k (y .0)) (subst (SpellFields (f ∷ fs)) (y .1) s)))
+      fault-to n (Old.forbidden {f = f} {fs = fs} {k = k} h v s m) =
+          let x = may-to f k (h .is) (h .here) in
+          fields (h .fields .ended) (h .fields .fields) (forbidden (law (say L k (x .0))) (law (say L k v)) (x .1) (kind-sorts A X line-of W k v (x .0)) (fields-to (f ∷ fs) (line-of k v) s) λ b.
+          let y = line-back A X line-of Said Spells first N said p (law (say L k v)) came b in
+          m (y .1) (ap (step A p) (N .one (say L k v) (y .0) (y .2)) ∙ y .3))
+
+      pub fault-back : (n : ℕ) → Fault Spells front line n → Old.Fault A X line-of p 0 line n
+      fault-back n (form e h) = Old.form e h
+      fault-back n (fields {content = c} {f = f} {fs = fs} e h b) = go n b
+        where
+          fielded : Fielded 0 line f fs
+          fielded = record { content = c; ended = e; fields = h }
+
+          may : {l : Line} (x : Stands f l) → Old.MayStand A X line-of p 0 line (x .k) f fs
+          may x = record { fields = fielded; is = x .made-out; here = x .here }
+
+          misplaced-at : (k : Kind) → kindAt A X p f ≡ some k → (GivenAgain Spells front f → ⊥) → (m : ℕ) → stands A p k ≡ some m → (m ≡ 5) ⊎ (m ≡ 6) → Old.Fault A X line-of p 0 line 5
+          misplaced-at k q again m s (inl i) = Old.misplaced fielded q (s ∙ ap some i)
+          misplaced-at k q again m s (inr i) = absurd (again (again-to f k q (s ∙ ap some i)))
+
+          unfit : ((l : Line) → MayStand Spells front f l → ⊥) → (GivenAgain Spells front f → ⊥) → (x : Option Kind) → kindAt A X p f ≡ x → Old.Fault A X line-of p 0 line 5
+          unfit none-stands again none q = unknown fielded q
+          unfit none-stands again (some k) q = at-kind (stands A p k) refl
+            where
+              at-kind : (x : Option ℕ) → stands A p k ≡ x → Old.Fault A X line-of p 0 line 5
+              at-kind none s = let x = may-to f k q s in absurd (none-stands (law (say L k (x .0))) (x .1))
+              at-kind (some m) s = misplaced-at k q again m s (five-or-six p k m s)
+
+          go : (n : ℕ) → FieldFault Spells front f fs n → Old.Fault A X line-of p 0 line n
+          go n (misplaced m again) = unfit m again (kindAt A X p f) refl
+          go n (given-again g) = let x = again-back f g in Old.given-again fielded (x .1) (x .2)
+          go n (miscounted l m c) =
+              let x = may-back f l m in
+              Old.miscounted (may x) (λ q. c (count-to A X line-of W (x .k) (x .v) f fs q ∙ ap length (sym (x .is))))
+          go n (misspelt l m c s) =
+              let x = may-back f l m in
+              Old.misspelt (may x) (count-back A X line-of W (x .k) (x .v) f fs (c ∙ ap length (x .is)))
+              (λ u t. s (law (say L (x .k) u)) (kind-sorts A X line-of W (x .k) u (x .v) ∙ ap (map sort) (sym (x .is))) (fields-to (f ∷ fs) (line-of (x .k) u) t))
+          go n (forbidden l u m e s b) =
+              let x = may-back f l m in
+              let y = of-kind A X line-of W (x .k) (x .v) u (e ∙ ap (map sort) (x .is)) in
+              Old.forbidden (may x) (y .0) (fields-back (f ∷ fs) (line-of (x .k) (y .0)) (subst (SpellFields (f ∷ fs)) (y .1) s))
+              (λ q t. b (subst (λ (u : Line). Begins Spells (front ++ (u ∷ []))) (sym (y .1)) (line-to A X line-of Said Spells first N said p q (say L (x .k) (y .0)) came t)))

@@ -1,0 +1,50 @@
+-- THE THEOREMS: the law's bad lines and unended texts are those that go through the places, for the RNDF and for the MDF, from one development (BadLines). Assumes nothing.
+use Prim.Native.Nat.{ℕ}
+use Rattle.terms.specs.Ascii.{Bytes}
+use Rattle.line.specs.Content.{Field}
+use Rattle.grammar.specs.Network.{SpellsNetwork}
+use Rattle.grammar.specs.Mission.{SpellsMission}
+use Rattle.grammar.specs.Places.{rndf, name-due}
+use Rattle.grammar.specs.MissionPlaces.{mdf}
+use Rattle.grammar.specs.MissionPlaces as Mdf-at
+use Rattle.text.specs.RndfLines.{rndf-line}
+use Rattle.text.specs.MdfLines.{mdf-line}
+use Rattle.text.specs.RndfWords.{rndf-lexis}
+use Rattle.text.specs.MdfWords.{mdf-lexis}
+use Rattle.form_faults.specs.FormFaults.{RndfBadLine, RndfUnended, MdfBadLine, MdfUnended}
+use Rattle.law.specs.Network.{AnyOrder}
+use Rattle.law.specs.Network as Law
+use Rattle.law.specs.Faults.{BadLine, Unended}
+use Rattle.law_faults.proofs.BadLines.{bad-to, bad-back, unended-to, unended-back}
+use Rattle.law_faults.proofs.Rndf.{rndf-needs}
+use Rattle.law_faults.proofs.Mdf.{mdf-needs}
+
+-- ## RNDF
+-- 2 to 9
+pub rndf-bad-to : (text : Bytes) (i n : ℕ) → RndfBadLine text i n → BadLine (Law.SpellsNetwork AnyOrder) text i n
+rndf-bad-to = bad-to (rndf Field) rndf-lexis rndf-line SpellsNetwork (Law.SpellsNetwork AnyOrder) name-due rndf-needs
+
+pub rndf-bad-back : (text : Bytes) (i n : ℕ) → BadLine (Law.SpellsNetwork AnyOrder) text i n → RndfBadLine text i n
+rndf-bad-back = bad-back (rndf Field) rndf-lexis rndf-line SpellsNetwork (Law.SpellsNetwork AnyOrder) name-due rndf-needs
+
+-- 10
+pub rndf-unended-to : (text : Bytes) (i : ℕ) → RndfUnended text i → Unended (Law.SpellsNetwork AnyOrder) text i
+rndf-unended-to = unended-to (rndf Field) rndf-lexis rndf-line SpellsNetwork (Law.SpellsNetwork AnyOrder) name-due rndf-needs
+
+pub rndf-unended-back : (text : Bytes) (i : ℕ) → Unended (Law.SpellsNetwork AnyOrder) text i → RndfUnended text i
+rndf-unended-back = unended-back (rndf Field) rndf-lexis rndf-line SpellsNetwork (Law.SpellsNetwork AnyOrder) name-due rndf-needs
+
+-- ## MDF
+-- 2 to 9
+pub mdf-bad-to : (text : Bytes) (i n : ℕ) → MdfBadLine text i n → BadLine (Law.SpellsMission AnyOrder) text i n
+mdf-bad-to = bad-to (mdf Field) mdf-lexis mdf-line SpellsMission (Law.SpellsMission AnyOrder) Mdf-at.name-due mdf-needs
+
+pub mdf-bad-back : (text : Bytes) (i n : ℕ) → BadLine (Law.SpellsMission AnyOrder) text i n → MdfBadLine text i n
+mdf-bad-back = bad-back (mdf Field) mdf-lexis mdf-line SpellsMission (Law.SpellsMission AnyOrder) Mdf-at.name-due mdf-needs
+
+-- 10
+pub mdf-unended-to : (text : Bytes) (i : ℕ) → MdfUnended text i → Unended (Law.SpellsMission AnyOrder) text i
+mdf-unended-to = unended-to (mdf Field) mdf-lexis mdf-line SpellsMission (Law.SpellsMission AnyOrder) Mdf-at.name-due mdf-needs
+
+pub mdf-unended-back : (text : Bytes) (i : ℕ) → Unended (Law.SpellsMission AnyOrder) text i → MdfUnended text i
+mdf-unended-back = unended-back (mdf Field) mdf-lexis mdf-line SpellsMission (Law.SpellsMission AnyOrder) Mdf-at.name-due mdf-needs

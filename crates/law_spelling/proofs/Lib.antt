@@ -1,0 +1,10 @@
+pub mod Fields
+pub mod Lines
+pub mod Mixing
+pub mod Options
+pub mod Ranges
+pub mod RndfParts
+pub mod MdfParts
+pub mod OneLine
+pub mod House
+pub mod Texts

@@ -1,0 +1,226 @@
+-- The statements of a network and the lines of the law are the same, part by part. Assumes nothing.
+use mathlib.Core.Path.{_≡_, refl, sym, ap, _∙_}
+use mathlib.Core.List.{List, [], _∷_, _++_, map}
+use Prim.Native.Nat.{ℕ, suc}
+use lib.ListN.{length}
+use Rattle.terms.specs.Words.{perhaps}
+use Rattle.line.specs.Content.{Field}
+use Rattle.law.specs.Network.{Line, Position, Lane, Segment, Perimeter, Spot, Zone, Network, AnyOrder, points}
+use Rattle.law.specs.Network as Law
+use Rattle.grammar.specs.Statements.{Statement, Kind, lines, say, numbered, part-id, point-id, RNDF-name, num-segments, num-zones, format-version, creation-date, segment, num-lanes, segment-name, end-segment, lane, num-waypoints, lane-width, left-boundary, right-boundary, checkpoint, stop, exit, end-lane, zone, num-spots, zone-name, end-zone, perimeter, num-perimeterpoints, end-perimeter, spot, spot-width, end-spot, end-file}
+use Rattle.grammar.specs.Network.{checkpoint-of, exit-of, SpellsLane, SpellsSegment, SpellsPerimeter, SpellsSpot, SpellsZone, SpellsNetwork}
+use Rattle.text.specs.RndfLines.{rndf-line}
+use Rattle.law_spelling.specs.LineOf.{rndf-law-line}
+use Rattle.law_spelling.proofs.Ranges.{lane-good-to, lane-good-back, perimeter-good-to, perimeter-good-back}
+use Rattle.law_spelling.proofs.Mixing.{map-map, map-twice, part-same, parts-same, cons, turn-to, turn-back}
+use Rattle.law_spelling.proofs.Options.{Values, options, options-to, options-back, only-one, one-only}
+
+abbrev Said : Type 0
+Said = List (Statement Field)
+
+abbrev ll : Statement Field → Line
+ll = rndf-law-line
+
+-- the lines that a part of the law has are those of statements that spell the part
+abbrev Back : {P : Type 0} → (P → Said → Type 0) → P → List Line → Type 0
+Back Sp a l = (said : Said) × (l ≡ map ll said) × Sp a said
+
+-- ## Points
+pub points-same : (m n i : ℕ) (ps : List Position) → map ll (numbered m n i ps) ≡ points m n i ps
+unfolding numbered points rndf-line
+points-same m n i [] = refl
+points-same m n i (p ∷ ps) = cons refl (points-same m n (suc i) ps)
+
+-- ## A lane
+abbrev lane-kinds : List Kind
+lane-kinds = lane-width ∷ left-boundary ∷ right-boundary ∷ checkpoint ∷ stop ∷ exit ∷ []
+
+abbrev lane-values : (m n : ℕ) → Lane → Values (lines Field) lane-kinds
+lane-values m n a = (perhaps (a .width), (perhaps (a .left), (perhaps (a .right), (map (checkpoint-of m n) (a .checkpoints), (map (point-id m n) (a .stops), (map (exit-of m n) (a .exits), tt))))))
+
+pub lane-same : (m n : ℕ) (a : Lane) → map (map ll) (options (lines Field) lane-kinds (lane-values m n a)) ≡ Law.lane-options m n a
+unfolding rndf-line
+lane-same m n a =
+    cons (map-map (say lane-width) ll (perhaps (a .width))) (
+    cons (map-map (say left-boundary) ll (perhaps (a .left))) (
+    cons (map-map (say right-boundary) ll (perhaps (a .right))) (
+    cons (map-twice (checkpoint-of m n) (say checkpoint) ll (a .checkpoints)) (
+    cons (map-twice (point-id m n) (say stop) ll (a .stops)) (
+    cons (map-twice (exit-of m n) (say exit) ll (a .exits)) refl)))))
+
+lane-to : (m n : ℕ) (a : Lane) (l : Said) → SpellsLane m n a l → Law.SpellsLane AnyOrder m n a (map ll l)
+unfolding rndf-line
+lane-to m n a l h =
+    let g = h .given in
+    record {
+      options = map ll (h .options);
+      given = options-to (lines Field) ll lane-kinds (lane-values m n a) (Law.lane-options m n a) (h .options) tt (lane-same m n a) (g .width, (g .left, (g .right, (g .checkpoints, (g .stops, (g .exits, tt)))))) (g .no-other);
+      good = lane-good-to a (h .good);
+      spelled = ap (map ll) (h .spelled) ∙ cons refl (cons refl (part-same ll (h .options) (numbered m n 1 (a .points)) (say end-lane tt ∷ []) refl (points-same m n 1 (a .points))));
+    }
+
+lane-back : (m n : ℕ) (a : Lane) (l : List Line) → Law.SpellsLane AnyOrder m n a l → Back (SpellsLane m n) a l
+unfolding rndf-line
+lane-back m n a l h =
+    let x = options-back (lines Field) ll lane-kinds (lane-values m n a) (Law.lane-options m n a) (h .options) tt (lane-same m n a) (h .given) in
+    let y = x .2 in (
+      say lane (part-id m n) ∷ say num-waypoints (length (a .points)) ∷ x .0 ++ (numbered m n 1 (a .points) ++ (say end-lane tt ∷ [])),
+      h .spelled ∙ cons refl (cons refl (sym (part-same ll (x .0) (numbered m n 1 (a .points)) (say end-lane tt ∷ []) (sym (x .1)) (points-same m n 1 (a .points))))),
+      record {
+        options = x .0;
+        given = record { width = y .0; left = y .1 .0; right = y .1 .1 .0; checkpoints = y .1 .1 .1 .0; stops = y .1 .1 .1 .1 .0; exits = y .1 .1 .1 .1 .1 .0; no-other = x .3 };
+        good = lane-good-back a (h .good);
+        spelled = refl;
+      },
+    )
+
+-- ## A segment
+segment-to : (m : ℕ) (a : Segment Field) (l : Said) → SpellsSegment m a l → Law.SpellsSegment AnyOrder m a (map ll l)
+unfolding rndf-line
+segment-to m a l h =
+    let o : h .options ≡ map (say segment-name) (perhaps (a .name)) = only-one (lines Field) segment-name (perhaps (a .name)) (h .options) (h .given .name) (h .given .no-other) in
+    record {
+      lanes = map ll (h .lanes);
+      count = h .count;
+      each = turn-to ll (SpellsLane m) (Law.SpellsLane AnyOrder m) (lane-to m) 1 (a .lanes) (h .lanes) (h .each);
+      spelled = ap (map ll) (h .spelled) ∙ cons refl (cons refl (part-same ll (h .options) (h .lanes) (say end-segment tt ∷ []) (ap (map ll) o ∙ map-map (say segment-name) ll (perhaps (a .name))) refl));
+    }
+
+segment-back : (m : ℕ) (a : Segment Field) (l : List Line) → Law.SpellsSegment AnyOrder m a l → Back (SpellsSegment m) a l
+unfolding rndf-line
+segment-back m a l h =
+    let os = map (say segment-name) (perhaps (a .name)) in
+    let g = one-only (lines Field) segment-name (perhaps (a .name)) in
+    let x = turn-back ll (SpellsLane m) (Law.SpellsLane AnyOrder m) (lane-back m) 1 (a .lanes) (h .lanes) (h .each) in (
+      say segment m ∷ say num-lanes (length (a .lanes)) ∷ os ++ (x .0 ++ (say end-segment tt ∷ [])),
+      h .spelled ∙ cons refl (cons refl (sym (part-same ll os (x .0) (say end-segment tt ∷ []) (map-map (say segment-name) ll (perhaps (a .name))) (sym (x .1))))),
+      record { options = os; lanes = x .0; given = record { name = g .0; no-other = g .1 }; count = h .count; each = x .2; spelled = refl },
+    )
+
+-- ## A perimeter
+perimeter-to : (m : ℕ) (a : Perimeter) (l : Said) → SpellsPerimeter m a l → Law.SpellsPerimeter AnyOrder m a (map ll l)
+unfolding rndf-line
+perimeter-to m a l h =
+    let o : h .options ≡ map (say exit) (map (exit-of m 0) (a .exits)) = only-one (lines Field) exit (map (exit-of m 0) (a .exits)) (h .options) (h .given .exits) (h .given .no-other) in
+    record {
+      good = perimeter-good-to a (h .good);
+      spelled = ap (map ll) (h .spelled) ∙ cons refl (cons refl (part-same ll (h .options) (numbered m 0 1 (a .points)) (say end-perimeter tt ∷ []) (ap (map ll) o ∙ map-twice (exit-of m 0) (say exit) ll (a .exits)) (points-same m 0 1 (a .points))));
+    }
+
+perimeter-back : (m : ℕ) (a : Perimeter) (l : List Line) → Law.SpellsPerimeter AnyOrder m a l → Back (SpellsPerimeter m) a l
+unfolding rndf-line
+perimeter-back m a l h =
+    let os = map (say exit) (map (exit-of m 0) (a .exits)) in
+    let g = one-only (lines Field) exit (map (exit-of m 0) (a .exits)) in (
+      say perimeter (part-id m 0) ∷ say num-perimeterpoints (length (a .points)) ∷ os ++ (numbered m 0 1 (a .points) ++ (say end-perimeter tt ∷ [])),
+      h .spelled ∙ cons refl (cons refl (sym (part-same ll os (numbered m 0 1 (a .points)) (say end-perimeter tt ∷ []) (map-twice (exit-of m 0) (say exit) ll (a .exits)) (points-same m 0 1 (a .points))))),
+      record { options = os; given = record { exits = g .0; no-other = g .1 }; good = perimeter-good-back a (h .good); spelled = refl },
+    )
+
+-- ## A spot
+abbrev spot-kinds : List Kind
+spot-kinds = spot-width ∷ checkpoint ∷ []
+
+abbrev spot-values : (m n : ℕ) → Spot → Values (lines Field) spot-kinds
+spot-values m n a = (perhaps (a .width), (map (checkpoint-of m n) (perhaps (a .checkpoint)), tt))
+
+pub spot-same : (m n : ℕ) (a : Spot) → map (map ll) (options (lines Field) spot-kinds (spot-values m n a)) ≡ Law.spot-options m n a
+unfolding rndf-line
+spot-same m n a = cons (map-map (say spot-width) ll (perhaps (a .width))) (cons (map-twice (checkpoint-of m n) (say checkpoint) ll (perhaps (a .checkpoint))) refl)
+
+abbrev ends : Spot → List Position
+ends a = a .first ∷ a .second ∷ []
+
+spot-to : (m n : ℕ) (a : Spot) (l : Said) → SpellsSpot m n a l → Law.SpellsSpot AnyOrder m n a (map ll l)
+unfolding rndf-line numbered
+spot-to m n a l h =
+    let g = h .given in
+    record {
+      options = map ll (h .options);
+      given = options-to (lines Field) ll spot-kinds (spot-values m n a) (Law.spot-options m n a) (h .options) tt (spot-same m n a) (g .width, (g .checkpoints, tt)) (g .no-other);
+      good = h .good;
+      spelled = ap (map ll) (h .spelled) ∙ cons refl (part-same ll (h .options) (numbered m n 1 (ends a)) (say end-spot tt ∷ []) refl (points-same m n 1 (ends a)));
+    }
+
+spot-back : (m n : ℕ) (a : Spot) (l : List Line) → Law.SpellsSpot AnyOrder m n a l → Back (SpellsSpot m n) a l
+unfolding rndf-line numbered
+spot-back m n a l h =
+    let x = options-back (lines Field) ll spot-kinds (spot-values m n a) (Law.spot-options m n a) (h .options) tt (spot-same m n a) (h .given) in (
+      say spot (part-id m n) ∷ x .0 ++ (numbered m n 1 (ends a) ++ (say end-spot tt ∷ [])),
+      h .spelled ∙ cons refl (sym (part-same ll (x .0) (numbered m n 1 (ends a)) (say end-spot tt ∷ []) (sym (x .1)) (points-same m n 1 (ends a)))),
+      record { options = x .0; given = record { width = x .2 .0; checkpoints = x .2 .1 .0; no-other = x .3 }; good = h .good; spelled = refl },
+    )
+
+-- ## A zone
+zone-to : (m : ℕ) (a : Zone Field) (l : Said) → SpellsZone m a l → Law.SpellsZone AnyOrder m a (map ll l)
+unfolding rndf-line
+zone-to m a l h =
+    let o : h .options ≡ map (say zone-name) (perhaps (a .name)) = only-one (lines Field) zone-name (perhaps (a .name)) (h .options) (h .given .name) (h .given .no-other) in
+    record {
+      border = map ll (h .border);
+      spots = map ll (h .spots);
+      count = h .count;
+      bordered = perimeter-to m (a .border) (h .border) (h .bordered);
+      each = turn-to ll (SpellsSpot m) (Law.SpellsSpot AnyOrder m) (spot-to m) 1 (a .spots) (h .spots) (h .each);
+      spelled = ap (map ll) (h .spelled) ∙ cons refl (cons refl (parts-same ll (h .options) (h .border) (h .spots) (say end-zone tt ∷ []) (ap (map ll) o ∙ map-map (say zone-name) ll (perhaps (a .name))) refl refl));
+    }
+
+zone-back : (m : ℕ) (a : Zone Field) (l : List Line) → Law.SpellsZone AnyOrder m a l → Back (SpellsZone m) a l
+unfolding rndf-line
+zone-back m a l h =
+    let os = map (say zone-name) (perhaps (a .name)) in
+    let g = one-only (lines Field) zone-name (perhaps (a .name)) in
+    let b = perimeter-back m (a .border) (h .border) (h .bordered) in
+    let x = turn-back ll (SpellsSpot m) (Law.SpellsSpot AnyOrder m) (spot-back m) 1 (a .spots) (h .spots) (h .each) in (
+      say zone m ∷ say num-spots (length (a .spots)) ∷ os ++ (b .0 ++ (x .0 ++ (say end-zone tt ∷ []))),
+      h .spelled ∙ cons refl (cons refl (sym (parts-same ll os (b .0) (x .0) (say end-zone tt ∷ []) (map-map (say zone-name) ll (perhaps (a .name))) (sym (b .1)) (sym (x .1))))),
+      record { options = os; border = b .0; spots = x .0; given = record { name = g .0; no-other = g .1 }; count = h .count; bordered = b .2; each = x .2; spelled = refl },
+    )
+
+-- ## The file
+abbrev file-kinds : List Kind
+file-kinds = format-version ∷ creation-date ∷ []
+
+abbrev file-values : Network Field → Values (lines Field) file-kinds
+file-values a = (perhaps (a .version), (perhaps (a .date), tt))
+
+pub file-same : (a : Network Field) → map (map ll) (options (lines Field) file-kinds (file-values a)) ≡ Law.file-options (a .version) (a .date)
+unfolding rndf-line
+file-same a = cons (map-map (say format-version) ll (perhaps (a .version))) (cons (map-map (say creation-date) ll (perhaps (a .date))) refl)
+
+pub network-to : (n : Network Field) (said : List (Statement Field)) → SpellsNetwork n said → Law.SpellsNetwork AnyOrder n (map rndf-law-line said)
+unfolding rndf-line
+network-to a l h =
+    let g = h .given in
+    record {
+      options = map ll (h .options);
+      segments = map ll (h .segments);
+      zones = map ll (h .zones);
+      given = options-to (lines Field) ll file-kinds (file-values a) (Law.file-options (a .version) (a .date)) (h .options) tt (file-same a) (g .version, (g .date, tt)) (g .no-other);
+      some-segment = h .some-segment;
+      count = h .count;
+      each-segment = turn-to ll SpellsSegment (Law.SpellsSegment AnyOrder) segment-to 1 (a .segments) (h .segments) (h .each-segment);
+      each-zone = turn-to ll SpellsZone (Law.SpellsZone AnyOrder) zone-to (suc (length (a .segments))) (a .zones) (h .zones) (h .each-zone);
+      spelled = ap (map ll) (h .spelled) ∙ cons refl (cons refl (cons refl (parts-same ll (h .options) (h .segments) (h .zones) (say end-file tt ∷ []) refl refl refl)));
+    }
+
+pub network-back : (n : Network Field) (l : List Line) → Law.SpellsNetwork AnyOrder n l → (said : List (Statement Field)) × (l ≡ map rndf-law-line said) × SpellsNetwork n said
+unfolding rndf-line
+network-back a l h =
+    let o = options-back (lines Field) ll file-kinds (file-values a) (Law.file-options (a .version) (a .date)) (h .options) tt (file-same a) (h .given) in
+    let x = turn-back ll SpellsSegment (Law.SpellsSegment AnyOrder) segment-back 1 (a .segments) (h .segments) (h .each-segment) in
+    let y = turn-back ll SpellsZone (Law.SpellsZone AnyOrder) zone-back (suc (length (a .segments))) (a .zones) (h .zones) (h .each-zone) in (
+      say RNDF-name (a .name) ∷ say num-segments (length (a .segments)) ∷ say num-zones (length (a .zones)) ∷ o .0 ++ (x .0 ++ (y .0 ++ (say end-file tt ∷ []))),
+      h .spelled ∙ cons refl (cons refl (cons refl (sym (parts-same ll (o .0) (x .0) (y .0) (say end-file tt ∷ []) (sym (o .1)) (sym (x .1)) (sym (y .1)))))),
+      record {
+        options = o .0;
+        segments = x .0;
+        zones = y .0;
+        given = record { version = o .2 .0; date = o .2 .1 .0; no-other = o .3 };
+        some-segment = h .some-segment;
+        count = h .count;
+        each-segment = x .2;
+        each-zone = y .2;
+        spelled = refl;
+      },
+    )

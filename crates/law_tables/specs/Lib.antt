@@ -1,0 +1,1 @@
+-- Nothing: the law (crate `law`) and the old definitions stand in their own crates.

@@ -1,0 +1,2 @@
+-- What a `match` on a place tells.
+pub mod Keys

@@ -1,0 +1,90 @@
+-- WELL-FORMED texts, in document 01's words: each spells only one network, or mission; well-formed is the same as no fault of 2 to 10; and what a refused line of either file tells. Assumes nothing.
+use mathlib.Core.Path.{_≡_}
+use mathlib.Core.List.{List}
+use mathlib.Core.Logic.{_⊎_, inl, inr}
+use Prim.Native.Nat.{ℕ, _≤_}
+use native.Mathlib.Omega.{arith}
+use Rattle.terms.specs.Ascii.{Bytes}
+use Rattle.line.specs.Content.{Field}
+use Rattle.law.specs.Network.{Network, Mission, Line}
+use Rattle.law.specs.Faults.{BadLine, RndfFault, undeclared, repeated, MdfFault, other-name, foreign-goal, unknown-id, limited-again, unlimited}
+use Rattle.text.specs.Spelling as Old
+use Rattle.text.proofs.Theorems as Once
+use Rattle.form_faults.specs.FormFaults as Old-faults
+use Rattle.form_faults.proofs.FormFaults as F
+use Rattle.law.specs.Short.{SpellsRndf, SpellsMdf}
+use Rattle.law_spelling.proofs.Texts.{rndf-to, rndf-back, mdf-to, mdf-back}
+use Rattle.law_faults.proofs.Theorems.{rndf-bad-to, rndf-bad-back, rndf-unended-to, rndf-unended-back, mdf-bad-to, mdf-bad-back, mdf-unended-to, mdf-unended-back}
+use Rattle.promises.specs.Refusals.{Rndf, Mdf, WellFormed, NoFormFault, RefusedLine}
+use Rattle.promises.proofs.Numbers.{refused-by}
+
+-- ## Only one network, and only one mission
+pub one-spelled : (text : Bytes) (n n′ : Network Field) → SpellsRndf n text → SpellsRndf n′ text → n ≡ n′
+one-spelled text n n′ h h′ = Once.one-rndf n n′ text (rndf-back n text h) (rndf-back n′ text h′)
+
+pub one-mission : (text : Bytes) (m m′ : Mission Field) → SpellsMdf m text → SpellsMdf m′ text → m ≡ m′
+one-mission text m m′ h h′ = Once.one-mdf m m′ text (mdf-back m text h) (mdf-back m′ text h′)
+
+-- ## 01: "'Well-formed' means spelled by the grammar ..; that this is the same as no fault of 2 to 10 is proved and isn't the definition"
+pub rndf-well-formed : (text : Bytes) → (WellFormed Rndf text → NoFormFault Rndf text) × (NoFormFault Rndf text → WellFormed Rndf text)
+rndf-well-formed text = (
+  λ w. let h = rndf-back (w .0) text (w .1) in record {
+    no-bad-line = λ i k b. F.rndf-bad-or-spelled text i k (w .0) (rndf-bad-back text i k b) h;
+    ended = λ i u. F.rndf-unended-or-spelled text i (w .0) (rndf-unended-back text i u) h;
+  },
+  λ f. go f (F.rndf-one-of-three text),
+)
+  where
+    go : NoFormFault Rndf text → ((n : Network Field) × Old.SpellsRndf n text) ⊎ (((i : ℕ) × (n : ℕ) × Old-faults.RndfBadLine text i n) ⊎ ((i : ℕ) × Old-faults.RndfUnended text i)) → WellFormed Rndf text
+    go f (inl w) = (w .0, rndf-to (w .0) text (w .1))
+    go f (inr (inl b)) = absurd (f .no-bad-line (b .0) (b .1) (rndf-bad-to text (b .0) (b .1) (b .2)))
+    go f (inr (inr u)) = absurd (f .ended (u .0) (rndf-unended-to text (u .0) (u .1)))
+
+pub mdf-well-formed : (text : Bytes) → (WellFormed Mdf text → NoFormFault Mdf text) × (NoFormFault Mdf text → WellFormed Mdf text)
+mdf-well-formed text = (
+  λ w. let h = mdf-back (w .0) text (w .1) in record {
+    no-bad-line = λ i k b. F.mdf-bad-or-spelled text i k (w .0) (mdf-bad-back text i k b) h;
+    ended = λ i u. F.mdf-unended-or-spelled text i (w .0) (mdf-unended-back text i u) h;
+  },
+  λ f. go f (F.mdf-one-of-three text),
+)
+  where
+    go : NoFormFault Mdf text → ((m : Mission Field) × Old.SpellsMdf m text) ⊎ (((i : ℕ) × (n : ℕ) × Old-faults.MdfBadLine text i n) ⊎ ((i : ℕ) × Old-faults.MdfUnended text i)) → WellFormed Mdf text
+    go f (inl w) = (w .0, mdf-to (w .0) text (w .1))
+    go f (inr (inl b)) = absurd (f .no-bad-line (b .0) (b .1) (mdf-bad-to text (b .0) (b .1) (b .2)))
+    go f (inr (inr u)) = absurd (f .ended (u .0) (mdf-unended-to text (u .0) (u .1)))
+
+-- ## A bad line has a number of 2 to 9; the lines before it begin some well-formed text, and none begins with them and it
+pub rndf-form : (text : Bytes) (line number : ℕ) → BadLine Rndf text line number → (2 ≤ number) × (number ≤ 9)
+rndf-form text line number b = F.rndf-two-to-nine text line number (rndf-bad-back text line number b)
+
+pub mdf-form : (text : Bytes) (line number : ℕ) → BadLine Mdf text line number → (2 ≤ number) × (number ≤ 9)
+mdf-form text line number b = F.mdf-two-to-nine text line number (mdf-bad-back text line number b)
+
+pub rndf-refused-line : (text : Bytes) (line number : ℕ) → BadLine Rndf text line number → RefusedLine Rndf text line number
+rndf-refused-line text line number b =
+    let o = rndf-bad-back text line number b in
+    let s = F.rndf-begins-some text line number o in
+    refused-by Rndf text line number b (o .before) (o .this) (o .rest) (o .cut) (o .number)
+    (record { more = s .more; text = s .text; cut = s .made; formed = (s .net, rndf-to (s .net) (s .text) (s .spelled)) })
+    (λ more text′ c w. F.rndf-hopeless text line number o text′ more (w .0) c (rndf-back (w .0) text′ (w .1)))
+
+pub mdf-refused-line : (text : Bytes) (line number : ℕ) → BadLine Mdf text line number → RefusedLine Mdf text line number
+mdf-refused-line text line number b =
+    let o = mdf-bad-back text line number b in
+    let s = F.mdf-begins-some text line number o in
+    refused-by Mdf text line number b (o .before) (o .this) (o .rest) (o .cut) (o .number)
+    (record { more = s .more; text = s .text; cut = s .made; formed = (s .net, mdf-to (s .net) (s .text) (s .spelled)) })
+    (λ more text′ c w. F.mdf-hopeless text line number o text′ more (w .0) c (mdf-back (w .0) text′ (w .1)))
+
+-- ## Wrong references have 12 and 13, and 14 to 18
+pub rndf-reference : (n : Network Field) (front : List Line) (line : Line) (number : ℕ) → RndfFault n front line number → 12 ≤ number
+rndf-reference n front line number (undeclared x y e is not) = omega arith
+rndf-reference n front line number (repeated x y x′ y′ c c′ is was same) = omega arith
+
+pub mdf-reference : (n : Network Field) (front : List Line) (line : Line) (number : ℕ) → MdfFault n front line number → 12 ≤ number
+mdf-reference n front line number (other-name v is not) = omega arith
+mdf-reference n front line number (foreign-goal g is not) = omega arith
+mdf-reference n front line number (unknown-id a is not) = omega arith
+mdf-reference n front line number (limited-again a b is known was same) = omega arith
+mdf-reference n front line number (unlimited id is known not) = omega arith

@@ -1,0 +1,80 @@
+-- What each number tells, of a file of either kind: from the order of refusals alone. Assumes nothing.
+use mathlib.Core.Path.{_≡_, refl, subst}
+use mathlib.Core.List.{List, [], _∷_, _++_, head-eq-of-cons-eq, tail-eq-of-cons-eq}
+use Prim.Native.Nat.{ℕ, suc, _≤_, _<_}
+use native.Mathlib.Omega.{arith}
+use lib.ListN.{length}
+use Rattle.terms.specs.Ascii.{Bytes}
+use Rattle.line.specs.Text.{Cut}
+use Rattle.line.proofs.Cuts.{cut-one}
+use Rattle.law.specs.Network.{Line}
+use Rattle.law.specs.Faults.{BadLine, Unended}
+use Rattle.reader.specs.Replies.{most, Refuses, too-long, bad-line, unended, no-room, bad-reference}
+use Rattle.promises.specs.Refusals.{Begin, Hopeless, RefusedLine, NoRoom, WrongReference}
+
+-- ## By number. `form`, `reference`: which numbers a bad line and a wrong reference have
+module _ {Net : Type 0} (Spells : Net → List Line → Type 0) (Roomy Right : Net → Type 0) (Wrong : Net → List Line → Line → ℕ → Type 0) (text : Bytes)
+    (form : (line number : ℕ) → BadLine Spells text line number → (2 ≤ number) × (number ≤ 9)) (reference : (n : Net) (front : List Line) (line : Line) (number : ℕ) → Wrong n front line number → 12 ≤ number) where
+  abbrev Refused : (line number : ℕ) → Type 0
+  Refused = Refuses Spells Roomy Right Wrong text
+
+  pub size-by : (line number : ℕ) → Refused line number → number ≡ 1 → (line ≡ 0) × (most < length text)
+  size-by line number (too-long h) e = (refl, h)
+  size-by line number (bad-line size b) e = let k = form line number b in absurd (omega arith)
+  size-by line number (unended size u) e = absurd (omega arith)
+  size-by line number (no-room n size h f) e = absurd (omega arith)
+  size-by line number (bad-reference n size h room f) e = let k = reference n (f .front) (f .line) number (f .fault) in absurd (omega arith)
+
+  pub line-by : (line number : ℕ) → Refused line number → 2 ≤ number → number ≤ 9 → BadLine Spells text line number
+  line-by line number (too-long h) low high = absurd (omega arith)
+  line-by line number (bad-line size b) low high = b
+  line-by line number (unended size u) low high = absurd (omega arith)
+  line-by line number (no-room n size h f) low high = absurd (omega arith)
+  line-by line number (bad-reference n size h room f) low high = let k = reference n (f .front) (f .line) number (f .fault) in absurd (omega arith)
+
+  pub end-by : (line number : ℕ) → Refused line number → number ≡ 10 → Unended Spells text line
+  end-by line number (too-long h) e = absurd (omega arith)
+  end-by line number (bad-line size b) e = let k = form line number b in absurd (omega arith)
+  end-by line number (unended size u) e = u
+  end-by line number (no-room n size h f) e = absurd (omega arith)
+  end-by line number (bad-reference n size h room f) e = let k = reference n (f .front) (f .line) number (f .fault) in absurd (omega arith)
+
+  pub room-by : (line number : ℕ) → Refused line number → number ≡ 11 → (line ≡ 0) × NoRoom Spells Roomy text
+  room-by line number (too-long h) e = absurd (omega arith)
+  room-by line number (bad-line size b) e = let k = form line number b in absurd (omega arith)
+  room-by line number (unended size u) e = absurd (omega arith)
+  room-by line number (no-room n size h f) e = (refl, record { net = n; spelled = h; none = f })
+  room-by line number (bad-reference n size h room f) e = let k = reference n (f .front) (f .line) number (f .fault) in absurd (omega arith)
+
+  pub reference-by : (line number : ℕ) → Refused line number → 12 ≤ number → WrongReference Spells Roomy Wrong text line number
+  reference-by line number (too-long h) low = absurd (omega arith)
+  reference-by line number (bad-line size b) low = let k = form line number b in absurd (omega arith)
+  reference-by line number (unended size u) low = absurd (omega arith)
+  reference-by line number (no-room n size h f) low = absurd (omega arith)
+  reference-by line number (bad-reference n size h room f) low = record { net = n; spelled = h; room = room; fault = f }
+
+-- ## A bad line: where lines are cut in two ways at the same place, they are the same
+same-place : (a a′ : List Bytes) (x x′ : Bytes) (rest rest′ : List Bytes) → a ++ (x ∷ rest) ≡ a′ ++ (x′ ∷ rest′) → length a ≡ length a′ → (a ≡ a′) × (x ≡ x′)
+same-place [] [] x x′ rest rest′ e k = (refl, head-eq-of-cons-eq e)
+same-place [] (b ∷ a′) x x′ rest rest′ e k = absurd (omega arith)
+same-place (b ∷ a) [] x x′ rest rest′ e k = absurd (omega arith)
+same-place (b ∷ a) (b′ ∷ a′) x x′ rest rest′ e k =
+    let k′ : length a ≡ length a′ = omega arith in
+    let p = same-place a a′ x x′ rest rest′ (tail-eq-of-cons-eq e) k′ in
+    (λ i. head-eq-of-cons-eq e i ∷ p .0 i, p .1)
+
+module _ {Net : Type 0} (Spells : Net → List Line → Type 0) where
+  pub refused-by : (text : Bytes) (line number : ℕ) → BadLine Spells text line number → (before : List Bytes) (this : Bytes) (rest : List Bytes) → Cut text (before ++ (this ∷ rest)) → line ≡ suc (length before)
+      → Begin Spells before → Hopeless Spells before this → RefusedLine Spells text line number
+  refused-by text line number b before this rest c i h g =
+      let j = b .at .number in
+      let k : length before ≡ length (b .at .before) = omega arith in
+      let p = same-place before (b .at .before) this (b .this) rest (b .at .rest) (cut-one c (b .at .cut)) k in
+      record {
+        front = b .front;
+        this = b .this;
+        at = b .at;
+        begins = subst (Begin Spells) (p .0) h;
+        hopeless = subst (Hopeless Spells (b .at .before)) (p .1) (subst (λ (lines : List Bytes). Hopeless Spells lines this) (p .0) g);
+        fault = b .fault;
+      }

@@ -1,0 +1,67 @@
+-- WHAT A READER MUST BELIEVE. What the refusal numbers tell of a text. Document 01, "Refusal numbers". Assumes nothing.
+use Rattle.terms.specs.Words.{_≡_, List, _∷_, _++_, _⊎_, ℕ, Bytes}
+use Rattle.line.specs.Line.{Cut, Field}
+use Rattle.law.specs.Network.{Network, Mission, Line, AnyOrder, SpellsNetwork, SpellsMission, SpellsText}
+use Rattle.law.specs.Tables.{Lent, MissionLent}
+use Rattle.law.specs.Faults.{LineAt, Fault, BadLine, Unended, FirstFault}
+use Rattle.reader.specs.declared.Refusal.{Refusal}
+use Rattle.reader.specs.Replies.{AcceptsRndf, RefusesRndf, RefusesMdf}
+
+-- how an RNDF is spelled, and an MDF
+abbrev pub Rndf : Network Field → List Line → Type 0
+Rndf = SpellsNetwork AnyOrder
+
+abbrev pub Mdf : Mission Field → List Line → Type 0
+Mdf = SpellsMission AnyOrder
+
+-- for the lines that spell a network, or a mission
+module _ {Net : Type 0} (Spells : Net → List Line → Type 0) where
+  -- 01: "'Well-formed' means spelled by the grammar, entries still as identifiers and 12 to 18 left aside"
+  abbrev pub WellFormed : Bytes → Type 0
+  WellFormed text = (n : Net) × SpellsText Spells n text
+
+  -- 01: "no fault of 2 to 10"
+  pub record NoFormFault (text : Bytes) : Type 0 where
+    pub no-bad-line : (line number : ℕ) → BadLine Spells text line number → ⊥
+    pub ended : (line : ℕ) → Unended Spells text line → ⊥
+
+  -- these are the first lines of some well-formed text
+  pub record Begin (lines : List Bytes) : Type 0 where
+    pub more : List Bytes
+    pub text : Bytes
+    pub cut : Cut text (lines ++ more)
+    pub formed : WellFormed text
+
+  -- no well-formed text has these lines first and then this one
+  abbrev pub Hopeless : List Bytes → Bytes → Type 0
+  Hopeless lines this = (more : List Bytes) (text : Bytes) → Cut text (lines ++ (this ∷ more)) → WellFormed text → ⊥
+
+  -- 2 to 9: the lines before this one begin some well-formed text, none begins with them and it, and it has the fault with this number
+  pub record RefusedLine (text : Bytes) (line number : ℕ) : Type 0 where
+    pub front : List Line
+    pub this : Bytes
+    pub at : LineAt text line front this
+    pub begins : Begin (at .before)
+    pub hopeless : Hopeless (at .before) this
+    pub fault : Fault Spells front this number
+
+  -- 11: the text is well-formed, and there is no room for the rows of what it spells
+  pub record NoRoom (Roomy : Net → Type 0) (text : Bytes) : Type 0 where
+    pub net : Net
+    pub spelled : SpellsText Spells net text
+    pub none : Roomy net → ⊥
+
+  -- 12 to 18: the text is well-formed, there is room, and this is the first line with a wrong reference
+  pub record WrongReference (Roomy : Net → Type 0) (Wrong : Net → List Line → Line → ℕ → Type 0) (text : Bytes) (line number : ℕ) : Type 0 where
+    pub net : Net
+    pub spelled : SpellsText Spells net text
+    pub room : Roomy net
+    pub fault : FirstFault Spells (Wrong net) text line number
+
+-- 01: "Each gives file (1 RNDF, 2 MDF)": this holds of the RNDF, or that of the MDF, as the refusal says
+abbrev pub OfFile : Refusal → (Rndf Mdf : Type 0) → Type 0
+OfFile x Rndf Mdf = ((x .file ≡ 1) × Rndf) ⊎ ((x .file ≡ 2) × Mdf)
+
+-- 01: "Order: for the RNDF ..; Then the MDF likewise": why a pair is refused so: the RNDF's first refusal, else the MDF's for the network that the RNDF spells
+abbrev pub PairRefuses : (rndf mdf : Bytes) → Lent → MissionLent → Refusal → Type 0
+PairRefuses rndf mdf t u x = OfFile x (RefusesRndf rndf t (x .line) (x .number)) ((n : Network Field) × AcceptsRndf rndf t n × RefusesMdf n mdf u (x .line) (x .number))

@@ -1,0 +1,30 @@
+-- `word::eight` meets its contract. Assumes nothing.
+use native.Mathlib.Omega.{arith}
+use Rattle.word.proofs.Packed.{packed-eight}
+use borrow.Author.Needs.{needs}
+use Rattle.word.proofs.eight.Statement.{statement}
+use Rattle.word.proofs.eight.Tie as tie
+
+four-requires : tie.Need-four-requires
+four-requires c κs = search needs
+
+add-four : tie.Need-add-four
+add-four c = search needs
+
+four-requires-2 : tie.Need-four-requires-2
+four-requires-2 c κs = search needs
+
+mul-result : tie.Need-mul-result
+mul-result c = search needs
+
+add-result : tie.Need-add-result
+add-result c = search needs
+
+returns : tie.Need-returns
+returns c =
+    let a = c .before .before .before .args in
+    rw (c .before .four .ensures .0, c .four2 .ensures .0) (packed-eight (a .s .now) (a .i) (omega arith))
+
+pub eight-spec : {M : Type 1} → statement M
+eight-spec =
+    tie.close (tie.spec four-requires add-four four-requires-2 mul-result add-result returns)
