@@ -1,0 +1,4 @@
+-- Laws for the proofs of this crate (Others, Cases), and sentences letter by letter (Examples).
+mod Others
+mod Cases
+mod Examples

@@ -1,0 +1,37 @@
+-- WHAT A READER MUST BELIEVE. The words of each refusal number: those of README.md's table. Assumes nothing.
+use mathlib.Core.List.{List, [], _∷_}
+use Prim.Native.Nat.{ℕ}
+use lib.ListN.{getD}
+use Rattle.terms.specs.Ascii.{Bytes, ascii}
+
+-- no reply has such a number
+abbrev pub no-reason : Bytes
+no-reason = ascii "no such refusal"
+
+-- 01, "Refusal numbers": from 0, which none has, to 19
+unfoldable pub reasons : List Bytes
+reasons =
+    no-reason
+    ∷ ascii "the text is over 16,777,215 bytes"
+    ∷ ascii "the line is over 512 bytes"
+    ∷ ascii "the comment is not closed, or something other than tabs follows it"
+    ∷ ascii "a byte that is not allowed"
+    ∷ ascii "unknown statement, or one that may not stand here (also too few or too many items)"
+    ∷ ascii "a single option given again"
+    ∷ ascii "wrong number of fields"
+    ∷ ascii "a field is not of its kind: spelling, length of a name, boundary word"
+    ∷ ascii "a value that is not permitted here: range, not the due identifier, a point of another part, minimum above maximum"
+    ∷ ascii "the text ends before `end_file`"
+    ∷ ascii "a table has fewer rows than needed"
+    ∷ ascii "the entry is no declared lane waypoint or perimeter point"
+    ∷ ascii "the checkpoint number is already declared"
+    ∷ ascii "the MDF names another RNDF"
+    ∷ ascii "the goal is no checkpoint of the RNDF"
+    ∷ ascii "the limit's id is not in the RNDF"
+    ∷ ascii "the limit's id was already given"
+    ∷ ascii "some segment or zone has no limit"
+    ∷ ascii "the house writing is over 16,777,215 bytes, or longer than the lent output"
+    ∷ []
+
+unfoldable pub reason : ℕ → Bytes
+reason number = getD reasons number no-reason

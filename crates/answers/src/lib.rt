@@ -1,0 +1,203 @@
+// The readers' replies in plain words, one sentence each: `network.rndf, line 9: the entry is no declared lane waypoint or perimeter point (12)`, or
+// the rows used. What is put are the definitions of specs/ (Reasons: the words of each refusal number; Answers: the sentences), for every name and
+// every reply; nothing is required. Rests on `output` (each put ensures `Wrote`) and `reader` (the replies).
+use mission_reader::MissionCounts;
+use network_reader::Counts;
+use output::put_byte;
+use output::put_bytes;
+use output::put_integer;
+use reader::PairReply;
+use reader::Refusal;
+use reader::RndfReply;
+ghost use mathlib.Core.List.{_++_};
+ghost use Rattle.terms.specs.Ascii.{ascii};
+ghost use Rattle.output.specs.Pen.{pen, Wrote};
+ghost use Rattle.answers.specs.Reasons.{reason};
+ghost use Rattle.answers.specs.Answers.{at-line, sentence, refused, counted, next, network-counts, mission-counts, rndf-answer, pair-answer};
+
+// ## Refusals
+
+// THE TABLE of reasons. README.md's table of refusal numbers has the same words (tests/reasons.py).
+pub fn put_reason(out: &mut [u8], at: usize, number: u8) -> usize
+    ensures { λ r. ⌜ Wrote (pen (now (out .entry)) at) (reason number) (pen (now (out .exit)) r) ⌝ }
+{
+    match number {
+        1 => put_bytes(out, at, b"the text is over 16,777,215 bytes"),
+        2 => put_bytes(out, at, b"the line is over 512 bytes"),
+        3 => put_bytes(
+            out,
+            at,
+            b"the comment is not closed, or something other than tabs follows it",
+        ),
+        4 => put_bytes(out, at, b"a byte that is not allowed"),
+        5 => put_bytes(
+            out,
+            at,
+            b"unknown statement, or one that may not stand here (also too few or too many items)",
+        ),
+        6 => put_bytes(out, at, b"a single option given again"),
+        7 => put_bytes(out, at, b"wrong number of fields"),
+        8 => put_bytes(
+            out,
+            at,
+            b"a field is not of its kind: spelling, length of a name, boundary word",
+        ),
+        9 => put_bytes(
+            out,
+            at,
+            b"a value that is not permitted here: range, not the due identifier, a point of another part, minimum above maximum",
+        ),
+        10 => put_bytes(out, at, b"the text ends before `end_file`"),
+        11 => put_bytes(out, at, b"a table has fewer rows than needed"),
+        12 => put_bytes(
+            out,
+            at,
+            b"the entry is no declared lane waypoint or perimeter point",
+        ),
+        13 => put_bytes(out, at, b"the checkpoint number is already declared"),
+        14 => put_bytes(out, at, b"the MDF names another RNDF"),
+        15 => put_bytes(out, at, b"the goal is no checkpoint of the RNDF"),
+        16 => put_bytes(out, at, b"the limit's id is not in the RNDF"),
+        17 => put_bytes(out, at, b"the limit's id was already given"),
+        18 => put_bytes(out, at, b"some segment or zone has no limit"),
+        19 => put_bytes(
+            out,
+            at,
+            b"the house writing is over 16,777,215 bytes, or longer than the lent output",
+        ),
+        _ => put_bytes(out, at, b"no such refusal"),
+    }
+}
+
+// `, line 9`, and nothing for line 0.
+fn put_at_line(out: &mut [u8], at: usize, line: u32) -> usize
+    ensures { λ r. ⌜ Wrote (pen (now (out .entry)) at) (at-line line) (pen (now (out .exit)) r) ⌝ }
+{
+    if line == 0 {
+        return at;
+    }
+    let a = put_bytes(out, at, b", line ");
+    put_integer(out, a, line)
+}
+
+// The sentence of a refusal: the file's name, the line, the reason and the number.
+pub fn put_sentence(out: &mut [u8], at: usize, name: &[u8], line: u32, number: u8) -> usize
+    ensures { λ r. ⌜ Wrote (pen (now (out .entry)) at) (sentence (now (name .entry)) line number) (pen (now (out .exit)) r) ⌝ }
+{
+    let a = put_bytes(out, at, name);
+    let b = put_at_line(out, a, line);
+    let c = put_bytes(out, b, b": ");
+    let d = put_reason(out, c, number);
+    let e = put_bytes(out, d, b" (");
+    let f = put_integer(out, e, number as u32);
+    put_bytes(out, f, b")\n")
+}
+
+// The sentence of a pair's refusal, with the name of the file that it is about.
+fn put_refused(out: &mut [u8], at: usize, rndf: &[u8], mdf: &[u8], why: Refusal) -> usize
+    ensures { λ r. ⌜ Wrote (pen (now (out .entry)) at) (refused (now (rndf .entry)) (now (mdf .entry)) why) (pen (now (out .exit)) r) ⌝ }
+{
+    if why.file == 1 {
+        return put_sentence(out, at, rndf, why.line, why.number);
+    }
+    put_sentence(out, at, mdf, why.line, why.number)
+}
+
+// ## Rows used
+
+// `1 lane`, `2 lanes`
+fn put_counted(out: &mut [u8], at: usize, n: u32, word: &[u8]) -> usize
+    ensures { λ r. ⌜ Wrote (pen (now (out .entry)) at) (counted n (now (word .entry))) (pen (now (out .exit)) r) ⌝ }
+{
+    let a = put_integer(out, at, n);
+    let b = put_byte(out, a, b' ');
+    let c = put_bytes(out, b, word);
+    if n == 1 {
+        return c;
+    }
+    put_byte(out, c, b's')
+}
+
+// `, 2 lanes`
+fn put_next(out: &mut [u8], at: usize, n: u32, word: &[u8]) -> usize
+    ensures { λ r. ⌜ Wrote (pen (now (out .entry)) at) (next n (now (word .entry))) (pen (now (out .exit)) r) ⌝ }
+{
+    let a = put_bytes(out, at, b", ");
+    put_counted(out, a, n, word)
+}
+
+fn put_network_counts(out: &mut [u8], at: usize, c: Counts) -> usize
+    ensures { λ r. ⌜ Wrote (pen (now (out .entry)) at) (network-counts c) (pen (now (out .exit)) r) ⌝ }
+{
+    let a = put_counted(out, at, c.segments, b"segment");
+    let b = put_next(out, a, c.zones, b"zone");
+    let d = put_next(out, b, c.lanes, b"lane");
+    let e = put_next(out, d, c.points, b"point");
+    let f = put_next(out, e, c.spots, b"spot");
+    let g = put_next(out, f, c.checkpoints, b"checkpoint");
+    let h = put_next(out, g, c.stops, b"stop");
+    put_next(out, h, c.exits, b"exit")
+}
+
+fn put_mission_counts(out: &mut [u8], at: usize, m: MissionCounts) -> usize
+    ensures { λ r. ⌜ Wrote (pen (now (out .entry)) at) (mission-counts m) (pen (now (out .exit)) r) ⌝ }
+{
+    let a = put_next(out, at, m.goals, b"goal");
+    put_next(out, a, m.limits, b"speed limit")
+}
+
+// ## Replies
+
+fn put_rndf_accepted(out: &mut [u8], at: usize, name: &[u8], c: Counts) -> usize
+    ensures { λ r. ⌜ Wrote (pen (now (out .entry)) at) (now (name .entry) ++ ascii ": accepted; " ++ network-counts c ++ ascii "\n") (pen (now (out .exit)) r) ⌝ }
+{
+    let a = put_bytes(out, at, name);
+    let b = put_bytes(out, a, b": accepted; ");
+    let d = put_network_counts(out, b, c);
+    put_byte(out, d, b'\n')
+}
+
+// What an RNDF of this name gets.
+pub fn put_rndf_answer(out: &mut [u8], at: usize, name: &[u8], reply: RndfReply) -> usize
+    ensures { λ r. ⌜ Wrote (pen (now (out .entry)) at) (rndf-answer (now (name .entry)) reply) (pen (now (out .exit)) r) ⌝ }
+{
+    match reply {
+        RndfReply::Accepted(c, _) => put_rndf_accepted(out, at, name, c),
+        RndfReply::Refused(why) => put_sentence(out, at, name, why.line, why.number),
+    }
+}
+
+fn put_pair_accepted(
+    out: &mut [u8],
+    at: usize,
+    rndf: &[u8],
+    mdf: &[u8],
+    c: Counts,
+    m: MissionCounts,
+) -> usize
+    ensures { λ r. ⌜ Wrote (pen (now (out .entry)) at) (now (rndf .entry) ++ ascii " with " ++ now (mdf .entry) ++ ascii ": accepted; " ++ network-counts c ++ mission-counts m ++ ascii "\n") (pen (now (out .exit)) r) ⌝ }
+{
+    let a = put_bytes(out, at, rndf);
+    let b = put_bytes(out, a, b" with ");
+    let d = put_bytes(out, b, mdf);
+    let e = put_bytes(out, d, b": accepted; ");
+    let f = put_network_counts(out, e, c);
+    let g = put_mission_counts(out, f, m);
+    put_byte(out, g, b'\n')
+}
+
+// What an RNDF and an MDF of these names get.
+pub fn put_pair_answer(
+    out: &mut [u8],
+    at: usize,
+    rndf: &[u8],
+    mdf: &[u8],
+    reply: PairReply,
+) -> usize
+    ensures { λ r. ⌜ Wrote (pen (now (out .entry)) at) (pair-answer (now (rndf .entry)) (now (mdf .entry)) reply) (pen (now (out .exit)) r) ⌝ }
+{
+    match reply {
+        PairReply::Accepted(c, _, m, _) => put_pair_accepted(out, at, rndf, mdf, c, m),
+        PairReply::Refused(why) => put_refused(out, at, rndf, mdf, why),
+    }
+}

@@ -1,0 +1,12 @@
+-- What is taken from the readers' contracts.
+pub mod Replied
+-- The contracts over statements, and over lines.
+pub mod Lawful
+-- What the program does, as the contracts say it.
+pub mod Steps
+-- The contracts settle everything, and ask for nothing that cannot be.
+pub mod SettledByStatements
+pub mod MdfSettledByStatements
+pub mod Settled
+-- The return trip.
+pub mod Returns

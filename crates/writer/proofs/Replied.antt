@@ -1,0 +1,124 @@
+-- All that the writers take from the readers' contracts: what an accepted text spells and how many rows it has, that a refusal leaves zeros, that the reply and the tables are settled, and what is accepted. Assumes nothing.
+use mathlib.Core.Path.{_≡_, refl, sym, ap}
+use Prim.Native.Nat.{ℕ}
+use native.Mathlib.Omega.{arith}
+use Rattle.terms.specs.Ascii.{Bytes}
+use Rattle.line.specs.Content.{Field}
+use Rattle.grammar.specs.Network.{Network}
+use Rattle.grammar.specs.Mission.{Mission}
+use Rattle.grammar.specs.Tables.{tables, mission-tables}
+use Rattle.text.specs.Spelling.{SpellsRndf, SpellsMdf}
+use Rattle.fill.specs.Counts.{sizes}
+use Rattle.rows.specs.declared.FileRow.{FileRow}
+use Rattle.rows.specs.declared.MissionFileRow.{MissionFileRow}
+use Rattle.table_words.specs.Words.{Lent, MissionLent, zeros, mission-zeros, network-filled, mission-filled}
+use Rattle.table_words.specs.FileRows.{network-file, mission-file}
+use Rattle.network_reader.specs.declared.Counts.{Counts}
+use Rattle.mission_reader.specs.declared.MissionCounts.{MissionCounts}
+use Rattle.network_reader.specs.Replies.{rows-used, AcceptsRndf}
+use Rattle.mission_reader.specs.MissionReplies.{AcceptsMdf}
+use Rattle.mission_reader.specs.MissionReplies as M
+use Rattle.reader.specs.declared.Refusal.{Refusal}
+use Rattle.reader.specs.declared.RndfReply.{RndfReply}
+use Rattle.reader.specs.declared.PairReply.{PairReply}
+use Rattle.reader.specs.declared.RndfReply.the-variants as Reply
+use Rattle.reader.specs.declared.PairReply.the-variants as Pair
+use Rattle.reader.specs.Replies.{ReadsRndf, ReadsPair}
+use Rattle.reader.specs.ByStatements as R
+use Rattle.reader.proofs.Lawful.{rndf-reads-to, rndf-reads-back, pair-reads-to, pair-reads-back}
+pub use Rattle.text.proofs.Theorems.{one-rndf, one-mdf}
+pub use Rattle.reader.proofs.Settled.{rndf-settled, rndf-some, pair-settled, pair-some}
+
+-- ## No reply is both
+module _ {c : Counts} {file : FileRow} {why : Refusal} where
+  pub never-both : Reply.Accepted c file ≡ Reply.Refused why → ⊥
+  never-both e = let z : _≡_ {A = ℕ} 0 1 = cc in omega arith
+
+module _ {c : Counts} {file : FileRow} {d : MissionCounts} {row : MissionFileRow} {why : Refusal} where
+  pub pair-never-both : Pair.Accepted c file d row ≡ Pair.Refused why → ⊥
+  pair-never-both e = let z : _≡_ {A = ℕ} 0 1 = cc in omega arith
+
+-- ## What a reply says; a refusal says what is given
+abbrev pub counts-of : Counts → RndfReply → Counts
+counts-of none (Reply.Accepted c file) = c
+counts-of none (Reply.Refused why) = none
+
+abbrev pub pair-counts-of : Counts → PairReply → Counts
+pair-counts-of none (Pair.Accepted c file d row) = c
+pair-counts-of none (Pair.Refused why) = none
+
+abbrev pub mission-counts-of : MissionCounts → PairReply → MissionCounts
+mission-counts-of none (Pair.Accepted c file d row) = d
+mission-counts-of none (Pair.Refused why) = none
+
+-- ## An RNDF alone
+-- the network that was accepted, with its rows
+pub record Taken (text : Bytes) (t : Lent) (c : Counts) : Type 0 where
+  pub net : Network Field
+  pub accepts : AcceptsRndf text t net
+  pub counted : c ≡ rows-used (sizes (tables net))
+
+module _ (text : Bytes) (t left : Lent) where
+  pub accepted-spells : (c : Counts) (file : FileRow) → ReadsRndf text t (Reply.Accepted c file) left → (n : Network Field) × SpellsRndf n text
+  accepted-spells c file h = go (rndf-reads-back text t (Reply.Accepted c file) left h)
+    where
+      go : R.ReadsRndf text t (Reply.Accepted c file) left → (n : Network Field) × SpellsRndf n text
+      go (R.accepted n a e k) = (n, a .spelled)
+      go (R.refused line number a e k) = absurd (never-both e)
+
+  pub taken : (c : Counts) (file : FileRow) → ReadsRndf text t (Reply.Accepted c file) left → Taken text t c
+  taken c file h = go (rndf-reads-back text t (Reply.Accepted c file) left h)
+    where
+      go : R.ReadsRndf text t (Reply.Accepted c file) left → Taken text t c
+      go (R.accepted n a e k) = record { net = n; accepts = a; counted = ap (counts-of c) e }
+      go (R.refused line number a e k) = absurd (never-both e)
+
+  pub replies-so : (n : Network Field) (reply : RndfReply) → AcceptsRndf text t n → ReadsRndf text t reply left → reply ≡ Reply.Accepted (rows-used (sizes (tables n))) (network-file n)
+  replies-so n reply a h = rndf-settled text t reply (Reply.Accepted (rows-used (sizes (tables n))) (network-file n)) left (network-filled n t) h (rndf-reads-to text t (Reply.Accepted (rows-used (sizes (tables n))) (network-file n)) (network-filled n t) (R.accepted n a refl refl)) .0
+
+  pub refused-zero : (why : Refusal) → ReadsRndf text t (Reply.Refused why) left → left ≡ zeros t
+  refused-zero why h = go (rndf-reads-back text t (Reply.Refused why) left h)
+    where
+      go : R.ReadsRndf text t (Reply.Refused why) left → left ≡ zeros t
+      go (R.accepted n a e k) = absurd (never-both (sym e))
+      go (R.refused line number a e k) = k
+
+-- ## An RNDF with its MDF
+pub record PairTaken (rndf mdf : Bytes) (t : Lent) (u : MissionLent) (c : Counts) (d : MissionCounts) : Type 0 where
+  pub net : Network Field
+  pub mission : Mission Field
+  pub accepts : AcceptsRndf rndf t net
+  pub takes : AcceptsMdf net mdf u mission
+  pub counted : c ≡ rows-used (sizes (tables net))
+  pub mission-counted : d ≡ M.rows-used mission
+
+module _ (rndf mdf : Bytes) (t left : Lent) (u mission-left : MissionLent) where
+  pub pair-spells : (c : Counts) (file : FileRow) (d : MissionCounts) (row : MissionFileRow) → ReadsPair rndf mdf t u (Pair.Accepted c file d row) left mission-left → (m : Mission Field) × SpellsMdf m mdf
+  pair-spells c file d row h = go (pair-reads-back rndf mdf t u (Pair.Accepted c file d row) left mission-left h)
+    where
+      go : R.ReadsPair rndf mdf t u (Pair.Accepted c file d row) left mission-left → (m : Mission Field) × SpellsMdf m mdf
+      go (R.accepted n m a b e k j) = (m, b .spelled)
+      go (R.rndf-refused line number a e k j) = absurd (pair-never-both e)
+      go (R.mdf-refused n line number a b e k j) = absurd (pair-never-both e)
+
+  pub pair-taken : (c : Counts) (file : FileRow) (d : MissionCounts) (row : MissionFileRow) → ReadsPair rndf mdf t u (Pair.Accepted c file d row) left mission-left → PairTaken rndf mdf t u c d
+  pair-taken c file d row h = go (pair-reads-back rndf mdf t u (Pair.Accepted c file d row) left mission-left h)
+    where
+      go : R.ReadsPair rndf mdf t u (Pair.Accepted c file d row) left mission-left → PairTaken rndf mdf t u c d
+      go (R.accepted n m a b e k j) = record { net = n; mission = m; accepts = a; takes = b; counted = ap (pair-counts-of c) e; mission-counted = ap (mission-counts-of d) e }
+      go (R.rndf-refused line number a e k j) = absurd (pair-never-both e)
+      go (R.mdf-refused n line number a b e k j) = absurd (pair-never-both e)
+
+  pub pair-replies-so : (n : Network Field) (m : Mission Field) (reply : PairReply) → AcceptsRndf rndf t n → AcceptsMdf n mdf u m → ReadsPair rndf mdf t u reply left mission-left
+      → reply ≡ Pair.Accepted (rows-used (sizes (tables n))) (network-file n) (M.rows-used m) (mission-file m)
+  pair-replies-so n m reply a b h =
+      pair-settled rndf mdf t u reply (Pair.Accepted (rows-used (sizes (tables n))) (network-file n) (M.rows-used m) (mission-file m)) left (network-filled n t) mission-left (mission-filled (mission-tables m) u) h
+      (pair-reads-to rndf mdf t u (Pair.Accepted (rows-used (sizes (tables n))) (network-file n) (M.rows-used m) (mission-file m)) (network-filled n t) (mission-filled (mission-tables m) u) (R.accepted n m a b refl refl refl)) .0
+
+  pub pair-refused-zero : (why : Refusal) → ReadsPair rndf mdf t u (Pair.Refused why) left mission-left → (left ≡ zeros t) × (mission-left ≡ mission-zeros u)
+  pair-refused-zero why h = go (pair-reads-back rndf mdf t u (Pair.Refused why) left mission-left h)
+    where
+      go : R.ReadsPair rndf mdf t u (Pair.Refused why) left mission-left → (left ≡ zeros t) × (mission-left ≡ mission-zeros u)
+      go (R.accepted n m a b e k j) = absurd (pair-never-both (sym e))
+      go (R.rndf-refused line number a e k j) = (k, j)
+      go (R.mdf-refused n line number a b e k j) = (k, j)

@@ -1,0 +1,30 @@
+-- What is answered, and what the output holds, once the reader replied and the bytes x went to an output of `lent` bytes where it accepted. The contracts of inner functions cite it. Assumes nothing.
+use mathlib.Core.Path.{_≡_}
+use Prim.Native.Nat.{ℕ}
+use lib.ListN.{length}
+use Rattle.terms.specs.Ascii.{Bytes}
+use Rattle.rows.specs.declared.FileRow.{FileRow}
+use Rattle.rows.specs.declared.MissionFileRow.{MissionFileRow}
+use Rattle.network_reader.specs.declared.Counts.{Counts}
+use Rattle.mission_reader.specs.declared.MissionCounts.{MissionCounts}
+use Rattle.reader.specs.declared.Refusal.{Refusal}
+use Rattle.reader.specs.declared.RndfReply.{RndfReply}
+use Rattle.reader.specs.declared.RndfReply.the-variants as Reply
+use Rattle.reader.specs.declared.PairReply.{PairReply}
+use Rattle.reader.specs.declared.PairReply.the-variants as Pair
+use Rattle.reader.specs.Replies.{refusal}
+use Rattle.output.specs.Output.{zeros, Fits, filled}
+use Rattle.writer.specs.declared.WriteReply.{WriteReply}
+use Rattle.writer.specs.declared.WriteReply.the-variants as Write
+use Rattle.writer.specs.declared.WriteMdfReply.{WriteMdfReply}
+use Rattle.writer.specs.declared.WriteMdfReply.the-variants as WriteMdf
+
+pub data Answers (read : RndfReply) (lent : ℕ) (x out : Bytes) (answer : WriteReply) : Type 0 where
+  as-read : (why : Refusal) → read ≡ Reply.Refused why → answer ≡ Write.Refused why → out ≡ zeros lent → Answers read lent x out answer
+  over : (c : Counts) (file : FileRow) → read ≡ Reply.Accepted c file → (Fits lent x → ⊥) → answer ≡ Write.Refused (refusal 1 0 19) → out ≡ zeros lent → Answers read lent x out answer
+  put : (c : Counts) (file : FileRow) → read ≡ Reply.Accepted c file → Fits lent x → answer ≡ Write.Written c file (length x) → out ≡ filled lent x → Answers read lent x out answer
+
+pub data AnswersMdf (read : PairReply) (lent : ℕ) (x out : Bytes) (answer : WriteMdfReply) : Type 0 where
+  as-read : (why : Refusal) → read ≡ Pair.Refused why → answer ≡ WriteMdf.Refused why → out ≡ zeros lent → AnswersMdf read lent x out answer
+  over : (c : Counts) (file : FileRow) (d : MissionCounts) (row : MissionFileRow) → read ≡ Pair.Accepted c file d row → (Fits lent x → ⊥) → answer ≡ WriteMdf.Refused (refusal 2 0 19) → out ≡ zeros lent → AnswersMdf read lent x out answer
+  put : (c : Counts) (file : FileRow) (d : MissionCounts) (row : MissionFileRow) → read ≡ Pair.Accepted c file d row → Fits lent x → answer ≡ WriteMdf.Written c file d row (length x) → out ≡ filled lent x → AnswersMdf read lent x out answer

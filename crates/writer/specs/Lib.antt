@@ -1,0 +1,6 @@
+-- The writers.
+pub mod Writes
+pub mod ByStatements
+pub mod Answers
+-- The return trip.
+pub mod ReadBack

@@ -1,0 +1,2 @@
+-- What the contracts of this program say of refused texts.
+pub mod Told

@@ -1,0 +1,2 @@
+-- What the planners' program puts out.
+pub mod Tells

@@ -1,0 +1,293 @@
+// The planners' program: `yard_check RNDF`, or `yard_check RNDF MDF`, names of files. It answers in one sentence on standard output: what is wrong, with the
+// file's name, the line, the reason and its number, or the rows used; or why a file could not be checked. `run-check` builds and runs it, and adds a status.
+//
+// Proved is what goes into the output: the sentence (crate `answers`) of what the readers (crate `reader`) reply to these bytes, specs/Tells. That the
+// bytes are the file's, and that the output is what is printed, no contract can say.
+//
+// Memory: there is no heap, a program can't raise its stack, and the usual stack has 8 MiB. So a text may have 1,048,576 bytes, and every table has the
+// rows that a text of so many bytes can fill: 11 never comes of it. A larger file is too big for this program; of an RNDF over 16,777,215 bytes the
+// readers' answer is known without them: 1. (An MDF's 1 would come behind everything about the RNDF.)
+use answers::put_pair_answer;
+use answers::put_rndf_answer;
+use answers::put_sentence;
+use libc::STDOUT_FILENO;
+use reader::read_pair;
+use reader::read_rndf;
+ghost use Rattle.law.specs.Tables.{lent, mission-lent};
+ghost use Rattle.yard_check.specs.Tells.{TellsRndf, TellsPair};
+
+const MOST_BYTES: usize = 1048576;
+
+// The longest name that a system opens.
+const MOST_NAME: usize = 4095;
+
+// Room for two names (8,190 bytes) and ten counts with their words, or one name and a reason.
+const MOST_ANSWER: usize = 8704;
+
+// The words of each table: so many to a row, and as many rows as the shortest lines that give one leave room for, with their LFs. The shortest point
+// has 24 bytes (`1.1.1 0.000000 0.000000`), a lane around it 58, a segment around that 92, a zone with one point 102, a spot 66;
+// `checkpoint 1.1.1 1` has 19, `stop 1.1.1` 11, `exit 1.1.1 1.1.1` 17. An MDF declares at most 32,768 goals and as many limits.
+const SEGMENT_WORDS: usize = 4 * (MOST_BYTES / 92 + 1);
+
+const LANE_WORDS: usize = 5 * (MOST_BYTES / 58 + 1);
+
+const ZONE_WORDS: usize = 6 * (MOST_BYTES / 102 + 1);
+
+const SPOT_WORDS: usize = 2 * (MOST_BYTES / 66 + 1);
+
+const POINT_WORDS: usize = 2 * (MOST_BYTES / 24 + 1);
+
+const CHECKPOINT_WORDS: usize = 2 * (MOST_BYTES / 19 + 1);
+
+const STOP_WORDS: usize = MOST_BYTES / 11 + 1;
+
+const EXIT_WORDS: usize = 2 * (MOST_BYTES / 17 + 1);
+
+const GOAL_WORDS: usize = 32768;
+
+const LIMIT_WORDS: usize = 3 * 32768;
+
+// ## What is told of texts
+
+// An RNDF alone.
+fn tell_rndf(
+    out: &mut [u8],
+    name: &[u8],
+    text: &[u8],
+    segments: &mut [u32],
+    lanes: &mut [u32],
+    zones: &mut [u32],
+    spots: &mut [u32],
+    points: &mut [i32],
+    checkpoints: &mut [u32],
+    stops: &mut [u32],
+    exits: &mut [u32],
+) -> usize
+    ensures { λ r. ⌜ TellsRndf (now (name .entry)) (now (text .entry)) (lent (now (segments .entry)) (now (lanes .entry)) (now (zones .entry)) (now (spots .entry)) (now (points .entry)) (now (checkpoints .entry)) (now (stops .entry)) (now (exits .entry))) (lent (now (segments .exit)) (now (lanes .exit)) (now (zones .exit)) (now (spots .exit)) (now (points .exit)) (now (checkpoints .exit)) (now (stops .exit)) (now (exits .exit))) (now (out .entry)) (now (out .exit)) r ⌝ }
+{
+    let reply = read_rndf(
+        text,
+        segments,
+        lanes,
+        zones,
+        spots,
+        points,
+        checkpoints,
+        stops,
+        exits,
+    );
+    put_rndf_answer(out, 0, name, reply)
+}
+
+// An RNDF with its MDF.
+fn tell_pair(
+    out: &mut [u8],
+    rndf_name: &[u8],
+    mdf_name: &[u8],
+    rndf: &[u8],
+    mdf: &[u8],
+    segments: &mut [u32],
+    lanes: &mut [u32],
+    zones: &mut [u32],
+    spots: &mut [u32],
+    points: &mut [i32],
+    checkpoints: &mut [u32],
+    stops: &mut [u32],
+    exits: &mut [u32],
+    goals: &mut [u32],
+    limits: &mut [u32],
+) -> usize
+    ensures { λ r. ⌜ TellsPair (now («rndf_name» .entry)) (now («mdf_name» .entry)) (now (rndf .entry)) (now (mdf .entry)) (lent (now (segments .entry)) (now (lanes .entry)) (now (zones .entry)) (now (spots .entry)) (now (points .entry)) (now (checkpoints .entry)) (now (stops .entry)) (now (exits .entry))) (mission-lent (now (goals .entry)) (now (limits .entry))) (lent (now (segments .exit)) (now (lanes .exit)) (now (zones .exit)) (now (spots .exit)) (now (points .exit)) (now (checkpoints .exit)) (now (stops .exit)) (now (exits .exit))) (mission-lent (now (goals .exit)) (now (limits .exit))) (now (out .entry)) (now (out .exit)) r ⌝ }
+{
+    let reply = read_pair(
+        rndf,
+        mdf,
+        segments,
+        lanes,
+        zones,
+        spots,
+        points,
+        checkpoints,
+        stops,
+        exits,
+        goals,
+        limits,
+    );
+    put_pair_answer(out, 0, rndf_name, mdf_name, reply)
+}
+
+// ## Files
+
+// What came of a file: so many bytes of it, or why there are none.
+enum Loaded {
+    Bytes(usize),
+    NotAsked,
+    OverLimit,
+    TooBig,
+    Unreadable,
+}
+
+fn say(s: &[u8]) {
+    io::write_all(STDOUT_FILENO, s);
+}
+
+// The first n bytes, or all of them.
+fn first(s: &[u8], n: usize) -> &[u8] {
+    if n < s.len() { &s[..n] } else { s }
+}
+
+// Fills the lent text from an open file. A byte that is left over behind a full text makes it too big; where the file ends tells whether it is over
+// the readers' limit too (of a pipe that is not told).
+fn load_open(fd: i32, text: &mut [u8]) -> Loaded {
+    let n = io::read_full(fd, text);
+    let mut more = [0u8; 1];
+    let got = libc::read(fd, &mut more);
+    if got < 0 {
+        return Loaded::Unreadable;
+    }
+    if got == 0 {
+        return Loaded::Bytes(n);
+    }
+    if libc::lseek(fd, 0, libc::SEEK_END) > 16777215 {
+        Loaded::OverLimit
+    } else {
+        Loaded::TooBig
+    }
+}
+
+fn load(path: &[u8], text: &mut [u8]) -> Loaded {
+    let fd = os::open_read(path);
+    if fd < 0 {
+        return Loaded::Unreadable;
+    }
+    let loaded = load_open(fd, text);
+    libc::close(fd);
+    loaded
+}
+
+fn say_too_big(name: &[u8]) {
+    say(name);
+    say(b": the file is too big for this check, which takes up to 1,048,576 bytes\n");
+}
+
+fn say_unreadable(name: &[u8]) {
+    say(name);
+    say(b": the file can't be read\n");
+}
+
+fn say_over_limit(name: &[u8]) {
+    let mut out = [0u8; MOST_ANSWER];
+    let n = put_sentence(&mut out, 0, name, 0, 1);
+    say(first(&out, n));
+}
+
+// ## What is asked
+
+// The MDF, if it is asked for.
+fn load_asked(asked: bool, path: &[u8], text: &mut [u8]) -> Loaded {
+    if asked {
+        return load(path, text);
+    }
+    Loaded::NotAsked
+}
+
+// The RNDF's text, the MDF's room, and what came of the MDF.
+fn judge(rndf_name: &[u8], mdf_name: &[u8], rndf: &[u8], mdf: &[u8], loaded: Loaded) {
+    let mut segments = [0u32; SEGMENT_WORDS];
+    let mut lanes = [0u32; LANE_WORDS];
+    let mut zones = [0u32; ZONE_WORDS];
+    let mut spots = [0u32; SPOT_WORDS];
+    let mut points = [0i32; POINT_WORDS];
+    let mut checkpoints = [0u32; CHECKPOINT_WORDS];
+    let mut stops = [0u32; STOP_WORDS];
+    let mut exits = [0u32; EXIT_WORDS];
+    let mut goals = [0u32; GOAL_WORDS];
+    let mut limits = [0u32; LIMIT_WORDS];
+    let mut out = [0u8; MOST_ANSWER];
+    match loaded {
+        Loaded::Bytes(n) => {
+            let told = tell_pair(
+                &mut out,
+                rndf_name,
+                mdf_name,
+                rndf,
+                first(mdf, n),
+                &mut segments,
+                &mut lanes,
+                &mut zones,
+                &mut spots,
+                &mut points,
+                &mut checkpoints,
+                &mut stops,
+                &mut exits,
+                &mut goals,
+                &mut limits,
+            );
+            say(first(&out, told));
+        }
+        _ => {
+            let told = tell_rndf(
+                &mut out,
+                rndf_name,
+                rndf,
+                &mut segments,
+                &mut lanes,
+                &mut zones,
+                &mut spots,
+                &mut points,
+                &mut checkpoints,
+                &mut stops,
+                &mut exits,
+            );
+            say(first(&out, told));
+        }
+    }
+}
+
+fn with_network(rndf_name: &[u8], mdf_name: &[u8], rndf: &[u8], asked: bool) {
+    let mut mission = [0u8; MOST_BYTES];
+    let loaded = load_asked(asked, mdf_name, &mut mission);
+    match loaded {
+        Loaded::TooBig | Loaded::OverLimit => say_too_big(mdf_name),
+        Loaded::Unreadable => say_unreadable(mdf_name),
+        _ => judge(rndf_name, mdf_name, rndf, &mission, loaded),
+    }
+}
+
+fn with_names(rndf_name: &[u8], mdf_name: &[u8], asked: bool) {
+    let mut network = [0u8; MOST_BYTES];
+    let loaded = load(rndf_name, &mut network);
+    match loaded {
+        Loaded::Bytes(n) => with_network(rndf_name, mdf_name, first(&network, n), asked),
+        Loaded::OverLimit => say_over_limit(rndf_name),
+        Loaded::TooBig => say_too_big(rndf_name),
+        _ => say_unreadable(rndf_name),
+    }
+}
+
+fn with_arguments(asked: bool) {
+    let mut rndf_name = [0u8; MOST_NAME];
+    let n = os::arg(1, &mut rndf_name);
+    let rndf_error = os::errno();
+    let mut mdf_name = [0u8; MOST_NAME];
+    let m = os::arg(2, &mut mdf_name);
+    let mdf_error = os::errno();
+    if rndf_error == libc::ENAMETOOLONG {
+        say(b"The RNDF file's name is over 4,095 bytes.\n");
+    } else if mdf_error == libc::ENAMETOOLONG {
+        say(b"The MDF file's name is over 4,095 bytes.\n");
+    } else {
+        with_names(first(&rndf_name, n), first(&mdf_name, m), asked);
+    }
+}
+
+fn main() {
+    let count = os::arg_count();
+    if count < 2 {
+        say(b"Name an RNDF file, and behind it an MDF file if both are to be checked.\n");
+    } else if count > 3 {
+        say(b"Too many names: one RNDF file and at most one MDF file can be checked.\n");
+    } else {
+        with_arguments(count == 3);
+    }
+}
