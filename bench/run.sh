@@ -1,0 +1,37 @@
+#!/bin/sh
+# bench/run.sh [--built] [SIZE..]
+#
+# Times our reader (target/staticlib/libyard.a, built first by `rt staticlib yard` unless --built is given) beside the C reader in bench/creader, with its shortcuts and without them
+# ("C plain"), in one run, on texts of five shapes (bench/texts.c) and each SIZE in bytes: 65536, 1048576 and 16777215 if none is given. Prints nanoseconds to a byte, the ratio of
+# times (ours by theirs; best of several runs), the stack that each wrote, and whether a byte takes longer in a long text than in a short one. All replies and tables have to be the
+# same; else it fails. BENCH_SECONDS (0.5) is the time for each text and reader; all sizes take half a minute, with as much memory as 600 MB.
+#
+# Both readers are x86-64 code, built for any such processor. Needs a C compiler (Debian: gcc). On Arm: gcc-x86-64-linux-gnu, and the kit's emulator runs both; there the ratios alone
+# mean something.
+set -eu
+root=$(cd "$(dirname "$0")/.." && pwd -P)
+here=$root/bench
+if [ "${1:-}" = --built ]; then shift; else (cd "$root" && rt staticlib yard) >&2; fi
+library=$root/target/staticlib/libyard.a
+[ -f "$library" ] || { echo "bench/run.sh: $library is not built" >&2; exit 2; }
+[ $# -gt 0 ] || set -- 65536 1048576 16777215
+work=$(mktemp -d)
+trap 'rm -rf "$work"' EXIT
+
+if [ "$(uname -m)" = x86_64 ]; then
+    compiler=$(command -v gcc || command -v clang || command -v cc || true)
+    emulator=
+else
+    compiler=$(command -v x86_64-linux-gnu-gcc || true)
+    rt=$(readlink -f "$(command -v rt)")
+    emulator=${RATTLE_HOME:-$(dirname "$(dirname "$rt")")}/on/$(uname -m)/toolchain/bin/qemu-x86_64
+    [ -x "$emulator" ] || { echo "bench/run.sh: the kit's emulator is not at $emulator" >&2; exit 2; }
+    echo "emulated: only the ratios mean something"
+fi
+[ -n "$compiler" ] || { echo "bench/run.sh: no C compiler for x86-64 (Debian: gcc, on Arm gcc-x86-64-linux-gnu)" >&2; exit 2; }
+
+compile() { "$compiler" -std=c11 -O2 -Wall -Wextra -I"$root/include" "$@"; }
+compile -c "$here/creader/creader.c" -o "$work/creader.o"
+compile -DCR_NO_SHORTCUTS -Dread_rndf=plain_read_rndf -Dread_pair=plain_read_pair -c "$here/creader/creader.c" -o "$work/plain.o"
+compile -static "$here/bench.c" "$here/texts.c" "$work/creader.o" "$work/plain.o" "$library" -o "$work/bench"
+${emulator:+"$emulator"} "$work/bench" "${BENCH_SECONDS:-0.5}" "$@"

@@ -1,0 +1,213 @@
+#!/usr/bin/env python3
+"""Runs the planners' program on files with one fault each, on files that it can't check and on the largest that it takes.
+
+    python3 tests/check_cases.py           builds the program, then runs every case in a folder of its own
+    python3 tests/check_cases.py --built   runs it as it was last built
+
+Every answer is worked out by hand: file, line and number; the words are those of README.md's table. The oracle (tests/oracle) is held to the same file,
+line and number. Works on x86-64 and on Arm, by way of `run-check`. The last line says how many of the cases passed; the status is 0 if all did.
+"""
+import argparse
+import os
+import subprocess
+import sys
+import tempfile
+
+here = os.path.dirname(os.path.abspath(__file__))
+sys.path.insert(0, here)
+sys.path.insert(0, os.path.join(here, "oracle"))
+import oracle   # noqa: E402
+import reasons   # noqa: E402
+from yards import ROUND_1 as M, YARD_A as A, ins, put, text  # noqa: E402
+
+RUN = os.path.join(here, "..", "run-check")
+N, MDF = "network.rndf", "mission.mdf"
+FOLDER = object()
+MOST = 1048576
+WORDS = reasons.of_readme()
+
+
+def says(name, line, number):
+    return "%s%s: %s (%d)" % (name, ", line %d" % line if line else "", WORDS[number], number), 1
+
+
+def counts(segments, zones, lanes, points, spots, checkpoints, stops, exits, goals=None, limits=None):
+    named = [(segments, "segment"), (zones, "zone"), (lanes, "lane"), (points, "point"), (spots, "spot"), (checkpoints, "checkpoint"),
+             (stops, "stop"), (exits, "exit")] + ([] if goals is None else [(goals, "goal"), (limits, "speed limit")])
+    return ", ".join("%d %s%s" % (n, word, "" if n == 1 else "s") for n, word in named)
+
+
+def accepted(*n):
+    return "%s: accepted; %s" % (N if len(n) == 8 else "%s with %s" % (N, MDF), counts(*n)), 0
+
+
+def unreadable(name):
+    return "%s: the file can't be read" % name, 2
+
+
+def too_big(name):
+    return "%s: the file is too big for this check, which takes up to 1,048,576 bytes" % name, 2
+
+
+def padded(lines, size):
+    """A text of that size: blank lines behind the others."""
+    whole = text(lines)
+    whole += (b"\t" * 399 + b"\n") * ((size - len(whole)) // 400)
+    return whole + (b"\t" * (size - len(whole)))
+
+
+def one_refusal_each():
+    """(label, RNDF, MDF, answer) for each number that the program can give: 11 never comes of it (see `largest`), and 19 is a writer's."""
+    return [
+        ("1", padded(A, 16777216), None, says(N, 0, 1)),
+        ("1 before anything about the MDF", padded(A, 16777216), b"", says(N, 0, 1)),
+        ("2", put(A, 13, "end_segment/*" + "c" * 498 + "*/"), M, says(N, 13, 2)),
+        ("3", put(A, 3, "num_zones>0/* none"), M, says(N, 3, 3)),
+        ("4", put(A, 3, "num_zones 0"), M, says(N, 3, 4)),
+        ("5", put(A, 7, "num_waypoints>3"), M, says(N, 12, 5)),
+        ("6", ins(A, 6, "segment_name>a", "segment_name>b"), M, says(N, 7, 6)),
+        ("7", put(A, 10, "1.1.1>45.000000"), M, says(N, 10, 7)),
+        ("8", put(A, 10, "1.1.1>45.00>-93.000000"), M, says(N, 10, 8)),
+        ("9", put(A, 7, "num_waypoints>1"), M, says(N, 8, 9)),
+        ("10", A[:-1], M, says(N, 14, 10)),
+        ("12", put(A, 9, "exit>1.1.2>1.1.3"), M, says(N, 9, 12)),
+        ("13", ins(A, 9, A[7]), M, says(N, 9, 13)),
+        ("14", A, put(M, 2, "RNDF>yard_b"), says(MDF, 2, 14)),
+        ("15", A, put(M, 5, "8"), says(MDF, 5, 15)),
+        ("16", A, put(M, 9, "2>0>15"), says(MDF, 9, 16)),
+        ("17", A, put(put(M, 8, "num_speed_limits>2"), 9, "1>0>15", "1>0>15"), says(MDF, 10, 17)),
+        ("18", ins(put(A, 2, "num_segments>2"), 14, "segment>2", "num_lanes>1", "lane>2.1", "num_waypoints>1", "2.1.1>0.000000>0.000000",
+                   "end_lane", "end_segment"), M, says(MDF, 10, 18)),
+        ("12 of an RNDF alone", put(A, 9, "exit>1.1.2>1.1.3"), None, says(N, 9, 12)),
+        ("empty RNDF", b"", M, says(N, 1, 10)),
+        ("empty MDF", A, b"", says(MDF, 1, 10)),
+        ("RNDF accepted alone", A, None, accepted(1, 0, 1, 2, 0, 1, 0, 1)),
+        ("pair accepted", A, M, accepted(1, 0, 1, 2, 0, 1, 0, 1, 1, 1)),
+    ]
+
+
+def not_checked():
+    """(label, {name: content}, arguments, answer)"""
+    big = padded(A, MOST + 1)
+    none = "Name an RNDF file, and behind it an MDF file if both are to be checked."
+    many = "Too many names: one RNDF file and at most one MDF file can be checked."
+    return [
+        ("no argument", {N: A, MDF: M}, [], (none, 2)),
+        ("three arguments", {N: A, MDF: M}, [N, MDF, N], (many, 2)),
+        ("no such RNDF", {MDF: M}, [N, MDF], unreadable(N)),
+        ("no such MDF", {N: A}, [N, MDF], unreadable(MDF)),
+        ("bad RNDF, no such MDF", {N: b"x"}, [N, MDF], unreadable(MDF)),
+        ("the RNDF is a folder", {N: FOLDER}, [N], unreadable(N)),
+        ("the MDF is a folder", {N: A, MDF: FOLDER}, [N, MDF], unreadable(MDF)),
+        ("empty name", {N: A}, [""], unreadable("")),
+        ("name of 4,096 bytes", {N: A}, ["./" * 2042 + N], ("The RNDF file's name is over 4,095 bytes.", 2)),
+        ("RNDF of 1,048,577 bytes", {N: big}, [N], too_big(N)),
+        ("MDF of 1,048,577 bytes", {N: A, MDF: padded(M, MOST + 1)}, [N, MDF], too_big(MDF)),
+        ("MDF of 16,777,216 bytes", {N: A, MDF: padded(M, 16777216)}, [N, MDF], too_big(MDF)),
+        ("RNDF of 16,777,215 bytes", {N: padded(A, 16777215)}, [N], too_big(N)),
+        ("another name and folder", {"yard/a b.txt": A}, ["yard/a b.txt"], (accepted(1, 0, 1, 2, 0, 1, 0, 1)[0].replace(N, "yard/a b.txt"), 0)),
+    ]
+
+
+def most(lines, row):
+    """As many rows as a text of 1,048,576 bytes with these lines has room for: their number, and their lines. `row` makes the i-th."""
+    left = MOST - len(text(lines))
+    count, rows = 0, []
+    while left >= (size := len(text(row(count + 1)))):
+        rows += row(count + 1)
+        count, left = count + 1, left - size
+    return count, rows
+
+
+def largest():
+    """Texts of up to 1,048,576 bytes with as many rows of one kind as there is room for: no table is too short."""
+    in_lane = lambda row: most(A, lambda i: [row])
+    stops, stop_lines = in_lane("stop>1.1.1")
+    exits, exit_lines = in_lane("exit>1.1.1>1.1.1")
+    _, checkpoint_lines = in_lane("checkpoint>1.1.1>7")
+    point = lambda p: p + ">0.000000>0.000000"
+    yard = lambda segments, zones, *parts: ["RNDF_name>y", "num_segments>%d" % segments, "num_zones>%d" % zones] + sum(parts, []) + ["end_file"]
+    lane = lambda m, n, points: ["lane>%d.%d" % (m, n), "num_waypoints>%d" % points] + [point("%d.%d.%d" % (m, n, i + 1)) for i in range(points)] + ["end_lane"]
+    segment = lambda m, lanes, lines: ["segment>%d" % m, "num_lanes>%d" % lanes] + lines + ["end_segment"]
+    zone = lambda m, spots, lines: ["zone>%d" % m, "num_spots>%d" % spots, "perimeter>%d.0" % m, "num_perimeterpoints>1", point("%d.0.1" % m),
+                                    "end_perimeter"] + lines + ["end_zone"]
+    one = segment(1, 1, lane(1, 1, 1))
+    points = min(32768, most(yard(1, 0, segment(1, 1, lane(1, 1, 0))), lambda i: [point("1.1.%d" % i)])[0])
+    lanes, lane_lines = most(yard(1, 0, segment(1, 32768, [])), lambda i: lane(1, i, 1))
+    segments, segment_lines = most(yard(32768, 0), lambda i: segment(i, 1, lane(i, 1, 1)))
+    zones, zone_lines = most(yard(1, 32767, one), lambda i: zone(i + 1, 0, []))
+    spots, spot_lines = most(yard(1, 1, one, zone(2, 32768, [])), lambda i: ["spot>2.%d" % i, point("2.%d.1" % i), point("2.%d.2" % i), "end_spot"])
+    goals = put(put(M, 4, "num_checkpoints>32768"), 5, *["7"] * 32768)
+    limits = put(put(M, 8, "num_speed_limits>32768"), 9, *["1>0>0"] * 32768)
+    return [
+        ("RNDF of 1,048,576 bytes", padded(A, MOST), None, accepted(1, 0, 1, 2, 0, 1, 0, 1)),
+        ("both of 1,048,576 bytes", padded(A, MOST), padded(M, MOST), accepted(1, 0, 1, 2, 0, 1, 0, 1, 1, 1)),
+        ("stops", ins(A, 9, *stop_lines), None, accepted(1, 0, 1, 2, 0, 1, stops, 1)),
+        ("exits", ins(A, 9, *exit_lines), None, accepted(1, 0, 1, 2, 0, 1, 0, exits + 1)),
+        ("checkpoints", ins(A, 9, *checkpoint_lines), None, says(N, 9, 13)),
+        ("points", yard(1, 0, segment(1, 1, lane(1, 1, points))), None, accepted(1, 0, 1, points, 0, 0, 0, 0)),
+        ("lanes", yard(1, 0, segment(1, lanes, lane_lines)), None, accepted(1, 0, lanes, lanes, 0, 0, 0, 0)),
+        ("segments", yard(segments, 0, segment_lines), None, accepted(segments, 0, segments, segments, 0, 0, 0, 0)),
+        ("zones", yard(1, zones, one, zone_lines), None, accepted(1, zones, 1, zones + 1, 0, 0, 0, 0)),
+        ("spots", yard(1, 1, one, zone(2, spots, spot_lines)), None, accepted(1, 1, 1, 2 + 2 * spots, spots, 0, 0, 0)),
+        ("32,768 goals", A, goals, accepted(1, 0, 1, 2, 0, 1, 0, 1, 32768, 1)),
+        ("32,768 limits", A, limits, says(MDF, 10, 17)),
+    ]
+
+
+def as_bytes(t):
+    return t if t in (None, FOLDER) or isinstance(t, bytes) else text(t)
+
+
+def run(files, arguments):
+    with tempfile.TemporaryDirectory() as folder:
+        for name, content in files.items():
+            path = os.path.join(folder, name)
+            os.makedirs(os.path.dirname(path), exist_ok=True)
+            if content is FOLDER:
+                os.mkdir(path)
+            else:
+                with open(path, "wb") as out:
+                    out.write(as_bytes(content))
+        ran = subprocess.run([RUN, "--built"] + arguments, cwd=folder, stdout=subprocess.PIPE)
+        return ran.stdout.decode("ascii", "replace"), ran.returncode
+
+
+def by_oracle(rndf, mdf):
+    """The oracle's reply in the program's words, with the tables that the program has."""
+    room = {"segments": 4 * (MOST // 92 + 1), "lanes": 5 * (MOST // 58 + 1), "zones": 6 * (MOST // 102 + 1), "spots": 2 * (MOST // 66 + 1),
+            "points": 2 * (MOST // 24 + 1), "checkpoints": 2 * (MOST // 19 + 1), "stops": MOST // 11 + 1, "exits": 2 * (MOST // 17 + 1),
+            "goals": 32768, "limits": 3 * 32768}
+    reply = oracle.read_rndf(rndf, room) if mdf is None else oracle.read_pair(rndf, mdf, room)
+    if reply.accepted:
+        return accepted(*(reply.used[t] for t in oracle.COUNT_ORDER if t in reply.used))
+    file, line, number = reply.refusal
+    return says(N if file == 1 else MDF, line, number)
+
+
+def main():
+    parser = argparse.ArgumentParser()
+    parser.add_argument("--built", action="store_true")
+    options = parser.parse_args()
+    if not options.built:
+        data = os.path.join(here, "..", "crates", "yard_check", "data")
+        if subprocess.run([RUN, os.path.join(data, N), os.path.join(data, MDF)]).returncode != 1:
+            return 1
+    every = not_checked()
+    for label, rndf, mdf, want in one_refusal_each() + largest():
+        rndf, mdf = as_bytes(rndf), as_bytes(mdf)
+        assert by_oracle(rndf, mdf) == want, (label, by_oracle(rndf, mdf))
+        files = {N: rndf} if mdf is None else {N: rndf, MDF: mdf}
+        every.append((label, files, list(files), want))
+    failed = 0
+    for label, files, arguments, want in every:
+        got = run(files, arguments)
+        if got != (want[0] + "\n", want[1]):
+            failed += 1
+            print("%s: %r, and not %r" % (label, got, want))
+    print("%d passed, %d failed" % (len(every) - failed, failed))
+    return 1 if failed else 0
+
+
+if __name__ == "__main__":
+    sys.exit(main())

@@ -1,0 +1,402 @@
+"""Pairs of texts for tests/damage.sh: well-formed ones, and ones damaged in one to three places.
+
+The well-formed pairs, their spelling with blanks, comments and CRs, and many kinds of damage are the oracle's (tests/oracle/generate.py); what it lacks stands here.
+LINES and BYTES list every kind of damage, in which file it is done and how often it is drawn: one of LINES changes a file before it is spelled (a list of lines, each a list of
+fields), one of BYTES its text.
+"""
+import os
+import sys
+
+sys.path.insert(0, os.path.join(os.path.dirname(os.path.dirname(os.path.abspath(__file__))), "oracle"))
+import generate as g    # noqa: E402
+import oracle           # noqa: E402
+
+LARGEST = oracle.LARGEST_TEXT
+PARTS = {b"segment": b"end_segment", b"lane": b"end_lane", b"zone": b"end_zone", b"perimeter": b"end_perimeter", b"spot": b"end_spot",
+         b"checkpoints": b"end_checkpoints", b"speed_limits": b"end_speed_limits"}
+
+
+# ---- fields and numbers
+
+def field_dropped(rng, lines, file):
+    i = g.pick(rng, lines, lambda f: len(f) > 1)
+    if i is not None:
+        del lines[i][rng.randrange(len(lines[i]))]
+
+
+def field_doubled(rng, lines, file):
+    fields = rng.choice(lines)
+    k = rng.randrange(len(fields))
+    fields.insert(k, fields[k])
+
+
+def field_of_elsewhere(rng, lines, file):
+    fields = rng.choice(lines)
+    fields[rng.randrange(len(fields))] = rng.choice(rng.choice(lines))
+
+
+def number_spelled_otherwise(rng, lines, file):
+    """Leading zeros, signs, points, and digits that are none."""
+    i = g.pick(rng, lines, lambda f: any(x[-1:].isdigit() for x in f))
+    if i is None:
+        return
+    k = rng.choice([k for k, x in enumerate(lines[i]) if x[-1:].isdigit()])
+    old = lines[i][k]
+    at = rng.choice([0] + [j + 1 for j, b in enumerate(old) if b in b".-"])
+    lines[i][k] = rng.choice([old[:at] + rng.choice([b"0", b"00", b"-", b"+", b".", b"9", b"99999"]) + old[at:], old + rng.choice([b"0", b".", b".0", b"x", b"e0", b"-"]),
+                              old.replace(b".", b",", 1), old.replace(b".", b"..", 1), old.replace(b".", b"", 1), old[:-1] or b"-", b"-" + old, old.lstrip(b"-")])
+
+
+def fields_off(rng, lines, file):
+    """In one line a value that is not permitted and, mostly behind it, one that is not spelled right."""
+    i = g.pick(rng, lines, lambda f: len(f) > 2)
+    if i is not None:
+        first = 0 if g.is_digit_line(lines[i]) else 1
+        j, k = rng.choice([(first, len(lines[i]) - 1), (first, len(lines[i]) - 1), (len(lines[i]) - 1, first)])
+        lines[i][j] = b".".join(rng.choice([b"0", b"32769", b"99999"]) for _ in lines[i][j].split(b".")) if b"." in lines[i][j] else b"32769"
+        lines[i][k] += b"x"
+
+
+def number_at_edge(rng, lines, file):
+    """A number, or a part of an identifier, of a statement that is drawn first, so that rare statements have their turn."""
+    keyword = rng.choice(sorted({f[0] for f in lines if len(f) > 1 and f[-1][-1:].isdigit() and not g.is_digit_line(f)}) or [b""])
+    i = g.pick(rng, lines, lambda f: f[0] == keyword and len(f) > 1)
+    if i is not None:
+        k = rng.randrange(1, len(lines[i]))
+        parts = lines[i][k].split(b".")
+        parts[rng.randrange(len(parts))] = rng.choice(g.EDGES)
+        lines[i][k] = b".".join(parts)
+
+
+def width_or_number(rng, lines, file):
+    keyword = rng.choice(sorted({f[0] for f in lines} & {b"lane_width", b"spot_width", b"checkpoint"}) or [b""])
+    i = g.pick(rng, lines, lambda f: f[0] == keyword and len(f) > 1)
+    if i is not None:
+        lines[i][-1] = rng.choice([b"0", b"0", b"1", b"32768", b"32769", b"65535", b"65536", b"99999", b"100000"])
+
+
+def identifier_off(rng, lines, file):
+    """The identifier of a segment, lane, zone, perimeter, spot or point: one part of it is another."""
+    keyword = rng.choice([b"segment", b"lane", b"zone", b"perimeter", b"spot", b""])
+    i = g.pick(rng, lines, lambda f: f[0] == keyword and len(f) > 1)
+    i = g.pick(rng, lines, lambda f: f[0].count(b".") == 2) if i is None else i
+    if i is not None:
+        k = 0 if g.is_digit_line(lines[i]) else 1
+        parts = lines[i][k].split(b".")
+        j = rng.randrange(len(parts))
+        parts[j] = b"%d" % max(0, int(parts[j]) + rng.choice([-1, 1])) if parts[j].isdigit() else b"1"
+        lines[i][k] = b".".join(parts)
+
+
+def coordinate_at_edge(rng, lines, file):
+    i = g.pick(rng, lines, lambda f: len(f) == 3 and f[0].count(b".") == 2)
+    if i is not None:
+        column = rng.choice([1, 2])
+        edges = [b"%d.000000", b"-%d.000000", b"%d.000001", b"-%d.000001"]
+        edge = rng.choice(edges * 3 + [b"1000.000000", b"1000.000000", b"0.000000", b"-0.000000", b"-0.000001", b"-0.500000"] + g.COORDINATES)
+        lines[i][column] = edge.replace(b"%d", b"%d" % (90 * column))
+
+
+def count_off(rng, lines, file):
+    i = g.pick(rng, lines, lambda f: f[0].startswith(b"num_") and len(f) == 2 and f[1].isdigit())
+    if i is not None:
+        lines[i][1] = b"%d" % max(0, int(lines[i][1]) + rng.choice([-1, 1]))
+
+
+def counts_together(rng, lines, file):
+    """num_segments and num_zones at the largest sum, and one above."""
+    i = g.pick(rng, lines, lambda f: f[0] == b"num_zones" and len(f) == 2)
+    j = g.pick(rng, lines, lambda f: f[0] == b"num_segments" and len(f) == 2 and f[1].isdigit())
+    if i is not None and j is not None:
+        lines[i][1] = b"%d" % max(0, 32768 - int(lines[j][1]) + rng.choice([0, 1]))
+
+
+# ---- lines and parts
+
+def stretch(rng, lines):
+    i = rng.randrange(len(lines))
+    return i, min(len(lines), i + rng.randint(2, 10))
+
+
+def lines_dropped(rng, lines, file):
+    i, j = stretch(rng, lines)
+    del lines[i:j]
+    lines[i:i] = [] if lines else [[b"end_file"]]
+
+
+def lines_doubled(rng, lines, file):
+    i, j = stretch(rng, lines)
+    lines[j:j] = [list(f) for f in lines[i:j]]
+
+
+def lines_swapped(rng, lines, file):
+    i, j = rng.randrange(len(lines)), rng.randrange(len(lines))
+    lines[i], lines[j] = lines[j], lines[i]
+
+
+def part(rng, lines):
+    """A whole lane, zone, .. from its first line to behind its last."""
+    i = g.pick(rng, lines, lambda f: f[0] in PARTS)
+    if i is None:
+        return None
+    j = next((j for j in range(i, len(lines)) if lines[j][0] == PARTS[lines[i][0]]), None)
+    return None if j is None else (i, j + 1)
+
+
+def part_dropped(rng, lines, file):
+    found = part(rng, lines)
+    if found:
+        del lines[found[0]:found[1]]
+
+
+def part_doubled(rng, lines, file):
+    found = part(rng, lines)
+    if found:
+        lines[found[1]:found[1]] = [list(f) for f in lines[found[0]:found[1]]]
+
+
+def option_moved(rng, lines, file):
+    i = g.pick(rng, lines, lambda f: f[0] in g.OPTIONS)
+    if i is not None:
+        line = lines.pop(i)
+        lines.insert(rng.choice([rng.randrange(len(lines) + 1), max(0, i - rng.randint(1, 4)), min(len(lines), i + rng.randint(1, 4))]), line)
+
+
+def long_line(rng, lines, file):
+    """Lines of 511 to 514 bytes before their CR: by a comment, tabs, or a field."""
+    fields = rng.choice(lines)
+    missing = rng.choice([511, 512, 512, 513, 513, 514]) - len(b"\t".join(fields))
+    if missing > 4:
+        fields[-1] += rng.choice([b"/*" + b"l" * (missing - 4) + b"*/", b"\t" * missing, b"\t" + b"f" * (missing - 1), b"/*" + b"l" * (missing - 2), b"\t/**/" + b"\t" * (missing - 5)])
+        fields[-1] += rng.choice([b"", b"", b"\r", b"\r\r"])
+
+
+# ---- references
+
+def own_point_off(rng, lines, file):
+    """The point of a checkpoint, stop or exit: not of its lane, perimeter or spot, point 0, its last point or one behind that."""
+    i = g.pick(rng, lines, lambda f: f[0] in (b"checkpoint", b"stop", b"exit") and len(f) > 1 and f[1].count(b".") == 2)
+    if i is not None:
+        parts = lines[i][1].split(b".")
+        counts = [f[1] for f in lines[:i] if f[0] in (b"num_waypoints", b"num_perimeterpoints") and len(f) == 2 and f[1].isdigit()]
+        last = int(counts[-1]) if counts else 1
+        k = rng.choice([0, 1, 2, 2, 2])
+        parts[k] = rng.choice([b"0", b"1", b"2", b"3"] + ([b"%d" % last, b"%d" % (last + 1), b"0", b"3"] if k == 2 else []))
+        lines[i][1] = b".".join(parts)
+
+
+def entry_elsewhere(rng, lines, file):
+    """An entry with a part 0, a spot's waypoint, a point of a segment, or one point, lane, segment or zone too far."""
+    i = g.pick(rng, lines, lambda f: f[0] == b"exit" and len(f) == 3)
+    named = [f for f in lines if f[0] in (b"lane", b"perimeter", b"spot", b"segment", b"zone") and len(f) == 2]
+    if i is None or not named:
+        return
+    keyword, name = rng.choice(named)
+    ids = sum(f[0] in (b"segment", b"zone") for f in lines)
+    counts = [f[1] for f in lines if f[0] in (b"num_waypoints", b"num_perimeterpoints", b"num_lanes") and len(f) == 2 and f[1].isdigit()]
+    beyond = b"%d" % (int(rng.choice(counts)) + 1) if counts else b"1"
+    parts = lines[i][2].split(b".")
+    parts[rng.randrange(len(parts))] = b"0"
+    zero, x = b".".join(parts), name.split(b".")[0]
+    lines[i][2] = rng.choice([zero, zero, name + b".1", name + b"." + beyond, x + b".0.1", x + b"." + beyond + b".1", b"%d.1.1" % (ids + 1), b"%d.0.1" % (ids + 1)])
+
+
+def two_references(rng, lines, file):
+    """12 and 13 in one text, in either order."""
+    entry_elsewhere(rng, lines, file)
+    g.d_same_checkpoint(rng, lines, file)
+
+
+# ---- texts
+
+def cut_anywhere(rng, text):
+    return text[:rng.randrange(len(text) + 1)]
+
+
+def bytes_changed(rng, text):
+    """One to three times any of the oracle's changes of bytes."""
+    for _ in range(rng.randint(1, 3)):
+        text = g.damage_bytes(rng, text)
+    return text
+
+
+def stretch_dropped(rng, text):
+    i = rng.randrange(len(text) + 1)
+    return text[:i] + text[i + rng.randint(1, 40):]
+
+
+def stretch_doubled(rng, text):
+    i = rng.randrange(len(text) + 1)
+    j = i + rng.randint(1, 40)
+    return text[:j] + text[i:j] + text[j:]
+
+
+def separators_changed(rng, text):
+    """One tab, CR or LF becomes another, or something that looks like one."""
+    found = [i for i, b in enumerate(text) if b in b"\t\r\n"]
+    if not found:
+        return text
+    i = rng.choice(found)
+    return text[:i] + rng.choice([b"\t", b"\r", b"\n", b"\r\n", b"\n\r", b" ", b"\x0b", b"\x0c", b"\x00", b"\xa0", b"\t\t", b""]) + text[i + 1:]
+
+
+def byte_at_edge(rng, text):
+    """A byte that is only just allowed, or only just not, in a field or a comment."""
+    byte = bytes([rng.choice([0, 8, 9, 11, 13, 31, 32, 33, 41, 42, 43, 46, 47, 91, 92, 93, 125, 126, 127, 128, 255])])
+    i = rng.randrange(len(text) + 1)
+    opened = text.find(b"/*", i)
+    if opened >= 0 and rng.random() < 0.5:
+        i = opened + 2
+    elif rng.random() < 0.5:
+        i = text.find(b"\n", i) if b"\n" in text[i:] else i
+        byte = b"/*" + byte + b"*/"
+    return text[:i] + byte + text[i:]
+
+
+def comment_broken(rng, text):
+    """One byte of a comment's marks lost or doubled, or a mark put anywhere."""
+    found = [i for i in range(len(text) - 1) if text[i:i + 2] in (b"/*", b"*/")]
+    if not found or rng.random() < 0.4:
+        i = rng.randrange(len(text) + 1)
+        return text[:i] + rng.choice([b"/*", b"*/", b"/**/", b"/*/", b"/*x*/", b"//", b"/ *", b"/*\t*/\t"]) + text[i:]
+    i = rng.choice(found) + rng.randrange(2)
+    return text[:i] + rng.choice([b"", text[i:i + 1] * 2]) + text[i + 1:]
+
+
+EVERY, RNDF, MDF = (1, 2), (1,), (2,)
+# (kind, files, how often)
+LINES = [
+    (g.d_field_edge, EVERY, 6), (number_at_edge, EVERY, 9), (g.d_field_near, EVERY, 6), (g.d_field_count, EVERY, 3), (g.d_field_swap, EVERY, 3), (field_dropped, EVERY, 5), (field_doubled, EVERY, 5),
+    (field_of_elsewhere, EVERY, 4), (number_spelled_otherwise, EVERY, 7), (fields_off, EVERY, 5), (width_or_number, RNDF, 9), (identifier_off, RNDF, 9),
+    (coordinate_at_edge, RNDF, 11), (count_off, EVERY, 5), (g.d_count, EVERY, 3), (counts_together, RNDF, 1),
+    (g.d_delete, EVERY, 4), (g.d_double, EVERY, 4), (g.d_swap, EVERY, 4), (g.d_move, EVERY, 3), (g.d_copy, EVERY, 3), (g.d_cut, EVERY, 6), (g.d_tail, EVERY, 3),
+    (lines_dropped, EVERY, 3), (lines_doubled, EVERY, 3), (lines_swapped, EVERY, 3), (part_dropped, EVERY, 3), (part_doubled, EVERY, 3),
+    (g.d_other_keyword, EVERY, 4), (g.d_digit_line, EVERY, 3), (g.d_keyword, EVERY, 4), (g.d_option_again, EVERY, 8), (option_moved, EVERY, 5), (g.d_spot_checkpoint_again, RNDF, 2),
+    (g.d_long_name, EVERY, 5), (g.d_long_line, EVERY, 4), (long_line, EVERY, 8), (g.d_comment, EVERY, 7),
+    (own_point_off, RNDF, 9), (g.d_entry, RNDF, 10), (entry_elsewhere, RNDF, 12), (g.d_same_checkpoint, RNDF, 14), (two_references, RNDF, 6),
+    (g.d_rndf_name, MDF, 14), (g.d_goal, MDF, 18), (g.d_limit_id, MDF, 22), (g.d_limit_missing, MDF, 20), (g.d_limit_more, MDF, 24), (g.d_limit_speeds, MDF, 8),
+]
+BYTES = [
+    (bytes_changed, EVERY, 12), (byte_at_edge, EVERY, 12), (cut_anywhere, EVERY, 8), (stretch_dropped, EVERY, 3), (stretch_doubled, EVERY, 3), (separators_changed, EVERY, 6), (comment_broken, EVERY, 6),
+]
+BY_FILE = {file: [(kind, often) for kind, files, often in LINES + BYTES if file in files] for file in EVERY}
+OF_TEXT = {kind for kind, _, _ in BYTES}
+
+
+def label(kind):
+    return kind.__name__.removeprefix("d_")
+
+
+# ---- cases
+
+class Case:
+    """Two texts, how long each is said to be, how many numbers each table has (`room`), and what was done to the texts."""
+    __slots__ = ("rndf", "mdf", "rndf_length", "mdf_length", "room", "kinds")
+
+
+class Long(bytes):
+    """A text that is longer than what is given of it: the oracle asks for its length first."""
+    length = 0
+
+    def __len__(self):
+        return self.length
+
+
+def small_pair(rng):
+    """Both files as lines, and tables for them (now and then one that is too short)."""
+    made = g.make(rng, rng.choice([1, 2, 4, 4, 4, 12]))
+    return {1: [list(f) for f in made.rndf_lines], 2: [list(f) for f in made.mdf_lines]}, g.random_room(rng, made, 2)
+
+
+def wide_pair(rng):
+    """The same of a pair in which one part comes 32,768 times, the most that may be: an exit leads to the last point, a checkpoint has the largest number."""
+    many = dict.fromkeys(["segments", "lanes", "waypoints", "zones", "spots", "perimeterpoints", "checkpoints"], 1)
+    which = rng.choice(sorted(many))
+    many[which] = 32768 if which != "zones" else 32767
+    if which not in ("spots", "perimeterpoints"):
+        many["spots"] = 0
+        many["zones"] *= which == "zones"
+    m, n = many["segments"], many["zones"]
+
+    def points(x, y, count):
+        return [[b"%d.%d.%d" % (x, y, z), g.random_degrees(rng, 90_000_000)[0], g.random_degrees(rng, 180_000_000)[0]] for z in range(1, count + 1)]
+    rndf = [[b"RNDF_name", b"wide"], [b"num_segments", b"%d" % m], [b"num_zones", b"%d" % n]]
+    last = (b"%d.%d.%d" % (m, many["lanes"], many["waypoints"]), b"%d.0.%d" % (m + n, many["perimeterpoints"]))[n > 0]
+    for x in range(1, m + 1):
+        rndf += [[b"segment", b"%d" % x], [b"num_lanes", b"%d" % many["lanes"]]]
+        for y in range(1, many["lanes"] + 1):
+            rndf += [[b"lane", b"%d.%d" % (x, y)], [b"num_waypoints", b"%d" % many["waypoints"]]]
+            if x == y == 1:
+                rndf += [[b"exit", b"1.1.1", last]] + [[b"checkpoint", b"1.1.%d" % many["waypoints"], b"%d" % (32768 - i)] for i in range(many["checkpoints"])]
+            rndf += points(x, y, many["waypoints"]) + [[b"end_lane"]]
+        rndf.append([b"end_segment"])
+    for x in range(m + 1, m + n + 1):
+        rndf += [[b"zone", b"%d" % x], [b"num_spots", b"%d" % many["spots"]], [b"perimeter", b"%d.0" % x], [b"num_perimeterpoints", b"%d" % many["perimeterpoints"]]]
+        rndf += points(x, 0, many["perimeterpoints"]) + [[b"end_perimeter"]]
+        for y in range(1, many["spots"] + 1):
+            rndf += [[b"spot", b"%d.%d" % (x, y)]] + points(x, y, 2) + [[b"end_spot"]]
+        rndf.append([b"end_zone"])
+    goals, limits = [[b"%d" % (32768 - i)] for i in range(many["checkpoints"])], [[b"%d" % x, b"0", b"32768"] for x in rng.sample(range(1, m + n + 1), m + n)]
+    mdf = [[b"MDF_name", b"all"], [b"RNDF", b"wide"], [b"checkpoints"], [b"num_checkpoints", b"%d" % len(goals)]] + goals + [[b"end_checkpoints"], [b"speed_limits"]]
+    mdf += [[b"num_speed_limits", b"%d" % len(limits)]] + limits + [[b"end_speed_limits"], [b"end_file"]]
+    rows = {"segments": m, "lanes": m * many["lanes"], "zones": n, "spots": n * many["spots"], "checkpoints": many["checkpoints"], "stops": 0, "exits": 1, "goals": len(goals),
+            "limits": len(limits), "points": m * many["lanes"] * many["waypoints"] + n * many["perimeterpoints"] + 2 * n * many["spots"]}
+    room = {t: oracle.STRIDE[t] * rows[t] + rng.choice([0, 1, 7]) for t in rows}
+    if rng.random() < 0.1:
+        room[rng.choice([t for t in rows if rows[t] > 0])] -= 8
+    return {1: rndf + [[b"end_file"]], 2: mdf}, {t: max(0, length) for t, length in room.items()}
+
+
+def make_case(rng, places=None, pair=small_pair):
+    """A pair damaged in so many places: where not said, mostly one, often none, two or three."""
+    lines, room = pair(rng)
+    case = Case()
+    case.kinds = []
+    case.room = room
+    late = []
+    for _ in range(rng.choices([0, 1, 2, 3], [8, 64, 20, 8])[0] if places is None else places):
+        file = rng.choice([1, 2])
+        kind = rng.choices([k for k, _ in BY_FILE[file]], [w for _, w in BY_FILE[file]])[0]
+        case.kinds.append(label(kind))
+        if kind in OF_TEXT:
+            late.append((file, kind))
+        elif lines[file]:
+            kind(rng, lines[file], file)
+    if rng.random() < 0.3:                                  # damage that asks for more rows should not mostly give 11
+        case.room = {t: n + 5 * oracle.STRIDE[t] for t, n in case.room.items()}
+    rough = rng.choice([0, 0, 0.3, 1])
+    texts = {1: g.render(rng, lines[1], rough), 2: g.render(rng, lines[2], rough)}
+    for file, kind in late:
+        texts[file] = kind(rng, texts[file])
+    case.rndf, case.mdf = texts[1], texts[2]
+    case.rndf_length, case.mdf_length = len(case.rndf), len(case.mdf)
+    if rng.random() < 0.015:                                # said to be over 16,777,215 bytes, up to lengths that 32 bits don't hold
+        case.kinds.append("text_too_long")
+        length = rng.choice([LARGEST + 1, LARGEST + 1, LARGEST + 2, 1 << 25, 1 << 31, (1 << 32) - 1, 1 << 32, (1 << 32) + rng.randint(1, 5000), rng.randint(LARGEST + 1, 1 << 33)])
+        if rng.random() < 0.5:
+            case.rndf_length = max(length, case.rndf_length)
+        else:
+            case.mdf_length = max(length, case.mdf_length)
+    return case
+
+
+def padded(text, length):
+    """The text, made that long by blank lines in front of it."""
+    missing = length - len(text)
+    lines, rest = divmod(missing, 512)
+    return (b"/*" + b"p" * 507 + b"*/\n") * lines + b"\n" * rest + text
+
+
+def large_cases(rng):
+    """Wide pairs; and pairs of which a text really has 16,777,215 bytes, or one byte more. Half of them are damaged as well."""
+    cases = [make_case(rng, places, wide_pair) for places in (0, 1)]
+    for case in cases:
+        case.kinds.append("wide_pair")
+    for rndf_length, mdf_length, places in [(LARGEST, None, 0), (None, LARGEST, 0), (LARGEST + 1, None, 0), (None, LARGEST + 1, 0), (LARGEST, LARGEST, 1), (LARGEST, LARGEST + 1, 1)]:
+        case = make_case(rng, places)
+        case.rndf = padded(case.rndf, rndf_length) if rndf_length else case.rndf
+        case.mdf = padded(case.mdf, mdf_length) if mdf_length else case.mdf
+        case.rndf_length, case.mdf_length = len(case.rndf), len(case.mdf)
+        case.kinds.append("padded_to_largest")
+        cases.append(case)
+    return cases

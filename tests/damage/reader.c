@@ -1,0 +1,103 @@
+/*
+ * Runs pairs of texts through the library, as many as stand on standard input, and writes what it answered and left in the lent tables (tests/damage/compare.py has the formats).
+ *
+ * Each text and each table is lent with nothing behind it: the memory ends there, so that a reader that goes one byte too far is stopped at once. The tables are lent full of other
+ * numbers, with one before them that must stay; the texts must stay too. A text may be lent longer than it is given here, up to MOST_BYTES, which costs no memory.
+ */
+#define _GNU_SOURCE
+#include "kastepuhm.h"
+
+#include <stdio.h>
+#include <stdlib.h>
+#include <string.h>
+#include <sys/mman.h>
+
+enum { SEGMENTS, LANES, ZONES, SPOTS, POINTS, CHECKPOINTS, STOPS, EXITS, GOALS, LIMITS, TABLES };
+
+#define MOST_BYTES ((size_t)1 << 33)
+#define MOST_NUMBERS ((size_t)1 << 20)
+#define OTHER 0x5A5A5A5Au
+
+static uint8_t *text_ends[2], *table_ends[TABLES], *given[2];
+static size_t text_lengths[2], given_lengths[2], lengths[TABLES];
+
+/* Where `size` bytes of memory end; behind them nothing may be read or written. */
+static uint8_t *end_of_memory(size_t size)
+{
+    uint8_t *start = mmap(NULL, size + 4096, PROT_READ | PROT_WRITE, MAP_PRIVATE | MAP_ANONYMOUS | MAP_NORESERVE, -1, 0);
+    if (start == MAP_FAILED || mprotect(start + size, 4096, PROT_NONE) != 0) {
+        perror("reader: no memory to lend");
+        exit(2);
+    }
+    return start + size;
+}
+
+static size_t number(int bytes)
+{
+    size_t n = 0;
+    for (int i = 0; i < bytes; i++)
+        n |= (size_t)getchar() << 8 * i;
+    return n;
+}
+
+static void take_text(int file)
+{
+    given[file] = malloc(given_lengths[file] + 1);
+    if (given[file] == NULL || given_lengths[file] > text_lengths[file] || text_lengths[file] > MOST_BYTES
+        || fread(given[file], 1, given_lengths[file], stdin) != given_lengths[file])
+        exit(2);
+    memcpy(text_ends[file] - text_lengths[file], given[file], given_lengths[file]);
+}
+
+static uint32_t *table(int i)
+{
+    return (uint32_t *)(void *)table_ends[i] - lengths[i];
+}
+
+static void soil_table(int i)
+{
+    if (lengths[i] >= MOST_NUMBERS)
+        exit(2);
+    for (uint32_t *p = table(i) - 1; p != (void *)table_ends[i]; p++)
+        *p = OTHER;
+}
+
+#define TEXT(i) text_ends[i] - text_lengths[i], text_lengths[i]
+#define LENT(i) table(i), lengths[i]
+#define NETWORK LENT(SEGMENTS), LENT(LANES), LENT(ZONES), LENT(SPOTS), (int32_t *)table(POINTS), lengths[POINTS], LENT(CHECKPOINTS), LENT(STOPS), LENT(EXITS)
+
+int main(void)
+{
+    int mode;
+    for (int i = 0; i < 2; i++)
+        text_ends[i] = end_of_memory(MOST_BYTES);
+    for (int i = 0; i < TABLES; i++)
+        table_ends[i] = end_of_memory(MOST_NUMBERS * sizeof(uint32_t));
+    while ((mode = getchar()) != EOF) {
+        uint32_t elsewhere = 0;
+        kastepuhm_answer a;
+        for (int i = 0; i < 2; i++)
+            text_lengths[i] = number(8);
+        for (int i = 0; i < 2; i++)
+            given_lengths[i] = number(4);
+        for (int i = 0; i < TABLES; i++)
+            lengths[i] = number(4);
+        for (int i = 0; i < 2; i++)
+            take_text(i);
+        for (int i = 0; i < TABLES; i++)
+            soil_table(i);
+        a = mode == 1 ? kastepuhm_read_rndf(TEXT(0), NETWORK) : kastepuhm_read_pair(TEXT(0), TEXT(1), NETWORK, LENT(GOALS), LENT(LIMITS));
+        fwrite(&a, sizeof a, 1, stdout);
+        for (int i = 0; i < TABLES; i++) {
+            fwrite(table(i), sizeof(uint32_t), lengths[i], stdout);
+            elsewhere |= table(i)[-1] != OTHER;
+        }
+        for (int i = 0; i < 2; i++) {
+            elsewhere |= memcmp(text_ends[i] - text_lengths[i], given[i], given_lengths[i]) != 0;
+            free(given[i]);
+        }
+        fwrite(&elsewhere, sizeof elsewhere, 1, stdout);
+        fflush(stdout);
+    }
+    return 0;
+}
