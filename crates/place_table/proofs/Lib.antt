@@ -1,2 +1,0 @@
--- What a `match` on a place tells.
-pub mod Keys
