@@ -15,6 +15,8 @@ if [ "${1:-}" = --built ]; then shift; else (cd "$root" && rt staticlib yard) >&
 library=$root/target/staticlib/libyard.a
 [ -f "$library" ] || { echo "bench/run.sh: $library is not built" >&2; exit 2; }
 [ $# -gt 0 ] || set -- 65536 1048576 16777215
+. "$root/tests/need.sh"
+need_compiler
 work=$(mktemp -d)
 trap 'rm -rf "$work"' EXIT
 

@@ -9,26 +9,28 @@
  *
  * What it does
  *   It reads the text of a route network (RNDF) and of a mission (MDF) in the format of March 14, 2007 as document 01 narrows it, and either fills the tables that you lend and
- *   accepts, or refuses with file, line and one number. That it does so for all texts and all tables is proved of its source (crates/yard, crates/reader/specs/Replies.antt);
- *   the compiler, the declarations below and your calls are not part of that proof.
+ *   accepts, or refuses with file, line and one number. It also puts the house writing of either file into an output that you lend. That it does so for all texts, all tables
+ *   and all outputs is proved of its source (crates/yard, crates/reader/specs/Replies.antt, crates/writer/specs/Writes.antt); the compiler, the declarations below and your
+ *   calls are not part of that proof.
  *
  * What you hand over
  *   Every slice is a pointer and then its length: how many elements it has, not how many rows or bytes. Nothing is asked of what a slice holds, and no length is too short:
- *   a table with too few rows is refusal 11. But a pointer must be what C says it is:
+ *   a table with too few rows is refusal 11, an output that is too short refusal 19. But a pointer must be what C says it is:
  *   - it is never NULL, also where the length is 0 (any address that fits the type will do then), and it is aligned for its type;
  *   - that many elements can be read there, and written where the pointer is not const;
  *   - a slice that is written overlaps no other slice of the same call. The two texts may overlap: they are only read.
  *
  * Who owns what
  *   Everything is yours before, during and after the call. The library keeps no pointer, allocates nothing, has no state of its own, prints nothing, reads no file and always
- *   returns. Calls in several threads at once do not disturb each other as long as no two of them write the same tables; texts may be shared.
+ *   returns. Calls in several threads at once do not disturb each other as long as no two of them write the same tables or output; texts may be shared.
  *
  * Stack, as the kit's compiler builds it (tests/stack.py measures it)
- *   kastepuhm_read_rndf takes less than 36 KiB: 32,768 bytes of marks for checkpoint numbers and under 4 KiB beside them. kastepuhm_read_pair takes less than 68 KiB, since the
- *   compiler sets the marks of both files aside at once. kastepuhm_point_of takes a few words. Give a thread that calls them a stack to match.
+ *   kastepuhm_read_rndf and kastepuhm_write_rndf take less than 36 KiB: 32,768 bytes of marks for checkpoint numbers and under 4 KiB beside them. kastepuhm_read_pair and
+ *   kastepuhm_write_mdf take less than 68 KiB, since the compiler sets the marks of both files aside at once. kastepuhm_point_of takes a few words. Give a thread that calls them a
+ *   stack to match.
  *
  * Time
- *   Linear in the length of the texts and of the lent tables.
+ *   Linear in the length of the texts, of the lent tables and of the lent output.
  */
 #ifndef KASTEPUHM_H
 #define KASTEPUHM_H
@@ -199,7 +201,8 @@ enum {
     KASTEPUHM_NO_SUCH_GOAL = 15,       /* the goal is no checkpoint of the RNDF */
     KASTEPUHM_NO_SUCH_ID = 16,         /* the limit's id is not in the RNDF */
     KASTEPUHM_LIMIT_AGAIN = 17,        /* the limit's id was already given */
-    KASTEPUHM_LIMIT_MISSING = 18       /* some segment or zone has no limit (line: that of end_speed_limits) */
+    KASTEPUHM_LIMIT_MISSING = 18,      /* some segment or zone has no limit (line: that of end_speed_limits) */
+    KASTEPUHM_OUTPUT_TOO_LONG = 19     /* writers only, after all others: the house writing is over 16,777,215 bytes or longer than the lent output (file: the one written; line 0) */
 };
 
 /* An RNDF alone. */
@@ -228,6 +231,54 @@ kastepuhm_answer kastepuhm_read_pair(
     uint32_t *exits, size_t exits_length,
     uint32_t *goals, size_t goals_length,
     uint32_t *limits, size_t limits_length);
+
+/*
+ * The writers. They put the house writing of a file into `out`: one tab between fields, a line feed after every line, no comment, blank line or carriage return, options in their
+ * listed order, no sign before 0.000000. What was written is read again as the same network or mission.
+ *
+ * A writer reads the texts first, as the reader of the same texts does, and refuses as it does. Where it accepts, the tables hold what that reader leaves, and the answer has its
+ * counts and names; these names are still places in the text that you lent, not in `out`.
+ *
+ * The output is yours, as the tables are, and may not overlap a text or a table. out_length is how many bytes it has. After an acceptance its first `length` bytes are the writing,
+ * and every byte behind them is 0; no 0 byte is put where there is no room for one, so take `length` and not strlen. After a refusal, 19 too, every byte of it and every number of
+ * every lent table is 0.
+ *
+ * How long it has to be: a house writing has at most one byte more than its text (the line feed of an unfinished last line; all else only becomes shorter). Lend
+ * text_length + 1 bytes and refusal 19 only comes where the writing itself has over 16,777,215. This bound is not part of what is proved.
+ */
+typedef struct kastepuhm_write_answer {
+    kastepuhm_answer answer;       /* as the reader of these texts answers, or refusal 19 */
+    uint32_t length;               /* bytes written to out; 0 where refused */
+} kastepuhm_write_answer;
+
+/* The house writing of an RNDF. */
+kastepuhm_write_answer kastepuhm_write_rndf(
+    const uint8_t *text, size_t text_length,
+    uint32_t *segments, size_t segments_length,
+    uint32_t *lanes, size_t lanes_length,
+    uint32_t *zones, size_t zones_length,
+    uint32_t *spots, size_t spots_length,
+    int32_t *points, size_t points_length,
+    uint32_t *checkpoints, size_t checkpoints_length,
+    uint32_t *stops, size_t stops_length,
+    uint32_t *exits, size_t exits_length,
+    uint8_t *out, size_t out_length);
+
+/* The house writing of the MDF of a pair. The RNDF is read too, and not written. */
+kastepuhm_write_answer kastepuhm_write_mdf(
+    const uint8_t *rndf, size_t rndf_length,
+    const uint8_t *mdf, size_t mdf_length,
+    uint32_t *segments, size_t segments_length,
+    uint32_t *lanes, size_t lanes_length,
+    uint32_t *zones, size_t zones_length,
+    uint32_t *spots, size_t spots_length,
+    int32_t *points, size_t points_length,
+    uint32_t *checkpoints, size_t checkpoints_length,
+    uint32_t *stops, size_t stops_length,
+    uint32_t *exits, size_t exits_length,
+    uint32_t *goals, size_t goals_length,
+    uint32_t *limits, size_t limits_length,
+    uint8_t *out, size_t out_length);
 
 /* Where no row has the number. */
 #define KASTEPUHM_NO_POINT 4294967295u

@@ -2,8 +2,9 @@
 # tests/callers.sh           builds the library for C and Rust (`rt staticlib yard`), compiles the two worked callers in tests/callers against it, and compares what they print
 # tests/callers.sh --built   the same with the library as it was last built
 #
-# Compared: yard A as a pair and alone, yard B (every table; its answer was worked out by hand), two damaged texts and a missing file; then document 01's cases and the edges of
-# the summary program's rules (tests/summary_cases.py), and every reply and every lent number of the oracle's corpus and of 2,000 random pairs (tests/callers/corpus.c).
+# Compared: yard A as a pair and alone, yard A written untidily (its house writing is the same), yard B (every table; its answer was worked out by hand), two damaged texts and a
+# missing file; then document 01's cases and the edges of the summary program's rules (tests/summary_cases.py), and every reply and every lent number of the oracle's corpus and of
+# 2,000 random pairs (tests/callers/corpus.c).
 # The last line is 'N passed, M failed, K skipped'; the status is 0 if none failed.
 #
 # Needs a C compiler (Debian: gcc), for the Rust caller rustc with its standard library, for the cases and the corpus python3. What is not there is skipped, and that is said; but
@@ -72,12 +73,18 @@ tab=$(printf '\t')
 a=$root/crates/summary/data
 sed "s/^exit${tab}1\.1\.2${tab}1\.1\.1\$/exit${tab}1.1.2${tab}1.1.3/" "$a/network.rndf" >"$work/entry.rndf"
 sed 's/^7$/8/' "$a/mission.mdf" >"$work/goal.mdf"
+# what the house writing takes away: another order of options, comments, blank lines, leading and doubled tabs, CR, an unfinished last line
+untidy() { printf '\n\t/* untidy */\n' && sed "s/${tab}/${tab}${tab}/g; s/^/${tab}/; s/\$/${tab}\/* untidy *\/$(printf '\r')/" "$1" | head -c -1; }
+sed -n -e '/^checkpoint/{h;d}' -e 'p' -e '/^exit/{x;p}' "$a/network.rndf" >"$work/order.rndf"
+untidy "$work/order.rndf" >"$work/untidy.rndf"
+untidy "$a/mission.mdf" >"$work/untidy.mdf"
 echo 'refused 1 9 12' >"$work/entry"
 echo 'refused 2 5 15' >"$work/goal"
 echo 'no file' >"$work/missing"
 
 compare 'yard A' "$here/expected/yard_a" "$a/network.rndf" "$a/mission.mdf"
 compare 'the RNDF of yard A alone' "$here/expected/yard_a_alone" "$a/network.rndf"
+compare 'yard A, untidy' "$here/expected/yard_a" "$work/untidy.rndf" "$work/untidy.mdf"
 compare 'yard B' "$here/expected/yard_b" "$here/yard_b/network.rndf" "$here/yard_b/mission.mdf"
 compare 'yard A with an entry 1.1.3' "$work/entry" "$work/entry.rndf" "$a/mission.mdf"
 compare 'the damaged RNDF alone' "$work/entry" "$work/entry.rndf"

@@ -6,7 +6,8 @@
 # numbers, and every text and table ends where the memory ends. Printed: how often each refusal number came, how often each kind of damage (tests/damage/pairs.py), and each case that
 # differs, which is kept in target/damage. The last line is 'seed S: N pairs and M RNDFs alone, K differ'; the status is 0 if none differs and every number from 1 to 18 came.
 #
-# Builds the library first (`rt staticlib yard`), unless --built is given. Needs python3 and a C compiler (Debian: gcc; on Arm gcc-x86-64-linux-gnu, and the kit's emulator runs it).
+# Builds the library first (`rt staticlib yard`), unless --built is given. Needs python3 and a C compiler (Debian: gcc; on Arm gcc-x86-64-linux-gnu, and the kit's emulator runs it);
+# what is missing it installs, where it may.
 # It runs on all cores that it may use: 4,000 pairs take some 6 seconds on two, 200,000 some 4 minutes. `python3 tests/damage/compare.py --mutants COUNT SEED` tells whether these
 # pairs notice each of 115 small mistakes in a copy of the oracle (4,000 notice all but two or three, 20,000 all).
 set -eu
@@ -17,6 +18,9 @@ count=${1:-4000}
 case $count${2:-} in *[!0-9]*) echo "usage: tests/damage.sh [--built] [COUNT | long] [SEED]" >&2; exit 2 ;; esac
 library=$root/target/staticlib/libyard.a
 [ -f "$library" ] || { echo "tests/damage.sh: $library is not built" >&2; exit 2; }
+. "$root/tests/need.sh"
+need_compiler
+need python3 python3
 work=$(mktemp -d)
 trap 'rm -rf "$work"' EXIT
 

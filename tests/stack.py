@@ -15,7 +15,8 @@ import sys
 ROOT = os.path.dirname(os.path.dirname(os.path.abspath(__file__)))
 MARKS = 32768
 TEXTS, TABLES = 2 * 8192, 15360
-LIBRARY = {"kastepuhm_read_rndf": 36 * 1024, "kastepuhm_read_pair": 68 * 1024, "kastepuhm_point_of": 64}
+LIBRARY = {"kastepuhm_read_rndf": 36 * 1024, "kastepuhm_read_pair": 68 * 1024, "kastepuhm_write_rndf": 36 * 1024, "kastepuhm_write_mdf": 68 * 1024,
+           "kastepuhm_point_of": 64}
 
 
 def runs(kib):

@@ -1,5 +1,6 @@
 /*
- * A worked caller in C: caller NETWORK [MISSION] reads an RNDF, alone or with its MDF, and prints the summary program's line and then what stands in the tables.
+ * A worked caller in C: caller NETWORK [MISSION] reads an RNDF, alone or with its MDF, and prints the summary program's line, what stands in the tables, and then the
+ * length and first line of the house writing.
  * Texts up to 8,192 bytes, 256 points and 128 rows of every other table, as the summary program has them; all of it lies in this program's own memory.
  */
 #include "kastepuhm.h"
@@ -9,6 +10,7 @@
 
 #if defined(__STDC_VERSION__) && __STDC_VERSION__ >= 201112L
 _Static_assert(sizeof(kastepuhm_answer) == 28 * sizeof(uint32_t), "the library's answer has 28 words");
+_Static_assert(sizeof(kastepuhm_write_answer) == 29 * sizeof(uint32_t), "a writer's answer has one word more");
 #endif
 
 #define LENGTH(table) (sizeof(table) / sizeof((table)[0]))
@@ -28,6 +30,8 @@ static uint32_t stops[ROWS * KASTEPUHM_STOP_STRIDE];
 static uint32_t exits[ROWS * KASTEPUHM_EXIT_STRIDE];
 static uint32_t goals[ROWS * KASTEPUHM_GOAL_STRIDE];
 static uint32_t limits[ROWS * KASTEPUHM_LIMIT_STRIDE];
+/* One byte more than a text may have: its last line may come without a line feed. */
+static uint8_t house[MOST_BYTES + 1];
 
 /* Whether the file could be taken; if not, why is printed. */
 static int load(const char *path, uint8_t *text, size_t *length)
@@ -173,10 +177,23 @@ static void print_mission(const kastepuhm_answer *a)
     }
 }
 
+static void print_house(const char *what, const kastepuhm_write_answer *w)
+{
+    int end = 0;
+    if (!w->answer.accepted) {
+        printf("house writing of the %s refused %" PRIu32 " %" PRIu32 " %" PRIu32 "\n", what, w->answer.file, w->answer.line, w->answer.number);
+        return;
+    }
+    while ((uint32_t)end < w->length && house[end] != '\n')
+        end++;
+    printf("house writing of the %s %" PRIu32 " bytes: %.*s\n", what, w->length, end, (const char *)house);
+}
+
 int main(int count, char **words)
 {
     size_t rndf_length, mdf_length;
     kastepuhm_answer a;
+    kastepuhm_write_answer w;
     if (count != 2 && count != 3) {
         fputs("usage: caller NETWORK [MISSION]\n", stderr);
         return 2;
@@ -197,5 +214,13 @@ int main(int count, char **words)
     print_network(&a);
     if (count == 3)
         print_mission(&a);
+    w = kastepuhm_write_rndf(rndf, rndf_length, segments, LENGTH(segments), lanes, LENGTH(lanes), zones, LENGTH(zones), spots, LENGTH(spots), points, LENGTH(points),
+                             checkpoints, LENGTH(checkpoints), stops, LENGTH(stops), exits, LENGTH(exits), house, LENGTH(house));
+    print_house("network", &w);
+    if (count == 3) {
+        w = kastepuhm_write_mdf(rndf, rndf_length, mdf, mdf_length, segments, LENGTH(segments), lanes, LENGTH(lanes), zones, LENGTH(zones), spots, LENGTH(spots), points, LENGTH(points),
+                                checkpoints, LENGTH(checkpoints), stops, LENGTH(stops), exits, LENGTH(exits), goals, LENGTH(goals), limits, LENGTH(limits), house, LENGTH(house));
+        print_house("mission", &w);
+    }
     return 0;
 }

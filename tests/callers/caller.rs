@@ -1,5 +1,5 @@
-//! A worked caller in Rust, without crates: `caller NETWORK [MISSION]` reads an RNDF, alone or with its MDF, and prints the summary program's line and then what stands in the
-//! tables. The module `kastepuhm` is what to copy: the declarations and safe functions over them. include/kastepuhm.h says what every column and number means.
+//! A worked caller in Rust, without crates: `caller NETWORK [MISSION]` reads an RNDF, alone or with its MDF, and prints the summary program's line, what stands in the tables, and
+//! then the length and first line of the house writing. The module `kastepuhm` is what to copy: the declarations and safe functions over them. include/kastepuhm.h says what every column and number means.
 //! Texts up to 8,192 bytes, 256 points and 128 rows of every other table, as the summary program has them.
 use std::io::Read;
 
@@ -45,6 +45,14 @@ mod kastepuhm {
         pub mdf_rndf: Name,
         pub mdf_version: Name,
         pub mdf_date: Name,
+    }
+
+    /// What a writer answers: `answer.accepted`, and then the first `length` bytes of the output.
+    #[repr(C)]
+    #[derive(Clone, Copy)]
+    pub struct WriteAnswer {
+        pub answer: Answer,
+        pub length: u32,
     }
 
     pub const NO_WIDTH: u32 = 65_535;
@@ -93,6 +101,35 @@ mod kastepuhm {
             limits: *mut u32, limits_length: usize,
         ) -> Answer;
 
+        fn kastepuhm_write_rndf(
+            text: *const u8, text_length: usize,
+            segments: *mut u32, segments_length: usize,
+            lanes: *mut u32, lanes_length: usize,
+            zones: *mut u32, zones_length: usize,
+            spots: *mut u32, spots_length: usize,
+            points: *mut i32, points_length: usize,
+            checkpoints: *mut u32, checkpoints_length: usize,
+            stops: *mut u32, stops_length: usize,
+            exits: *mut u32, exits_length: usize,
+            out: *mut u8, out_length: usize,
+        ) -> WriteAnswer;
+
+        fn kastepuhm_write_mdf(
+            rndf: *const u8, rndf_length: usize,
+            mdf: *const u8, mdf_length: usize,
+            segments: *mut u32, segments_length: usize,
+            lanes: *mut u32, lanes_length: usize,
+            zones: *mut u32, zones_length: usize,
+            spots: *mut u32, spots_length: usize,
+            points: *mut i32, points_length: usize,
+            checkpoints: *mut u32, checkpoints_length: usize,
+            stops: *mut u32, stops_length: usize,
+            exits: *mut u32, exits_length: usize,
+            goals: *mut u32, goals_length: usize,
+            limits: *mut u32, limits_length: usize,
+            out: *mut u8, out_length: usize,
+        ) -> WriteAnswer;
+
         fn kastepuhm_point_of(checkpoints: *const u32, checkpoints_length: usize, number: u32) -> u32;
     }
 
@@ -135,6 +172,47 @@ mod kastepuhm {
         }
     }
 
+    /// The house writing of an RNDF.
+    pub fn write_rndf(text: &[u8], t: &mut Tables, out: &mut [u8]) -> WriteAnswer {
+        // Safe: as in `read_rndf`.
+        unsafe {
+            kastepuhm_write_rndf(
+                text.as_ptr(), text.len(),
+                t.segments.as_mut_ptr(), t.segments.len(),
+                t.lanes.as_mut_ptr(), t.lanes.len(),
+                t.zones.as_mut_ptr(), t.zones.len(),
+                t.spots.as_mut_ptr(), t.spots.len(),
+                t.points.as_mut_ptr(), t.points.len(),
+                t.checkpoints.as_mut_ptr(), t.checkpoints.len(),
+                t.stops.as_mut_ptr(), t.stops.len(),
+                t.exits.as_mut_ptr(), t.exits.len(),
+                out.as_mut_ptr(), out.len(),
+            )
+        }
+    }
+
+    /// The house writing of the MDF of a pair.
+    pub fn write_mdf(rndf: &[u8], mdf: &[u8], t: &mut Tables, out: &mut [u8]) -> WriteAnswer {
+        // Safe: as in `read_rndf`.
+        unsafe {
+            kastepuhm_write_mdf(
+                rndf.as_ptr(), rndf.len(),
+                mdf.as_ptr(), mdf.len(),
+                t.segments.as_mut_ptr(), t.segments.len(),
+                t.lanes.as_mut_ptr(), t.lanes.len(),
+                t.zones.as_mut_ptr(), t.zones.len(),
+                t.spots.as_mut_ptr(), t.spots.len(),
+                t.points.as_mut_ptr(), t.points.len(),
+                t.checkpoints.as_mut_ptr(), t.checkpoints.len(),
+                t.stops.as_mut_ptr(), t.stops.len(),
+                t.exits.as_mut_ptr(), t.exits.len(),
+                t.goals.as_mut_ptr(), t.goals.len(),
+                t.limits.as_mut_ptr(), t.limits.len(),
+                out.as_mut_ptr(), out.len(),
+            )
+        }
+    }
+
     /// The point of the first row with that checkpoint number, or `NO_POINT`.
     pub fn point_of(checkpoints: &[u32], number: u32) -> u32 {
         // Safe: as in `read_rndf`.
@@ -142,7 +220,7 @@ mod kastepuhm {
     }
 }
 
-use kastepuhm::{Answer, Name, Tables};
+use kastepuhm::{Answer, Name, Tables, WriteAnswer};
 
 const MOST_BYTES: usize = 8192;
 
@@ -209,6 +287,15 @@ fn print_mission(a: &Answer, t: &Tables, text: &[u8]) {
     }
 }
 
+fn print_house(what: &str, w: &WriteAnswer, out: &[u8]) {
+    if w.answer.accepted == 0 {
+        println!("house writing of the {what} refused {} {} {}", w.answer.file, w.answer.line, w.answer.number);
+        return;
+    }
+    let first = out[..w.length as usize].split(|&b| b == b'\n').next().unwrap_or(&[]);
+    println!("house writing of the {what} {} bytes: {}", w.length, String::from_utf8_lossy(first));
+}
+
 fn run(network: &str, mission: Option<&str>) -> Result<(), &'static str> {
     let rndf = load(network)?;
     let mdf = mission.map(load).transpose()?;
@@ -229,6 +316,13 @@ fn run(network: &str, mission: Option<&str>) -> Result<(), &'static str> {
     print_network(&a, &t, &rndf);
     if let Some(mdf) = &mdf {
         print_mission(&a, &t, mdf);
+    }
+    let mut house = vec![0; MOST_BYTES + 1];
+    let w = kastepuhm::write_rndf(&rndf, &mut t, &mut house);
+    print_house("network", &w, &house);
+    if let Some(mdf) = &mdf {
+        let w = kastepuhm::write_mdf(&rndf, mdf, &mut t, &mut house);
+        print_house("mission", &w, &house);
     }
     Ok(())
 }

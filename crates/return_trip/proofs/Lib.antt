@@ -1,3 +1,5 @@
 -- The return trip of accepted texts.
 pub mod Returns
 pub mod ByStatements
+-- From the contracts of the writers.
+pub mod Writings

@@ -8,5 +8,3 @@ pub mod Steps
 pub mod SettledByStatements
 pub mod MdfSettledByStatements
 pub mod Settled
--- The return trip.
-pub mod Returns

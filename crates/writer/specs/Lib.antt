@@ -2,5 +2,3 @@
 pub mod Writes
 pub mod ByStatements
 pub mod Answers
--- The return trip.
-pub mod ReadBack

@@ -7,9 +7,9 @@
 // specs/Writes: the contracts, what a reader must believe. specs/ByStatements: the same over statements, as the proofs have it; proofs/Lawful: that both say the same.
 // specs/Answers: what is answered once the text was read, executable.
 // proofs/Replied: what is taken from the readers' contracts, and nothing else is. proofs/Steps: what the program does, said as the contracts say it.
-// proofs/Settled: no second reply and no second memory satisfies them, and one does. proofs/Returns: the return trip, from the contracts alone.
+// proofs/Settled: no second reply and no second memory satisfies them, and one does. The return trip, from the contracts alone, is the crate `return_trip`.
 //
-// Rests on `reader`, `house_lines`, `house_arranged`, `house_text`, `output`, `return_trip` and what they rest on.
+// Rests on `reader`, `house_lines`, `house_arranged`, `house_text`, `output` and what they rest on.
 use house_lines::put_house;
 use mission_reader::MissionCounts;
 use network_reader::Counts;

@@ -1,12 +1,15 @@
--- THE THEOREM of document 01's "Prove that no second reply or memory would satisfy it", for C and Rust: the contract settles every field of the answer and every lent word,
--- for all texts and all lent tables; and some answer and memory satisfy it. Assumes nothing.
+-- THE THEOREM of document 01's "Prove that no second reply or memory would satisfy it", for C and Rust: the contract settles every field of the answer, every lent word
+-- and every byte of a lent output, for all texts, all lent tables and all outputs; and some answer and memory satisfy it. Assumes nothing.
 use mathlib.Core.Path.{_≡_, refl, sym, ap, _∙_}
+use Prim.Native.Nat.{ℕ}
 use Rattle.terms.specs.Ascii.{Bytes}
 use Rattle.law.specs.Tables.{Lent, MissionLent}
 use Rattle.reader.proofs.Settled.{rndf-settled, rndf-some}
 use Rattle.reader.proofs.Settled.{pair-settled, pair-some}
+use Rattle.writer.proofs.Settled.{rndf-write-settled, rndf-write-some, mdf-write-settled, mdf-write-some}
 use Rattle.yard.specs.declared.Answer.{Answer}
-use Rattle.yard.specs.Answers.{rndf-answer, pair-answer, AnswersRndf, AnswersPair}
+use Rattle.yard.specs.declared.WriteAnswer.{WriteAnswer}
+use Rattle.yard.specs.Answers.{rndf-answer, pair-answer, write-answer, write-mdf-answer, AnswersRndf, AnswersPair, AnswersWriteRndf, AnswersWriteMdf}
 
 -- no second answer, and no second memory
 pub rndf-answer-settled : (text : Bytes) (t : Lent) (a a′ : Answer) (l l′ : Lent) → AnswersRndf text t a l → AnswersRndf text t a′ l′ → (a ≡ a′) × (l ≡ l′)
@@ -30,3 +33,27 @@ pub pair-answer-some : (rndf mdf : Bytes) (t : Lent) (u : MissionLent) → (a : 
 pair-answer-some rndf mdf t u =
     let x = pair-some rndf mdf t u in
     (pair-answer (x .reply), x .left, x .mission-left, record { reply = x .reply; reads = x .reads; told = refl })
+
+-- ## The writers
+pub write-answer-settled : (text : Bytes) (t : Lent) (lent : ℕ) (a a′ : WriteAnswer) (l l′ : Lent) (o o′ : Bytes) → AnswersWriteRndf text t lent a l o → AnswersWriteRndf text t lent a′ l′ o′
+    → (a ≡ a′) × (l ≡ l′) × (o ≡ o′)
+write-answer-settled text t lent a a′ l l′ o o′ x y =
+    let same = rndf-write-settled text t lent (x .reply) (y .reply) l l′ o o′ (x .writes) (y .writes) in
+    (x .told ∙ ap write-answer (same .0) ∙ sym (y .told), same .1, same .2)
+
+pub write-mdf-answer-settled : (rndf mdf : Bytes) (t : Lent) (u : MissionLent) (lent : ℕ) (a a′ : WriteAnswer) (l l′ : Lent) (k k′ : MissionLent) (o o′ : Bytes)
+    → AnswersWriteMdf rndf mdf t u lent a l k o → AnswersWriteMdf rndf mdf t u lent a′ l′ k′ o′ → (a ≡ a′) × (l ≡ l′) × (k ≡ k′) × (o ≡ o′)
+write-mdf-answer-settled rndf mdf t u lent a a′ l l′ k k′ o o′ x y =
+    let same = mdf-write-settled rndf mdf t u lent (x .reply) (y .reply) l l′ k k′ o o′ (x .writes) (y .writes) in
+    (x .told ∙ ap write-mdf-answer (same .0) ∙ sym (y .told), same .1, same .2, same .3)
+
+pub write-answer-some : (text : Bytes) (t : Lent) (lent : ℕ) → (a : WriteAnswer) × (l : Lent) × (o : Bytes) × AnswersWriteRndf text t lent a l o
+write-answer-some text t lent =
+    let x = rndf-write-some text t lent in
+    (write-answer (x .reply), x .left, x .out, record { reply = x .reply; writes = x .writes; told = refl })
+
+pub write-mdf-answer-some : (rndf mdf : Bytes) (t : Lent) (u : MissionLent) (lent : ℕ)
+    → (a : WriteAnswer) × (l : Lent) × (k : MissionLent) × (o : Bytes) × AnswersWriteMdf rndf mdf t u lent a l k o
+write-mdf-answer-some rndf mdf t u lent =
+    let x = mdf-write-some rndf mdf t u lent in
+    (write-mdf-answer (x .reply), x .left, x .mission-left, x .out, record { reply = x .reply; writes = x .writes; told = refl })

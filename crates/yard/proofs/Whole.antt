@@ -1,4 +1,4 @@
--- An answer tells the whole reply: two replies with the same fields are one, so nothing that the readers promise is lost on the way to C. Assumes nothing.
+-- An answer tells the whole reply: two replies with the same fields are one, so nothing that the readers and the writers promise is lost on the way to C. Assumes nothing.
 use mathlib.Core.Path.{_≡_, sym, ap}
 use Prim.Native.Nat.{ℕ}
 use native.Mathlib.Omega.{arith}
@@ -14,9 +14,14 @@ use Rattle.reader.specs.declared.RndfReply.the-variants as Rndf
 use Rattle.reader.specs.declared.PairReply.{PairReply}
 use Rattle.reader.specs.declared.PairReply.the-variants as Pair
 use Rattle.reader.specs.Replies.{refusal}
+use Rattle.writer.specs.declared.WriteReply.{WriteReply}
+use Rattle.writer.specs.declared.WriteReply.the-variants as Write
+use Rattle.writer.specs.declared.WriteMdfReply.{WriteMdfReply}
+use Rattle.writer.specs.declared.WriteMdfReply.the-variants as WriteMdf
 use Rattle.yard.specs.declared.Name.{Name}
 use Rattle.yard.specs.declared.Answer.{Answer}
-use Rattle.yard.specs.Answers.{taken, refused, rndf-answer, pair-answer}
+use Rattle.yard.specs.declared.WriteAnswer.{WriteAnswer}
+use Rattle.yard.specs.Answers.{taken, refused, rndf-answer, pair-answer, write-answer, write-mdf-answer}
 
 -- ## What an answer says
 abbrev stretch : Name → Stretch
@@ -52,3 +57,16 @@ pair-told-whole (Pair.Accepted c f m g) (Pair.Accepted c′ f′ m′ g′) e = 
 pair-told-whole (Pair.Accepted c f m g) (Pair.Refused x) e = never _ _ _ _ _ e
 pair-told-whole (Pair.Refused x) (Pair.Accepted c f m g) e = never _ _ _ _ _ (sym e)
 pair-told-whole (Pair.Refused x) (Pair.Refused y) e = ap (λ (a : Answer). Pair.Refused (why a)) e
+
+pub write-told-whole : (x y : WriteReply) → write-answer x ≡ write-answer y → x ≡ y
+write-told-whole (Write.Written c f n) (Write.Written c′ f′ n′) e = ap (λ (a : WriteAnswer). Write.Written (counts (a .answer)) (file (a .answer)) (a .length)) e
+write-told-whole (Write.Written c f n) (Write.Refused x) e = never _ _ _ _ _ (ap (λ (a : WriteAnswer). a .answer) e)
+write-told-whole (Write.Refused x) (Write.Written c f n) e = never _ _ _ _ _ (sym (ap (λ (a : WriteAnswer). a .answer) e))
+write-told-whole (Write.Refused x) (Write.Refused y) e = ap (λ (a : WriteAnswer). Write.Refused (why (a .answer))) e
+
+pub write-mdf-told-whole : (x y : WriteMdfReply) → write-mdf-answer x ≡ write-mdf-answer y → x ≡ y
+write-mdf-told-whole (WriteMdf.Written c f m g n) (WriteMdf.Written c′ f′ m′ g′ n′) e =
+    ap (λ (a : WriteAnswer). WriteMdf.Written (counts (a .answer)) (file (a .answer)) (mission-counts (a .answer)) (mission-file (a .answer)) (a .length)) e
+write-mdf-told-whole (WriteMdf.Written c f m g n) (WriteMdf.Refused x) e = never _ _ _ _ _ (ap (λ (a : WriteAnswer). a .answer) e)
+write-mdf-told-whole (WriteMdf.Refused x) (WriteMdf.Written c f m g n) e = never _ _ _ _ _ (sym (ap (λ (a : WriteAnswer). a .answer) e))
+write-mdf-told-whole (WriteMdf.Refused x) (WriteMdf.Refused y) e = ap (λ (a : WriteAnswer). WriteMdf.Refused (why (a .answer))) e

@@ -1,4 +1,4 @@
--- WHAT A READER MUST BELIEVE. What the library for C and Rust answers, field by field, and what the lent tables then hold. Assumes nothing.
+-- WHAT A READER MUST BELIEVE. What the library for C and Rust answers, field by field, and what the lent tables and the lent output then hold. Assumes nothing.
 use mathlib.Core.Path.{_≡_}
 use Prim.Native.Nat.{ℕ}
 use Rattle.terms.specs.Ascii.{Bytes}
@@ -15,8 +15,14 @@ use Rattle.reader.specs.declared.RndfReply.the-variants as Rndf
 use Rattle.reader.specs.declared.PairReply.{PairReply}
 use Rattle.reader.specs.declared.PairReply.the-variants as Pair
 use Rattle.reader.specs.Replies.{refusal, ReadsRndf, ReadsPair}
+use Rattle.writer.specs.declared.WriteReply.{WriteReply}
+use Rattle.writer.specs.declared.WriteReply.the-variants as Write
+use Rattle.writer.specs.declared.WriteMdfReply.{WriteMdfReply}
+use Rattle.writer.specs.declared.WriteMdfReply.the-variants as WriteMdf
+use Rattle.writer.specs.Writes.{WritesRndf, WritesMdf}
 use Rattle.yard.specs.declared.Name.{Name}
 use Rattle.yard.specs.declared.Answer.{Answer}
+use Rattle.yard.specs.declared.WriteAnswer.{WriteAnswer}
 
 -- 01: "A name is its start and length in the lent text"
 abbrev pub named : Stretch → Name
@@ -76,6 +82,15 @@ abbrev pub pair-answer : PairReply → Answer
 pair-answer (Pair.Accepted c f m g) = taken c f m g
 pair-answer (Pair.Refused x) = refused x
 
+-- a writer's: the same, and then the bytes written, 0 of a refusal
+abbrev pub write-answer : WriteReply → WriteAnswer
+write-answer (Write.Written c f n) = record { answer = taken c f no-mission-counts no-mission-file; length = n }
+write-answer (Write.Refused x) = record { answer = refused x; length = 0 }
+
+abbrev pub write-mdf-answer : WriteMdfReply → WriteAnswer
+write-mdf-answer (WriteMdf.Written c f m g n) = record { answer = taken c f m g; length = n }
+write-mdf-answer (WriteMdf.Refused x) = record { answer = refused x; length = 0 }
+
 -- ## An RNDF alone: what is answered are the fields of the reply, and that reply and what is left in the lent tables are as the reader promises. t: these tables as they were lent
 pub record AnswersRndf (text : Bytes) (t : Lent) (given : Answer) (left : Lent) : Type 0 where
   pub reply : RndfReply
@@ -87,3 +102,15 @@ pub record AnswersPair (rndf mdf : Bytes) (t : Lent) (u : MissionLent) (given : 
   pub reply : PairReply
   pub reads : ReadsPair rndf mdf t u reply left mission-left
   pub told : given ≡ pair-answer reply
+
+-- ## The house writing of an RNDF: the fields of the writer's reply, and the tables and the output as it promises. lent: the length of that output
+pub record AnswersWriteRndf (text : Bytes) (t : Lent) (lent : ℕ) (given : WriteAnswer) (left : Lent) (out : Bytes) : Type 0 where
+  pub reply : WriteReply
+  pub writes : WritesRndf text t lent reply left out
+  pub told : given ≡ write-answer reply
+
+-- ## The house writing of the MDF of a pair
+pub record AnswersWriteMdf (rndf mdf : Bytes) (t : Lent) (u : MissionLent) (lent : ℕ) (given : WriteAnswer) (left : Lent) (mission-left : MissionLent) (out : Bytes) : Type 0 where
+  pub reply : WriteMdfReply
+  pub writes : WritesMdf rndf mdf t u lent reply left mission-left out
+  pub told : given ≡ write-mdf-answer reply

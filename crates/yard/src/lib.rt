@@ -1,12 +1,13 @@
 // The library for C and Rust engineers: `rt staticlib yard` writes target/staticlib/libyard.a, include/kastepuhm.h declares it for C, tests/callers/caller.rs for Rust.
 // Every function here takes plain slices (C hands over a pointer, then how many elements) and numbers, requires nothing of them, keeps nothing and allocates nothing.
 //
-// specs/Answers: the fields of an answer, for each case of a reader's reply: what a reader must believe, with the readers' own contracts (reader/specs/Replies, look_up/specs/LookUp).
-// proofs/Settled: no second answer and no second memory satisfies them, and an answer tells the whole reply.
+// specs/Answers: the fields of an answer, for each case of a reader's or writer's reply: what a reader must believe, with their own contracts (reader/specs/Replies, writer/specs/Writes,
+// look_up/specs/LookUp).
+// proofs/Settled: no second answer and no second memory satisfies them, and one does. proofs/Whole: an answer tells the whole reply.
 //
 // Left out: asking for a name (`rows::name_of`), since a part of a slice cannot be returned to C. There a name is `text + start` for `length` bytes.
 //
-// Rests on `reader`, `look_up` and what they rest on.
+// Rests on `reader`, `writer`, `look_up` and what they rest on.
 use look_up::point_of_word;
 use mission_reader::MissionCounts;
 use network_reader::Counts;
@@ -18,10 +19,15 @@ use reader::read_rndf;
 use rows::FileRow;
 use rows::MissionFileRow;
 use rows::Stretch;
+use writer::WriteMdfReply;
+use writer::WriteReply;
+use writer::write_mdf;
+use writer::write_rndf;
 ghost use mathlib.Core.Path.{_≡_};
+ghost use lib.ListN.{length};
 ghost use Rattle.law.specs.Tables.{lent, mission-lent};
 ghost use Rattle.look_up.specs.LookUp.{PointOf};
-ghost use Rattle.yard.specs.Answers.{named, laid-out, taken, refused, rndf-answer, pair-answer, AnswersRndf, AnswersPair};
+ghost use Rattle.yard.specs.Answers.{named, laid-out, taken, refused, rndf-answer, pair-answer, write-answer, write-mdf-answer, AnswersRndf, AnswersPair, AnswersWriteRndf, AnswersWriteMdf};
 
 // A name: its start and length in the lent text. A missing name is 0, 0.
 #[repr(C)]
@@ -55,6 +61,13 @@ pub struct Answer {
     pub mdf_rndf: Name,
     pub mdf_version: Name,
     pub mdf_date: Name,
+}
+
+// What a writer answers: as the reader of these texts, or 19; and how many bytes it wrote, 0 where it refused.
+#[repr(C)]
+pub struct WriteAnswer {
+    pub answer: Answer,
+    pub length: u32,
 }
 
 fn named(s: Stretch) -> Name
@@ -169,6 +182,36 @@ fn pair_answer(reply: PairReply) -> Answer
     }
 }
 
+fn write_answer(reply: WriteReply) -> WriteAnswer
+    ensures { λ r. ⌜ r ≡ write-answer reply ⌝ }
+{
+    match reply {
+        WriteReply::Written(c, file, n) => WriteAnswer {
+            answer: taken(c, file, NO_MISSION_COUNTS, NO_MISSION_FILE),
+            length: n,
+        },
+        WriteReply::Refused(why) => WriteAnswer {
+            answer: refused(why),
+            length: 0,
+        },
+    }
+}
+
+fn write_mdf_answer(reply: WriteMdfReply) -> WriteAnswer
+    ensures { λ r. ⌜ r ≡ write-mdf-answer reply ⌝ }
+{
+    match reply {
+        WriteMdfReply::Written(c, file, m, mission_file, n) => WriteAnswer {
+            answer: taken(c, file, m, mission_file),
+            length: n,
+        },
+        WriteMdfReply::Refused(why) => WriteAnswer {
+            answer: refused(why),
+            length: 0,
+        },
+    }
+}
+
 // An RNDF alone.
 #[no_mangle]
 pub extern "C" fn kastepuhm_read_rndf(
@@ -231,6 +274,74 @@ pub extern "C" fn kastepuhm_read_pair(
         limits,
     );
     pair_answer(reply)
+}
+
+// The house writing of an RNDF, into `out`.
+#[no_mangle]
+pub extern "C" fn kastepuhm_write_rndf(
+    text: &[u8],
+    segments: &mut [u32],
+    lanes: &mut [u32],
+    zones: &mut [u32],
+    spots: &mut [u32],
+    points: &mut [i32],
+    checkpoints: &mut [u32],
+    stops: &mut [u32],
+    exits: &mut [u32],
+    out: &mut [u8],
+) -> WriteAnswer
+    ensures { λ r. ⌜ AnswersWriteRndf (now (text .entry)) (lent (now (segments .entry)) (now (lanes .entry)) (now (zones .entry)) (now (spots .entry)) (now (points .entry)) (now (checkpoints .entry)) (now (stops .entry)) (now (exits .entry))) (length (now (out .entry))) r (lent (now (segments .exit)) (now (lanes .exit)) (now (zones .exit)) (now (spots .exit)) (now (points .exit)) (now (checkpoints .exit)) (now (stops .exit)) (now (exits .exit))) (now (out .exit)) ⌝ }
+{
+    let reply = write_rndf(
+        text,
+        segments,
+        lanes,
+        zones,
+        spots,
+        points,
+        checkpoints,
+        stops,
+        exits,
+        out,
+    );
+    write_answer(reply)
+}
+
+// The house writing of the MDF of a pair, into `out`.
+#[no_mangle]
+pub extern "C" fn kastepuhm_write_mdf(
+    rndf: &[u8],
+    mdf: &[u8],
+    segments: &mut [u32],
+    lanes: &mut [u32],
+    zones: &mut [u32],
+    spots: &mut [u32],
+    points: &mut [i32],
+    checkpoints: &mut [u32],
+    stops: &mut [u32],
+    exits: &mut [u32],
+    goals: &mut [u32],
+    limits: &mut [u32],
+    out: &mut [u8],
+) -> WriteAnswer
+    ensures { λ r. ⌜ AnswersWriteMdf (now (rndf .entry)) (now (mdf .entry)) (lent (now (segments .entry)) (now (lanes .entry)) (now (zones .entry)) (now (spots .entry)) (now (points .entry)) (now (checkpoints .entry)) (now (stops .entry)) (now (exits .entry))) (mission-lent (now (goals .entry)) (now (limits .entry))) (length (now (out .entry))) r (lent (now (segments .exit)) (now (lanes .exit)) (now (zones .exit)) (now (spots .exit)) (now (points .exit)) (now (checkpoints .exit)) (now (stops .exit)) (now (exits .exit))) (mission-lent (now (goals .exit)) (now (limits .exit))) (now (out .exit)) ⌝ }
+{
+    let reply = write_mdf(
+        rndf,
+        mdf,
+        segments,
+        lanes,
+        zones,
+        spots,
+        points,
+        checkpoints,
+        stops,
+        exits,
+        goals,
+        limits,
+        out,
+    );
+    write_mdf_answer(reply)
 }
 
 // The point of the first row with that checkpoint number, or 4,294,967,295.

@@ -31,20 +31,20 @@ use Rattle.output.specs.Output.{zeros, Fits, filled}
 use Rattle.house_text.specs.HouseText.{house-rndf, house-mdf}
 use Rattle.house_text.proofs.References.{sizes-alike, mission-sizes-alike}
 use Rattle.house_text.proofs.Theorems.{rndf-again, mdf-again}
 use Rattle.return_trip.specs.Returns.{SameNetwork}
 use Rattle.return_trip.specs.ByStatements.{RndfReturns, MdfReturns}
 use Rattle.return_trip.proofs.ByStatements.{rndf-returns-in, mdf-returns}
 use Rattle.law_spelling.proofs.Texts.{rndf-to, mdf-to}
 use Rattle.writer.specs.declared.WriteReply.{WriteReply}
 use Rattle.writer.specs.declared.WriteReply.the-variants as Write
 use Rattle.writer.specs.declared.WriteMdfReply.{WriteMdfReply}
 use Rattle.writer.specs.declared.WriteMdfReply.the-variants as WriteMdf
 use Rattle.writer.specs.Writes.{WritesRndf, WritesMdf}
 use Rattle.writer.specs.ByStatements as W
 use Rattle.writer.proofs.Lawful.{rndf-writes-back, mdf-writes-back}
-use Rattle.writer.specs.ReadBack.{RoomFor, MissionRoomFor, RndfReadBack, PairReadBack}
+use Rattle.return_trip.specs.ReadBack.{RoomFor, MissionRoomFor, RndfReadBack, PairReadBack}
 use Rattle.writer.proofs.Replied.{one-rndf, one-mdf, never-both, pair-never-both, counts-of, pair-counts-of, mission-counts-of, Taken, taken, replies-so, PairTaken, pair-taken, pair-replies-so}
 use Rattle.writer.proofs.Steps.{wrote-or-not, mdf-wrote-or-not}
 
 abbrev counts-as : F.MissionCounts → MissionCounts
 counts-as c = record { goals = c .goals; limits = c .limits }
