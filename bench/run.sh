@@ -15,22 +15,12 @@ if [ "${1:-}" = --built ]; then shift; else (cd "$root" && rt staticlib yard) >&
 library=$root/target/staticlib/libyard.a
 [ -f "$library" ] || { echo "bench/run.sh: $library is not built" >&2; exit 2; }
 [ $# -gt 0 ] || set -- 65536 1048576 16777215
-. "$root/tests/need.sh"
-need_compiler
 work=$(mktemp -d)
 trap 'rm -rf "$work"' EXIT
 
-if [ "$(uname -m)" = x86_64 ]; then
-    compiler=$(command -v gcc || command -v clang || command -v cc || true)
-    emulator=
-else
-    compiler=$(command -v x86_64-linux-gnu-gcc || true)
-    rt=$(readlink -f "$(command -v rt)")
-    emulator=${RATTLE_HOME:-$(dirname "$(dirname "$rt")")}/on/$(uname -m)/toolchain/bin/qemu-x86_64
-    [ -x "$emulator" ] || { echo "bench/run.sh: the kit's emulator is not at $emulator" >&2; exit 2; }
-    echo "emulated: only the ratios mean something"
-fi
-[ -n "$compiler" ] || { echo "bench/run.sh: no C compiler for x86-64 (Debian: gcc, on Arm gcc-x86-64-linux-gnu)" >&2; exit 2; }
+. "$root/tests/need.sh"
+find_compiler
+[ -z "$emulator" ] || echo "emulated: only the ratios mean something"
 
 compile() { "$compiler" -std=c11 -O2 -Wall -Wextra -I"$root/include" "$@"; }
 compile -c "$here/creader/creader.c" -o "$work/creader.o"

@@ -24,16 +24,8 @@ library=$root/target/staticlib/libyard.a
 work=$(mktemp -d)
 trap 'rm -rf "$work"' EXIT
 
-if [ "$(uname -m)" = x86_64 ]; then
-    compiler=$(command -v gcc || command -v clang || command -v cc || true)
-    emulator=
-else
-    compiler=$(command -v x86_64-linux-gnu-gcc || true)
-    rt=$(readlink -f "$(command -v rt)")
-    emulator=${RATTLE_HOME:-$(dirname "$(dirname "$rt")")}/on/$(uname -m)/toolchain/bin/qemu-x86_64
-    [ -x "$emulator" ] || { echo "tests/callers.sh: the kit's emulator is not at $emulator" >&2; exit 2; }
-fi
-[ -n "$compiler" ] || { echo "tests/callers.sh: no C compiler for x86-64 (Debian: gcc, on Arm gcc-x86-64-linux-gnu)" >&2; exit 2; }
+. "$root/tests/need.sh"
+find_compiler
 
 passed=0 failed=0 skipped=0
 pass() { passed=$((passed + 1)); }

@@ -18,22 +18,12 @@ count=${1:-4000}
 case $count${2:-} in *[!0-9]*) echo "usage: tests/damage.sh [--built] [COUNT | long] [SEED]" >&2; exit 2 ;; esac
 library=$root/target/staticlib/libyard.a
 [ -f "$library" ] || { echo "tests/damage.sh: $library is not built" >&2; exit 2; }
-. "$root/tests/need.sh"
-need_compiler
-need python3 python3
 work=$(mktemp -d)
 trap 'rm -rf "$work"' EXIT
 
-if [ "$(uname -m)" = x86_64 ]; then
-    compiler=$(command -v gcc || command -v clang || command -v cc || true)
-    emulator=
-else
-    compiler=$(command -v x86_64-linux-gnu-gcc || true)
-    rt=$(readlink -f "$(command -v rt)")
-    emulator=${RATTLE_HOME:-$(dirname "$(dirname "$rt")")}/on/$(uname -m)/toolchain/bin/qemu-x86_64
-    [ -x "$emulator" ] || { echo "tests/damage.sh: the kit's emulator is not at $emulator" >&2; exit 2; }
-fi
-[ -n "$compiler" ] || { echo "tests/damage.sh: no C compiler for x86-64 (Debian: gcc, on Arm gcc-x86-64-linux-gnu)" >&2; exit 2; }
+. "$root/tests/need.sh"
+find_compiler
+need python3 python3
 "$compiler" -std=c11 -O2 -Wall -Wextra -Wpedantic -Wconversion -Werror -static -I"$root/include" "$root/tests/damage/reader.c" "$library" -o "$work/reader.x86"
 printf '#!/bin/sh\nexec %s "%s"\n' "${emulator:+\"$emulator\"}" "$work/reader.x86" >"$work/reader"
 chmod +x "$work/reader"

@@ -1,7 +1,7 @@
 // How statements fill the tables, and what is tested of the filled tables. There is no code here.
 //
 // specs/: definitions.
-//   Those that every promise rests on: Counts (how many rows the count lines declare), Faults (which row or statement is the first at fault, and with which number).
+//   Over statements (`law` says the same over lines; `law_tables` is the bridge): Counts (how many rows the count lines declare), Faults (which row or statement is the first at fault, and with which number).
 //   Executable, for contracts to cite: Filling (the fold), NetworkRows and MissionRows (the rows of an RNDF and of an MDF), Tally (rows counted on the way),
 //   Resolve (entries looked up by arithmetic), FirstFaults (12, 13 and 15 to 18 over rows), FirstLines (12 to 18 over statements).
 // proofs/: the laws.
@@ -9,4 +9,4 @@
 //   ResolveLaws: found is declared. FaultLaws: the first fault, right and only. ReferenceLaws, MissionLaws: no fault is the same as right references.
 //   LimitCounts: 18 by a count. ReferenceLines, MissionLines, MissionFits: the first statement at fault, by the first rows at fault.
 //
-// Rests on `terms` and `grammar`.
+// Rests on `terms`, `law` and `grammar`.

@@ -6,10 +6,8 @@ use Rattle.terms.specs.Ascii.{Bytes, ascii}
 use Rattle.line.specs.Content.{Field}
 use Rattle.number.specs.Decimal.{decimal}
 use Rattle.number.specs.House.{houseInteger, housePair, houseTriple}
-use Rattle.word.specs.Keywords as Word
-use Rattle.law.specs.Network.{Boundary, double-yellow, solid-yellow, solid-white, broken-white, boundary-word, Network, Mission, Line}
+use Rattle.law.specs.Network.{Network, Mission, Line}
 use Rattle.grammar.specs.Language.{Stmt}
-use Rattle.grammar.specs.Tables.{colour}
 use Rattle.grammar.specs.HouseOrder.{GoodNetwork, house-network, house-mission}
 use Rattle.grammar.specs.Mission.{GoodMission}
 use Rattle.text.specs.Said as Old
@@ -17,19 +15,10 @@ use Rattle.text.specs.HouseLine as Old-house
 use Rattle.text.specs.RndfLines.{rndf-line}
 use Rattle.text.specs.MdfLines.{mdf-line}
 use Rattle.law_spelling.specs.LineOf.{said-of, law-line, rndf-law-line, mdf-law-line}
+use Rattle.law_spelling.proofs.Fields.{same-word, five}
 use Rattle.law_spelling.proofs.House.{network-house-only, network-house, network-house-good, mission-house-only, mission-house}
 use Rattle.house_text.specs.House.{house-field, tabbed, written, HouseRndf, HouseMdf}
 use Rattle.house_text.specs.HouseText.{ended-line, house-text, house-rndf, house-mdf}
-
-same-word : (b : Boundary) → Word.boundary-of (colour b) ≡ boundary-word b
-unfolding Word.boundary-of Word.boundary-words
-same-word double-yellow = refl
-same-word solid-yellow = refl
-same-word solid-white = refl
-same-word broken-white = refl
-
-five : (a b c d e : Bytes) → a ++ b ++ c ++ d ++ e ≡ a ++ (b ++ (c ++ (d ++ e)))
-five a b c d e = append-assoc (a ++ b ++ c) d e ∙ append-assoc (a ++ b) c (d ++ e) ∙ append-assoc a b (c ++ (d ++ e))
 
 -- a field
 field-same : (s : Old.Said) → Old-house.house-field s ≡ house-field (said-of s)

@@ -20,7 +20,7 @@ colours solid-yellow = record { low = omega arith; high = omega arith }
 colours solid-white = record { low = omega arith; high = omega arith }
 colours broken-white = record { low = omega arith; high = omega arith }
 
-same-word : (b : Boundary) → Word.boundary-of (colour b) ≡ boundary-word b
+pub same-word : (b : Boundary) → Word.boundary-of (colour b) ≡ boundary-word b
 unfolding Word.boundary-of Word.boundary-words
 same-word double-yellow = refl
 same-word solid-yellow = refl
@@ -28,7 +28,7 @@ same-word solid-white = refl
 same-word broken-white = refl
 
 -- the dots of an identifier, joined from the left and from the right
-five : (a b c d e : Bytes) → a ++ b ++ c ++ d ++ e ≡ a ++ (b ++ (c ++ (d ++ e)))
+pub five : (a b c d e : Bytes) → a ++ b ++ c ++ d ++ e ≡ a ++ (b ++ (c ++ (d ++ e)))
 five a b c d e = append-assoc (a ++ b ++ c) d e ∙ append-assoc (a ++ b) c (d ++ e) ∙ append-assoc a b (c ++ (d ++ e))
 
 -- ## One field

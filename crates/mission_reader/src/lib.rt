@@ -4,7 +4,7 @@
 // goals and limits are looked up (`mission_references`; 15 to 17) and the limits counted (18). The line of a fault is found again by `find_line`.
 // A refusal leaves the tables as they are then: the caller clears them.
 //
-// specs/MissionReplies: what a reader must believe. specs/MissionReading: the same, executable; the contracts cite it. proofs/Theorems: the one is the other.
+// specs/MissionReplies: what an MDF gets, over statements (reader/specs/Replies says it over lines). specs/MissionReading: the same, executable; the contracts cite it. proofs/Theorems: the one is the other.
 // proofs/Found: what the walk found. proofs/References: 14 to 18 over filled tables are the first line at fault. proofs/Standing: a name stands in its text where it says.
 // proofs/OneReply: no second reply. proofs/Steps: the parts of `read_mission` together.
 //

@@ -1,7 +1,7 @@
 // What the words of every lent table are. There is no code here.
 //
 // specs/: definitions.
-//   Those that every promise rests on: Words (the words of each table of a network and of a mission, a lent table that holds rows, zero, room for rows),
+//   Over typed rows (`law/specs/Tables` says the same; `law_tables` is the bridge): Words (the words of each table of a network and of a mission, a lent table that holds rows, zero, room for rows),
 //   FileRows (the file's own row, which is part of the reply).
 //   Executable, for contracts to cite: Shown (the program's typed row of each row of the grammar), Named (tables with their names told in another way).
 // proofs/: the laws.
