@@ -20,9 +20,10 @@ use Rattle.statement.specs.declared.Order.{Order}
 use Rattle.statement.specs.Meaning.{Stretch}
 use Rattle.statement.specs.MissionMeaning.{meant}
 use Rattle.statement.specs.MissionKinds.{orderOf}
+use Rattle.place_table.proofs.Laws.{mdf-cell-is}
 use Rattle.mission_place.specs.declared.MissionPlace.{MissionPlace}
 use Rattle.mission_place.specs.declared.MissionOutcome.the-variants.{Next, Refused}
-use Rattle.mission_place.specs.Step.{hasOf, permitsOf, afterOf, optedOf, firstPlace, indexOf, dueOf, optionOf, byCell, stepOf, refusesBy, refusesOf, overOf, numberKindOf}
+use Rattle.mission_place.specs.Step.{hasOf, permitsOf, afterOf, optedOf, firstPlace, indexOf, dueOf, optionOf, cellOf, byCell, stepOf, refusesBy, refusesOf, overOf, numberKindOf}
 use Rattle.mission_place.specs.Abstract.{seen, placeOf, absOf, dueDigit}
 use Rattle.mission_place.proofs.Cells.{program, cells}
 
@@ -67,6 +68,20 @@ unfolding stepOf byCell dueOf optionOf refusesOf refusesBy
 answered p s =
     let c = cell mdf-table (indexOf p) (orderOf s) in
     F.by-number program (ltb c 128) (ltb c 255) (hasOf p (c - 128)) (permitsOf s) (afterOf p s c) (optedOf p (c - 128))
+
+-- ## By the cell
+-- what the program does with a cell that it looked up in the right table is what the place does
+pub cell-of : (p : MissionPlace) (kind : ℕ) → cellOf mdf-table p kind ≡ cell mdf-table (indexOf p) kind
+unfolding cellOf
+cell-of p kind = mdf-cell-is (indexOf p) kind
+
+pub step-by : (p : MissionPlace) (s : Order) → byCell p s (cellOf mdf-table p (orderOf s)) ≡ stepOf p s
+unfolding stepOf
+step-by p s = ap (byCell p s) (cell-of p (orderOf s))
+
+pub refuses-by : (p : MissionPlace) (kind : ℕ) → refusesBy p (cellOf mdf-table p kind) ≡ refusesOf p kind
+unfolding refusesOf
+refuses-by p kind = ap (refusesBy p) (cell-of p kind)
 
 -- it is over where the machine is
 pub over-is : (p : MissionPlace) → Sound p → overOf p ≡ true → absOf p ≡ over

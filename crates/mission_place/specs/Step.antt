@@ -1,15 +1,20 @@
 -- Executable: one step of the reader of an MDF, over the program's own types: which kinds may stand, which values are permitted, and the place after each. Assumes nothing.
 use mathlib.Core.Bool.{Bool, true, false}
+use mathlib.Core.List.{List}
 use Prim.Native.Nat.{ℕ, pred, _-_}
 use lib.Dec.{eqb, ltb}
 use Rattle.terms.specs.Words.{pick}
 use Rattle.grammar.specs.PlaceTable.{cell, mdf-table}
+use Rattle.grammar.specs.PlaceRows.{mission-kind-row}
+use Rattle.grammar.specs.MissionStatements.{goal, limit}
 use Rattle.statement.specs.declared.Order.{Order}
 use Rattle.statement.specs.declared.Order.the-variants as or
 use Rattle.statement.specs.MissionKinds.{orderOf}
 use Rattle.permitted.specs.Tests.{isCounted}
 use Rattle.permitted.specs.MissionTests.{isLimit}
 use Rattle.permitted.specs.Owed.{owing}
+use Rattle.place_table.specs.Cells.{cellIn}
+use Rattle.place_table.specs.MdfRows as rows
 use Rattle.mission_place.specs.declared.MissionPlace.{MissionPlace}
 use Rattle.mission_place.specs.declared.MissionOutcome.{MissionOutcome}
 use Rattle.mission_place.specs.declared.MissionOutcome.the-variants.{Next, Refused}
@@ -35,7 +40,7 @@ abbrev pub placed : (row owed : ℕ) → MissionPlace
 placed row owed = record { row = row; owed = owed; version = false; date = false }
 
 abbrev pub firstPlace : MissionPlace
-firstPlace = placed 0 0
+firstPlace = placed rows.name-due 0
 
 abbrev pub afterOf : MissionPlace → Order → ℕ → MissionPlace
 afterOf p (or.MdfName a l) row = placed row (p .owed)
@@ -64,10 +69,14 @@ optedOf p slot = pick (eqb slot 1) (withGiven p true (p .date)) (pick (eqb slot 
 
 -- ## The table's row
 abbrev pub rowAt : ℕ → MissionPlace → ℕ
-rowAt row p = pick (eqb row 4) (owing (p .owed) 4 5) (pick (eqb row 8) (owing (p .owed) 8 9) row)
+rowAt row p = pick (eqb row rows.goal-due) (owing (p .owed) rows.goal-due rows.end-checkpoints-due) (pick (eqb row rows.limit-due) (owing (p .owed) rows.limit-due rows.end-speed-limits-due) row)
 
 unfoldable pub indexOf : MissionPlace → ℕ
 indexOf p = rowAt (p .row) p
+
+-- ## The cell of a kind: in any table, so that whoever lends one says which it is
+unfoldable pub cellOf : List (List ℕ) → MissionPlace → ℕ → ℕ
+cellOf table p kind = cellIn 12 13 table (indexOf p) kind
 
 -- ## The step: by the cell's number the due order, an option, or none
 unfoldable pub dueOf : MissionPlace → Order → ℕ → MissionOutcome
@@ -79,6 +88,7 @@ optionOf p s slot = pick (hasOf p slot) (Refused 6) (pick (permitsOf s) (Next (o
 unfoldable pub byCell : MissionPlace → Order → ℕ → MissionOutcome
 byCell p s c = pick (ltb c 128) (dueOf p s c) (pick (ltb c 255) (optionOf p s (c - 128)) (Refused 5))
 
+-- with the cell of its kind in the table of an MDF
 unfoldable pub stepOf : MissionPlace → Order → MissionOutcome
 stepOf p s = byCell p s (cell mdf-table (indexOf p) (orderOf s))
 
@@ -90,8 +100,8 @@ unfoldable pub refusesOf : MissionPlace → ℕ → ℕ
 refusesOf p kind = refusesBy p (cell mdf-table (indexOf p) kind)
 
 abbrev pub overOf : MissionPlace → Bool
-overOf p = eqb (p .row) 11
+overOf p = eqb (p .row) rows.over
 
 -- 01: "A first field that begins with a digit makes .. by its place, a goal or limit line in an MDF (5 where none is due)"
 unfoldable pub numberKindOf : MissionPlace → ℕ
-numberKindOf p = pick (eqb (indexOf p) 4) 11 (pick (eqb (indexOf p) 8) 12 255)
+numberKindOf p = pick (eqb (indexOf p) rows.goal-due) (mission-kind-row goal) (pick (eqb (indexOf p) rows.limit-due) (mission-kind-row limit) 255)

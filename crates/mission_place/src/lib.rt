@@ -1,15 +1,17 @@
 // Where a reader of an MDF stands: what is due and how many goals or limits are still owed, and one step, from an order to the next place or a refusal.
-// Which order may stand where is one table of places by statements. `refuses` tells 5 and 6 by the kind alone, before a field is read; `step` tells 5, 6 and 9;
-// `number_kind` tells what a line that begins with a digit is here. Every number and every place is handled: nothing here requires anything.
+// Which order may stand where is one table of places by statements, which is lent: `cell` looks a kind up in it, once for a line. By that cell `refuses` tells
+// 5 and 6, before a field is read, and `step` tells 5, 6 and 9; `number_kind` tells what a line that begins with a digit is here. Every number and every place is handled: nothing here requires anything.
 //
 // specs/Step: the same, executable, which the contracts cite. proofs/: it is the grammar's machine, step by step (Theorems).
 //
 // Rests on `terms`, `grammar`, `statement`, `permitted` and `place_table`.
 ghost use mathlib.Core.Path.{_≡_};
-ghost use Rattle.mission_place.specs.Step.{permitsOf, placed, firstPlace, afterOf, indexOf, hasOf, optedOf, dueOf, optionOf, stepOf, refusesOf, overOf, numberKindOf};
+ghost use Rattle.mission_place.specs.Step.{permitsOf, placed, firstPlace, afterOf, indexOf, hasOf, optedOf, dueOf, optionOf, cellOf, byCell, refusesBy, overOf, numberKindOf};
 use permitted;
 use place_table;
+use place_table::mdf;
 use statement::Order;
+use statement::orders;
 
 // The place: the row of what is due; how many goals or limits are still owed; the single options given.
 pub struct MissionPlace {
@@ -54,14 +56,14 @@ impl MissionPlace {
     pub fn start() -> MissionPlace
         ensures { λ r. ⌜ r ≡ firstPlace ⌝ }
     {
-        MissionPlace::at(0, 0)
+        MissionPlace::at(mdf::NAME_DUE, 0)
     }
 
     // `end_file` was taken.
     pub fn is_over(self) -> bool
         ensures { λ r. ⌜ r ≡ overOf self ⌝ }
     {
-        self.row == 11
+        self.row == mdf::OVER
     }
 
     // The place after the due order, in the row that the table gives.
@@ -79,14 +81,22 @@ impl MissionPlace {
     }
 
     // The table's row: one with nothing more owed is another.
-    fn index(self) -> usize
+    fn index(self) -> u8
         ensures { λ r. ⌜ r ≡ indexOf self ⌝ }
     {
         let row = self.row;
         match row {
-            4 => permitted::owed_row(self.owed, 4, 5),
-            8 => permitted::owed_row(self.owed, 8, 9),
-            _ => row as usize,
+            mdf::GOAL_DUE => permitted::owed_row(
+                self.owed,
+                mdf::GOAL_DUE,
+                mdf::END_CHECKPOINTS_DUE,
+            ),
+            mdf::LIMIT_DUE => permitted::owed_row(
+                self.owed,
+                mdf::LIMIT_DUE,
+                mdf::END_SPEED_LIMITS_DUE,
+            ),
+            _ => row,
         }
     }
 
@@ -148,37 +158,46 @@ impl MissionPlace {
         ensures { λ r. ⌜ r ≡ numberKindOf self ⌝ }
     {
         match self.index() {
-            4 => 11,
-            8 => 12,
+            mdf::GOAL_DUE => orders::GOAL,
+            mdf::LIMIT_DUE => orders::LIMIT,
             _ => place_table::REFUSED,
         }
     }
 
-    // By its kind alone, before its fields are read: 5, 6, or 0 where the order may stand.
-    pub fn refuses(self, kind: u8) -> u8
-        ensures { λ r. ⌜ r ≡ refusesOf self kind ⌝ }
+    // The cell of a kind in the table that is lent; refused where there is no such kind.
+    pub fn cell(self, table: &[[u8; 13]; 12], kind: u8) -> u8
+        ensures { λ r. ⌜ r ≡ cellOf (now (table .entry)) self kind ⌝ }
     {
-        let c = place_table::mdf_next(self.index(), kind as usize);
-        if c < 128 {
+        place_table::mdf_cell(table, self.index(), kind)
+    }
+
+    // By the cell of a kind, before any field is read: 5, 6, or 0 where the order may stand.
+    pub fn refuses(self, cell: u8) -> u8
+        ensures { λ r. ⌜ r ≡ refusesBy self cell ⌝ }
+    {
+        if cell < place_table::OFTEN {
             return 0;
         }
-        if c < place_table::REFUSED {
-            if self.has(c - 128) { 6 } else { 0 }
+        if cell < place_table::REFUSED {
+            if self.has(cell - place_table::OFTEN) {
+                6
+            } else {
+                0
+            }
         } else {
             5
         }
     }
 
-    // The place after an order, or the refusal's number: 5, 6 or 9.
-    pub fn step(self, s: Order) -> MissionOutcome
-        ensures { λ r. ⌜ r ≡ stepOf self s ⌝ }
+    // The place after an order with the cell of its kind, or the refusal's number: 5, 6 or 9.
+    pub fn step(self, cell: u8, s: Order) -> MissionOutcome
+        ensures { λ r. ⌜ r ≡ byCell self s cell ⌝ }
     {
-        let c = place_table::mdf_next(self.index(), s.kind() as usize);
-        if c < 128 {
-            return self.due_step(s, c);
+        if cell < place_table::OFTEN {
+            return self.due_step(s, cell);
         }
-        if c < place_table::REFUSED {
-            self.option_step(s, c - 128)
+        if cell < place_table::REFUSED {
+            self.option_step(s, cell - place_table::OFTEN)
         } else {
             MissionOutcome::Refused(5)
         }

@@ -207,7 +207,7 @@ pub fn less(n: u32) -> u32
 }
 
 // The row of a place with so much owed: one where there is more, another where all is done.
-pub fn owed_row(owed: u32, more: usize, done: usize) -> usize
+pub fn owed_row(owed: u32, more: u8, done: u8) -> u8
     ensures { λ r. ⌜ r ≡ owing owed more done ⌝ }
 {
     if owed == 0 { done } else { more }

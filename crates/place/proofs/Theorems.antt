@@ -18,9 +18,10 @@ use Rattle.grammar.proofs.Follows as F
 use Rattle.statement.specs.declared.Statement.{Statement}
 use Rattle.statement.specs.Meaning.{Stretch, meant}
 use Rattle.statement.specs.Kinds.{kindOf}
+use Rattle.place_table.proofs.Laws.{rndf-cell-is}
 use Rattle.place.specs.declared.Place.{Place}
 use Rattle.place.specs.declared.Outcome.the-variants.{Next, Refused}
-use Rattle.place.specs.Step.{hasOf, permitsOf, afterOf, optedOf, firstPlace, indexOf, dueOf, optionOf, byCell, stepOf, refusesBy, refusesOf, overOf}
+use Rattle.place.specs.Step.{hasOf, permitsOf, afterOf, optedOf, firstPlace, indexOf, dueOf, optionOf, cellOf, byCell, stepOf, refusesBy, refusesOf, overOf}
 use Rattle.place.specs.Abstract.{seen, placeOf, absOf}
 use Rattle.place.proofs.Cells.{program, cells}
 
@@ -65,6 +66,20 @@ unfolding stepOf byCell dueOf optionOf refusesOf refusesBy
 answered p s =
     let c = cell rndf-table (indexOf p) (kindOf s) in
     F.by-number program (ltb c 128) (ltb c 255) (hasOf (p .given) (c - 128)) (permitsOf p s) (afterOf p s c) (optedOf p (c - 128))
+
+-- ## By the cell
+-- what the program does with a cell that it looked up in the right table is what the place does
+pub cell-of : (p : Place) (kind : ℕ) → cellOf rndf-table p kind ≡ cell rndf-table (indexOf p) kind
+unfolding cellOf
+cell-of p kind = rndf-cell-is (indexOf p) kind
+
+pub step-by : (p : Place) (s : Statement) → byCell p s (cellOf rndf-table p (kindOf s)) ≡ stepOf p s
+unfolding stepOf
+step-by p s = ap (byCell p s) (cell-of p (kindOf s))
+
+pub refuses-by : (p : Place) (kind : ℕ) → refusesBy (p .given) (cellOf rndf-table p kind) ≡ refusesOf p kind
+unfolding refusesOf
+refuses-by p kind = ap (refusesBy (p .given)) (cell-of p kind)
 
 -- it is over where the machine is
 pub over-is : (p : Place) → Sound p → overOf p ≡ true → absOf p ≡ over

@@ -1,5 +1,6 @@
 -- Executable: one step of the reader of an RNDF, over the program's own types: which kinds may stand, which values are permitted, and the place after each. Assumes nothing.
 use mathlib.Core.Bool.{Bool, true, false}
+use mathlib.Core.List.{List}
 use Prim.Native.Nat.{ℕ, suc, pred, _-_}
 use lib.Dec.{eqb, ltb}
 use Rattle.terms.specs.Words.{pick}
@@ -10,6 +11,8 @@ use Rattle.statement.specs.declared.Statement.the-variants as st
 use Rattle.statement.specs.Kinds.{kindOf}
 use Rattle.permitted.specs.Tests.{isCounted, isAtMost, isUpTo, isTheNumber, isThePart, isThePoint, isOwnStop, isOwnCheckpoint, isOwnExit, isPerimeterExit}
 use Rattle.permitted.specs.Owed.{owing}
+use Rattle.place_table.specs.Cells.{cellIn}
+use Rattle.place_table.specs.RndfRows as rows
 use Rattle.place.specs.declared.Open.{Open}
 use Rattle.place.specs.declared.Open.the-variants as op
 use Rattle.place.specs.declared.Given.{Given}
@@ -92,7 +95,7 @@ abbrev pub placed : Open → (row due o z l w : ℕ) → Place
 placed q row due o z l w = record { part = q; row = row; due = due; segments = o; zones = z; parts = l; points = w; given = none-given }
 
 abbrev pub firstPlace : Place
-firstPlace = placed op.File 0 0 0 0 0 0
+firstPlace = placed op.File rows.name-due 0 0 0 0 0
 
 -- a part is opened: one less of its sort is owed; a spot has two points
 abbrev pub openedOf : Place → Open → ℕ → Place
@@ -162,14 +165,18 @@ optedOf p slot = withGiven p (markedOf (p .given) slot)
 -- ## The table's row
 abbrev pub rowAt : ℕ → Place → ℕ
 rowAt row p =
-    pick (eqb row 4) (owing (p .segments) 4 (owing (p .zones) 5 6))
-    (pick (eqb row 9) (owing (p .parts) 9 10)
-    (pick (eqb row 13) (owing (p .points) 13 14)
-    (pick (eqb row 19) (owing (p .points) 19 20)
-    (pick (eqb row 21) (owing (p .parts) 21 22) row))))
+    pick (eqb row rows.segment-due) (owing (p .segments) rows.segment-due (owing (p .zones) rows.zone-due rows.end-file-due))
+    (pick (eqb row rows.lane-due) (owing (p .parts) rows.lane-due rows.end-segment-due)
+    (pick (eqb row rows.waypoint-due) (owing (p .points) rows.waypoint-due rows.end-lane-due)
+    (pick (eqb row rows.perimeterpoint-due) (owing (p .points) rows.perimeterpoint-due rows.end-perimeter-due)
+    (pick (eqb row rows.spot-due) (owing (p .parts) rows.spot-due rows.end-zone-due) row))))
 
 unfoldable pub indexOf : Place → ℕ
 indexOf p = rowAt (p .row) p
+
+-- ## The cell of a kind: in any table, so that whoever lends one says which it is
+unfoldable pub cellOf : List (List ℕ) → Place → ℕ → ℕ
+cellOf table p kind = cellIn 27 30 table (indexOf p) kind
 
 -- ## The step: by the cell's number the due statement, an option, or none
 unfoldable pub dueOf : Place → Statement → ℕ → Outcome
@@ -181,6 +188,7 @@ optionOf p s slot = pick (hasOf (p .given) slot) (Refused 6) (pick (permitsOf p 
 unfoldable pub byCell : Place → Statement → ℕ → Outcome
 byCell p s c = pick (ltb c 128) (dueOf p s c) (pick (ltb c 255) (optionOf p s (c - 128)) (Refused 5))
 
+-- with the cell of its kind in the table of an RNDF
 unfoldable pub stepOf : Place → Statement → Outcome
 stepOf p s = byCell p s (cell rndf-table (indexOf p) (kindOf s))
 
@@ -192,4 +200,4 @@ unfoldable pub refusesOf : Place → ℕ → ℕ
 refusesOf p kind = refusesBy (p .given) (cell rndf-table (indexOf p) kind)
 
 abbrev pub overOf : Place → Bool
-overOf p = eqb (p .row) 26
+overOf p = eqb (p .row) rows.over

@@ -1,15 +1,17 @@
 // Where a reader of an RNDF stands: the open part with its identifiers, what is due and what is still owed, and one step, from a statement to the next place or a refusal.
-// Which statement may stand where is one table of places by statements. `refuses` tells 5 and 6 by the kind alone, before a field is read; `step` tells 5, 6 and 9.
-// Every number of a statement is handled, whatever its size, and every place, also one that no run reaches: nothing here requires anything.
+// Which statement may stand where is one table of places by statements, which is lent: `cell` looks a kind up in it, once for a line. By that cell `refuses` tells
+// 5 and 6, before a field is read, and `step` tells 5, 6 and 9. Every number of a statement is handled, whatever its size, and every place, also one that no run reaches: nothing here requires anything.
 //
 // specs/Step: the same, executable, which the contracts cite. proofs/: it is the grammar's machine, step by step (Theorems).
 //
 // Rests on `terms`, `grammar`, `statement`, `permitted` and `place_table`.
 ghost use mathlib.Core.Path.{_≡_};
 ghost use Rattle.permitted.specs.Owed.{owing};
-ghost use Rattle.place.specs.Step.{majorOf, minorOf, aroundOf, exitsOf, permitsOf, placed, firstPlace, openedOf, passedOf, leftOf, afterOf, indexOf, hasOf, markedOf, optedOf, dueOf, optionOf, stepOf, refusesOf, overOf};
+ghost use Rattle.place.specs.Step.{majorOf, minorOf, aroundOf, exitsOf, permitsOf, placed, firstPlace, openedOf, passedOf, leftOf, afterOf, indexOf, hasOf, markedOf, optedOf, dueOf, optionOf, cellOf, byCell, refusesBy, overOf};
+ghost use Rattle.place_table.specs.RndfRows.{segment-due, zone-due, end-file-due};
 use permitted;
 use place_table;
+use place_table::rndf;
 use statement::Id;
 use statement::Statement;
 
@@ -154,13 +156,13 @@ impl Given {
 }
 
 // The row of a place outside every part.
-fn part_row(segments: u32, zones: u32) -> usize
-    ensures { λ r. ⌜ r ≡ owing segments 4 (owing zones 5 6) ⌝ }
+fn part_row(segments: u32, zones: u32) -> u8
+    ensures { λ r. ⌜ r ≡ owing segments segment-due (owing zones zone-due end-file-due) ⌝ }
 {
     if segments == 0 {
-        permitted::owed_row(zones, 5, 6)
+        permitted::owed_row(zones, rndf::ZONE_DUE, rndf::END_FILE_DUE)
     } else {
-        4
+        rndf::SEGMENT_DUE
     }
 }
 
@@ -189,14 +191,14 @@ impl Place {
     pub fn start() -> Place
         ensures { λ r. ⌜ r ≡ firstPlace ⌝ }
     {
-        Place::at(Open::File, 0, 0, 0, 0, 0, 0)
+        Place::at(Open::File, rndf::NAME_DUE, 0, 0, 0, 0, 0)
     }
 
     // `end_file` was taken.
     pub fn is_over(self) -> bool
         ensures { λ r. ⌜ r ≡ overOf self ⌝ }
     {
-        self.row == 26
+        self.row == rndf::OVER
     }
 
     // Are the statement's values permitted here?
@@ -310,17 +312,29 @@ impl Place {
     }
 
     // The table's row: one with nothing more owed is another.
-    fn index(self) -> usize
+    fn index(self) -> u8
         ensures { λ r. ⌜ r ≡ indexOf self ⌝ }
     {
         let row = self.row;
         match row {
-            4 => part_row(self.segments, self.zones),
-            9 => permitted::owed_row(self.parts, 9, 10),
-            13 => permitted::owed_row(self.points, 13, 14),
-            19 => permitted::owed_row(self.points, 19, 20),
-            21 => permitted::owed_row(self.parts, 21, 22),
-            _ => row as usize,
+            rndf::SEGMENT_DUE => part_row(self.segments, self.zones),
+            rndf::LANE_DUE => permitted::owed_row(
+                self.parts,
+                rndf::LANE_DUE,
+                rndf::END_SEGMENT_DUE,
+            ),
+            rndf::WAYPOINT_DUE => permitted::owed_row(
+                self.points,
+                rndf::WAYPOINT_DUE,
+                rndf::END_LANE_DUE,
+            ),
+            rndf::PERIMETERPOINT_DUE => permitted::owed_row(
+                self.points,
+                rndf::PERIMETERPOINT_DUE,
+                rndf::END_PERIMETER_DUE,
+            ),
+            rndf::SPOT_DUE => permitted::owed_row(self.parts, rndf::SPOT_DUE, rndf::END_ZONE_DUE),
+            _ => row,
         }
     }
 
@@ -377,32 +391,42 @@ impl Place {
         }
     }
 
-    // By its kind alone, before its fields are read: 5, 6, or 0 where the statement may stand.
-    pub fn refuses(self, kind: u8) -> u8
-        ensures { λ r. ⌜ r ≡ refusesOf self kind ⌝ }
+    // The cell of a kind in the table that is lent; refused where there is no such kind.
+    pub fn cell(self, table: &[[u8; 30]; 27], kind: u8) -> u8
+        ensures { λ r. ⌜ r ≡ cellOf (now (table .entry)) self kind ⌝ }
     {
-        let c = place_table::rndf_next(self.index(), kind as usize);
-        if c < 128 {
+        place_table::rndf_cell(table, self.index(), kind)
+    }
+
+    // By the cell of a kind, before any field is read: 5, 6, or 0 where the statement may stand.
+    pub fn refuses(self, cell: u8) -> u8
+        ensures { λ r. ⌜ r ≡ refusesBy (self .given) cell ⌝ }
+    {
+        if cell < place_table::OFTEN {
             return 0;
         }
-        if c < place_table::REFUSED {
-            if self.has(c - 128) { 6 } else { 0 }
+        if cell < place_table::REFUSED {
+            if self.has(cell - place_table::OFTEN) {
+                6
+            } else {
+                0
+            }
         } else {
             5
         }
     }
 
-    // The place after a statement, or the refusal's number: 5, 6 or 9. The values are tested in one place, so that the compiler can do it here.
-    pub fn step(self, s: Statement) -> Outcome
-        ensures { λ r. ⌜ r ≡ stepOf self s ⌝ }
+    // The place after a statement with the cell of its kind, or the refusal's number: 5, 6 or 9. The values are tested in one place, so that the compiler
+    // can do it here.
+    pub fn step(self, cell: u8, s: Statement) -> Outcome
+        ensures { λ r. ⌜ r ≡ byCell self s cell ⌝ }
     {
-        let c = place_table::rndf_next(self.index(), s.kind() as usize);
         let fine = self.permits(s);
-        if c < 128 {
-            return self.due_step(s, c, fine);
+        if cell < place_table::OFTEN {
+            return self.due_step(s, cell, fine);
         }
-        if c < place_table::REFUSED {
-            self.option_step(s, c - 128, fine)
+        if cell < place_table::REFUSED {
+            self.option_step(s, cell - place_table::OFTEN, fine)
         } else {
             Outcome::Refused(5)
         }

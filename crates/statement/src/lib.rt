@@ -4,7 +4,10 @@
 // specs/Meaning, specs/MissionMeaning: what each means as a statement of `grammar`. specs/Kinds, specs/MissionKinds: the column of its kind in the table of
 // places by statements, and the way back from a meaning. proofs/Laws, proofs/MissionLaws: there and back again is the same.
 //
-// Rests on `terms` and `grammar`.
+// kinds.rt, orders.rt: the names of the kinds, by their columns. Rests on `terms` and `grammar`.
+pub mod kinds;
+pub mod orders;
+
 ghost use mathlib.Core.Path.{_≡_};
 ghost use Prim.Native.Nat.{_<_};
 ghost use Rattle.statement.specs.Kinds.{kindOf};
@@ -74,36 +77,36 @@ impl Statement {
         ensures { λ r. ⌜ (r ≡ kindOf self) × (r < 30) ⌝ }
     {
         match self {
-            Statement::RndfName(_, _) => 0,
-            Statement::NumSegments(_) => 1,
-            Statement::NumZones(_) => 2,
-            Statement::FormatVersion(_, _) => 3,
-            Statement::CreationDate(_, _) => 4,
-            Statement::Segment(_) => 5,
-            Statement::NumLanes(_) => 6,
-            Statement::SegmentName(_, _) => 7,
-            Statement::EndSegment => 8,
-            Statement::Lane(_, _) => 9,
-            Statement::NumWaypoints(_) => 10,
-            Statement::LaneWidth(_) => 11,
-            Statement::LeftBoundary(_) => 12,
-            Statement::RightBoundary(_) => 13,
-            Statement::Checkpoint(_, _) => 14,
-            Statement::Stop(_) => 15,
-            Statement::Exit(_, _) => 16,
-            Statement::EndLane => 17,
-            Statement::Zone(_) => 18,
-            Statement::NumSpots(_) => 19,
-            Statement::ZoneName(_, _) => 20,
-            Statement::EndZone => 21,
-            Statement::Perimeter(_, _) => 22,
-            Statement::NumPerimeterpoints(_) => 23,
-            Statement::EndPerimeter => 24,
-            Statement::Spot(_, _) => 25,
-            Statement::SpotWidth(_) => 26,
-            Statement::EndSpot => 27,
-            Statement::EndFile => 28,
-            Statement::Point(_, _, _) => 29,
+            Statement::RndfName(_, _) => kinds::RNDF_NAME,
+            Statement::NumSegments(_) => kinds::NUM_SEGMENTS,
+            Statement::NumZones(_) => kinds::NUM_ZONES,
+            Statement::FormatVersion(_, _) => kinds::FORMAT_VERSION,
+            Statement::CreationDate(_, _) => kinds::CREATION_DATE,
+            Statement::Segment(_) => kinds::SEGMENT,
+            Statement::NumLanes(_) => kinds::NUM_LANES,
+            Statement::SegmentName(_, _) => kinds::SEGMENT_NAME,
+            Statement::EndSegment => kinds::END_SEGMENT,
+            Statement::Lane(_, _) => kinds::LANE,
+            Statement::NumWaypoints(_) => kinds::NUM_WAYPOINTS,
+            Statement::LaneWidth(_) => kinds::LANE_WIDTH,
+            Statement::LeftBoundary(_) => kinds::LEFT_BOUNDARY,
+            Statement::RightBoundary(_) => kinds::RIGHT_BOUNDARY,
+            Statement::Checkpoint(_, _) => kinds::CHECKPOINT,
+            Statement::Stop(_) => kinds::STOP,
+            Statement::Exit(_, _) => kinds::EXIT,
+            Statement::EndLane => kinds::END_LANE,
+            Statement::Zone(_) => kinds::ZONE,
+            Statement::NumSpots(_) => kinds::NUM_SPOTS,
+            Statement::ZoneName(_, _) => kinds::ZONE_NAME,
+            Statement::EndZone => kinds::END_ZONE,
+            Statement::Perimeter(_, _) => kinds::PERIMETER,
+            Statement::NumPerimeterpoints(_) => kinds::NUM_PERIMETERPOINTS,
+            Statement::EndPerimeter => kinds::END_PERIMETER,
+            Statement::Spot(_, _) => kinds::SPOT,
+            Statement::SpotWidth(_) => kinds::SPOT_WIDTH,
+            Statement::EndSpot => kinds::END_SPOT,
+            Statement::EndFile => kinds::END_FILE,
+            Statement::Point(_, _, _) => kinds::POINT,
         }
     }
 }
@@ -114,19 +117,19 @@ impl Order {
         ensures { λ r. ⌜ (r ≡ orderOf self) × (r < 13) ⌝ }
     {
         match self {
-            Order::MdfName(_, _) => 0,
-            Order::Rndf(_, _) => 1,
-            Order::FormatVersion(_, _) => 2,
-            Order::CreationDate(_, _) => 3,
-            Order::Checkpoints => 4,
-            Order::NumCheckpoints(_) => 5,
-            Order::EndCheckpoints => 6,
-            Order::SpeedLimits => 7,
-            Order::NumSpeedLimits(_) => 8,
-            Order::EndSpeedLimits => 9,
-            Order::EndFile => 10,
-            Order::Goal(_) => 11,
-            Order::Limit(_, _, _) => 12,
+            Order::MdfName(_, _) => orders::MDF_NAME,
+            Order::Rndf(_, _) => orders::RNDF,
+            Order::FormatVersion(_, _) => orders::FORMAT_VERSION,
+            Order::CreationDate(_, _) => orders::CREATION_DATE,
+            Order::Checkpoints => orders::CHECKPOINTS,
+            Order::NumCheckpoints(_) => orders::NUM_CHECKPOINTS,
+            Order::EndCheckpoints => orders::END_CHECKPOINTS,
+            Order::SpeedLimits => orders::SPEED_LIMITS,
+            Order::NumSpeedLimits(_) => orders::NUM_SPEED_LIMITS,
+            Order::EndSpeedLimits => orders::END_SPEED_LIMITS,
+            Order::EndFile => orders::END_FILE,
+            Order::Goal(_) => orders::GOAL,
+            Order::Limit(_, _, _) => orders::LIMIT,
         }
     }
 }

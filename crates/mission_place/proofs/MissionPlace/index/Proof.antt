@@ -11,9 +11,6 @@ owed-row-requires c κs = search needs
 owed-row-requires-2 : tie.Need-owed-row-requires-2
 owed-row-requires-2 c κs = search needs
 
-cast-result : tie.Need-cast-result
-cast-result c = search needs
-
 returns : tie.Need-returns
 unfolding indexOf
 returns c = rw (c .before .match .keys1) (c .owed-row .ensures)
@@ -29,4 +26,4 @@ returns-3 c = rw (ne-eqb _ 4 (c .match .rest .0 .1), ne-eqb _ 8 (c .match .rest 
 pub index-spec : {M : Type 1} → statement M
 index-spec =
     tie.close
-    (tie.spec owed-row-requires owed-row-requires-2 cast-result returns returns-2 returns-3)
+    (tie.spec owed-row-requires owed-row-requires-2 returns returns-2 returns-3)

@@ -1,50 +1,28 @@
 -- `mission_place::MissionPlace::step` meets its contract. Assumes nothing.
-use Rattle.mission_place.specs.Step.{stepOf, byCell}
+use Rattle.mission_place.specs.Step.{byCell}
 use borrow.Author.Tests.{lt-ltb, le-ltb}
 use borrow.Author.Needs.{needs}
 use Rattle.mission_place.proofs.MissionPlace.step.Statement.{statement}
 use Rattle.mission_place.proofs.MissionPlace.step.Tie as tie
 
-index-requires : tie.Need-index-requires
-index-requires c κs = search needs
-
-kind-requires : tie.Need-kind-requires
-kind-requires c κs = search needs
-
-cast-mdf-next : tie.Need-cast-mdf-next
-cast-mdf-next c = search needs
-
-mdf-next-requires : tie.Need-mdf-next-requires
-mdf-next-requires c κs = search needs
-
 due-step-requires : tie.Need-due-step-requires
 due-step-requires c κs = search needs
 
 returns : tie.Need-returns
-unfolding stepOf byCell
-returns c = rw (← c .before .before .before .before .index .ensures, ← c .before .before .before .kind .ensures .0, ← c .before .before .mdf-next .ensures, lt-ltb _ _ (c .before .if1 .taken)) (c .due-step .ensures)
+unfolding byCell
+returns c = rw (lt-ltb _ _ (c .before .if1 .taken)) (c .due-step .ensures)
 
 option-step-requires : tie.Need-option-step-requires
 option-step-requires c κs = search needs
 
 returns-2 : tie.Need-returns-2
-unfolding stepOf byCell
-returns-2 c = rw (← c .before .before .before .before .before .index .ensures, ← c .before .before .before .before .kind .ensures .0, ← c .before .before .before .mdf-next .ensures, le-ltb _ _ (c .before .before .if1 .left), lt-ltb _ _ (c .before .if2 .taken)) (c .option-step .ensures)
+unfolding byCell
+returns-2 c = rw (le-ltb _ _ (c .before .before .if1 .left), lt-ltb _ _ (c .before .if2 .taken)) (c .option-step .ensures)
 
 returns-3 : tie.Need-returns-3
-unfolding stepOf byCell
-returns-3 c = rw (← c .before .before .before .before .index .ensures, ← c .before .before .before .kind .ensures .0, ← c .before .before .mdf-next .ensures, le-ltb _ _ (c .before .if1 .left), le-ltb _ _ (c .if2 .left))
+unfolding byCell
+returns-3 c = rw (le-ltb _ _ (c .before .if1 .left), le-ltb _ _ (c .if2 .left))
 
 pub step-spec : {M : Type 1} → statement M
 step-spec =
-    tie.close
-    (tie.spec
-    index-requires
-    kind-requires
-    cast-mdf-next
-    mdf-next-requires
-    due-step-requires
-    returns
-    option-step-requires
-    returns-2
-    returns-3)
+    tie.close (tie.spec due-step-requires returns option-step-requires returns-2 returns-3)

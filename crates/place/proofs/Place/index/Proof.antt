@@ -20,9 +20,6 @@ owed-row-requires-3 c κs = search needs
 owed-row-requires-4 : tie.Need-owed-row-requires-4
 owed-row-requires-4 c κs = search needs
 
-cast-result : tie.Need-cast-result
-cast-result c = search needs
-
 returns : tie.Need-returns
 unfolding indexOf
 returns c = rw (c .before .match .keys1) (c .part-row .ensures)
@@ -56,7 +53,6 @@ index-spec =
     owed-row-requires-2
     owed-row-requires-3
     owed-row-requires-4
-    cast-result
     returns
     returns-2
     returns-3

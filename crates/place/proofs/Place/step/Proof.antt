@@ -1,21 +1,9 @@
 -- `place::Place::step` meets its contract. Assumes nothing.
-use Rattle.place.specs.Step.{stepOf, byCell}
+use Rattle.place.specs.Step.{byCell}
 use borrow.Author.Tests.{lt-ltb, le-ltb}
 use borrow.Author.Needs.{needs}
 use Rattle.place.proofs.Place.step.Statement.{statement}
 use Rattle.place.proofs.Place.step.Tie as tie
-
-index-requires : tie.Need-index-requires
-index-requires c κs = search needs
-
-kind-requires : tie.Need-kind-requires
-kind-requires c κs = search needs
-
-cast-rndf-next : tie.Need-cast-rndf-next
-cast-rndf-next c = search needs
-
-rndf-next-requires : tie.Need-rndf-next-requires
-rndf-next-requires c κs = search needs
 
 permits-requires : tie.Need-permits-requires
 permits-requires c κs = search needs
@@ -24,28 +12,24 @@ due-step-requires : tie.Need-due-step-requires
 due-step-requires c κs = c .before .permits .ensures
 
 returns : tie.Need-returns
-unfolding stepOf byCell
-returns c = rw (← c .before .before .before .before .before .index .ensures, ← c .before .before .before .before .kind .ensures .0, ← c .before .before .before .rndf-next .ensures, lt-ltb _ _ (c .before .if1 .taken)) (c .due-step .ensures)
+unfolding byCell
+returns c = rw (lt-ltb _ _ (c .before .if1 .taken)) (c .due-step .ensures)
 
 option-step-requires : tie.Need-option-step-requires
 option-step-requires c κs = c .before .before .permits .ensures
 
 returns-2 : tie.Need-returns-2
-unfolding stepOf byCell
-returns-2 c = rw (← c .before .before .before .before .before .before .index .ensures, ← c .before .before .before .before .before .kind .ensures .0, ← c .before .before .before .before .rndf-next .ensures, le-ltb _ _ (c .before .before .if1 .left), lt-ltb _ _ (c .before .if2 .taken)) (c .option-step .ensures)
+unfolding byCell
+returns-2 c = rw (le-ltb _ _ (c .before .before .if1 .left), lt-ltb _ _ (c .before .if2 .taken)) (c .option-step .ensures)
 
 returns-3 : tie.Need-returns-3
-unfolding stepOf byCell
-returns-3 c = rw (← c .before .before .before .before .before .index .ensures, ← c .before .before .before .before .kind .ensures .0, ← c .before .before .before .rndf-next .ensures, le-ltb _ _ (c .before .if1 .left), le-ltb _ _ (c .if2 .left))
+unfolding byCell
+returns-3 c = rw (le-ltb _ _ (c .before .if1 .left), le-ltb _ _ (c .if2 .left))
 
 pub step-spec : {M : Type 1} → statement M
 step-spec =
     tie.close
     (tie.spec
-    index-requires
-    kind-requires
-    cast-rndf-next
-    rndf-next-requires
     permits-requires
     due-step-requires
     returns

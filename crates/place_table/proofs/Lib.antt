@@ -1,0 +1,2 @@
+-- The laws of the tables.
+pub mod Laws

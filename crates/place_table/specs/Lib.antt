@@ -1,0 +1,4 @@
+-- The rows of the tables, and a cell of one.
+pub mod RndfRows
+pub mod MdfRows
+pub mod Cells
