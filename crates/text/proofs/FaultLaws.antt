@@ -26,6 +26,7 @@ use Rattle.text.specs.Said.{Said, SpellFields}
 use Rattle.text.specs.Judge.{Vals, readAll, Verdict, fault, good, check, Lexis, kindAt, args, taken, valued, standing, known, tell, told, formed, judge}
 use Rattle.text.specs.Faults.{Fielded, Fault, form, unknown, misplaced, given-again, miscounted, misspelt, forbidden}
 use Rattle.text.proofs.FieldReading.{said, all-right, all-only}
+use Rattle.text.proofs.Refused.{refused-nine}
 use Rattle.text.proofs.Telling.{Lawful, line-is, spelled-args, args-spelled}
 
 failed : {S P : Type 0} (b : Bool) (m n : ℕ) (v : Verdict S P) → check b m v ≡ fault n → ((b ≡ false) × (m ≡ n)) ⊎ ((b ≡ true) × (v ≡ fault n))
@@ -66,7 +67,7 @@ module _ {L : Lang} (A : Machine L) (X : Lexis L) (line-of : (k : L .Kind) → L
         where
           go : (o : Out (Place A)) → step A p (say L k (make k w)) ≡ o → taken A X (say L k (make k w)) o ≡ fault n → Fault A X line-of p a l n
           go (next q′) t e = not-good e
-          go (refuse c′) t e = by 9 n (same-fault e) (forbidden (record { fields = h; is = q; here = s }) (make k w) (spelled-args A X line-of W p f fs k q w (all-right (sorts k) (args A X (keyword k) f fs) w r)) (λ q′ u. let z : _≡_ {A = ℕ} 0 1 = cc (t, u) in omega arith))
+          go (refuse c′) t e = by 9 n (sym (refused-nine A p k (make k w) c′ s t) ∙ same-fault e) (forbidden (record { fields = h; is = q; here = s }) (make k w) (spelled-args A X line-of W p f fs k q w (all-right (sorts k) (args A X (keyword k) f fs) w r)) (λ q′ u. let z : _≡_ {A = ℕ} 0 1 = cc (t, u) in omega arith))
 
       in-kind : (k : Kind) → kindAt A X p f ≡ some k → (x : Option ℕ) → stands A p k ≡ x
           → standing A X x (check (eqb (length (args A X (keyword k) f fs)) (length (sorts k))) 7 (valued A X p k (readAll (sorts k) (args A X (keyword k) f fs)))) ≡ fault n → Fault A X line-of p a l n
@@ -103,12 +104,12 @@ module _ {L : Lang} (A : Machine L) (X : Lexis L) (line-of : (k : L .Kind) → L
     unfolding judge tell
     passes h = ap (λ (c : Bytes). formed A X p a c (formOf c)) (ended-is (h .ended)) ∙ ap (formed A X p a (h .content)) (content-form (h .content) (h .fields)) ∙ ap (told A X p) (content-body (h .content) (h .fields) (length (h .fields .outer)) (content-form (h .content) (h .fields)))
 
-    refused-9 : (k : Kind) (v : Pay k) → ((q : Place A) → step A p (say L k v) ≡ next q → ⊥) → taken A X (say L k v) (step A p (say L k v)) ≡ fault 9
-    refused-9 k v n = go (step A p (say L k v)) refl
+    refused-9 : (k : Kind) (v : Pay k) → stands A p k ≡ none → ((q : Place A) → step A p (say L k v) ≡ next q → ⊥) → taken A X (say L k v) (step A p (say L k v)) ≡ fault 9
+    refused-9 k v h n = go (step A p (say L k v)) refl
       where
         go : (o : Out (Place A)) → step A p (say L k v) ≡ o → taken A X (say L k v) o ≡ fault 9
         go (next q) e = absurd (n q e)
-        go (refuse c) e = refl
+        go (refuse c) e = ap fault (refused-nine A p k v c h e)
 
     misread : (ss : List _) (fs : List Field) → ((w : Vals ss) → SpellFields fs (said ss w) → ⊥) → readAll ss fs ≡ none
     misread ss fs n = go (readAll ss fs) refl
@@ -133,4 +134,4 @@ module _ {L : Lang} (A : Machine L) (X : Lexis L) (line-of : (k : L .Kind) → L
     )
     fault-only n (forbidden {f = f} {fs = fs} {k = k} h v s m) =
         let x = all-only (sorts k) (args A X (keyword k) f fs) (W .parts k v) (args-spelled A X line-of W p f fs k (h .is) (W .parts k v) (subst (SpellFields (f ∷ fs)) (line-is A X line-of W k v) s)) in
-        passes (h .fields) ∙ rw (h .is, h .here, eq-eqb (length (args A X (keyword k) f fs)) (length (sorts k)) (x .1), x .0, W .made k v) (refused-9 k v m)
+        passes (h .fields) ∙ rw (h .is, h .here, eq-eqb (length (args A X (keyword k) f fs)) (length (sorts k)) (x .1), x .0, W .made k v) (refused-9 k v (h .here) m)

@@ -1,5 +1,6 @@
 pub mod FieldReading
 pub mod Telling
+pub mod Refused
 pub mod LineJudging
 pub mod FaultLaws
 pub mod TextReading

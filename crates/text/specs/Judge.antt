@@ -132,9 +132,10 @@ module _ {L : Lang} (A : Machine L) (X : Lexis L) where
   args (some w) f fs = fs
   args none f fs = f ∷ fs
 
+  -- the number that the place refuses it with: where its kind may stand, 9
   abbrev pub taken : S L → Out (Place A) → Got
   taken s (next q) = good (some s) q
-  taken s (refuse c) = fault 9
+  taken s (refuse c) = fault c
 
   abbrev pub valued : Place A → (k : Kind) → Option (Vals (sorts k)) → Got
   valued p k none = fault 8
