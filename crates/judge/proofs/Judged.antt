@@ -24,6 +24,7 @@ use Rattle.grammar.specs.Machine.{Out, next, refuse, Machine, over, inside, Pla
 use Rattle.grammar.specs.Stands.{asDue, ofRow, stands}
 use Rattle.grammar.specs.Stands as Stands
 use Rattle.grammar.proofs.StandLaws.{numberOf}
+use Rattle.grammar.proofs.Follows.{mapOut}
 use Rattle.text.specs.Judge.{Vals, readAll, Verdict, fault, good, check, Lexis, kindAt, args, standing, tell, judge}
 use Rattle.text.specs.Judge as T
 use Rattle.made_out.specs.Names.{behind, told-as}
@@ -54,10 +55,6 @@ abbrev pub keyed : Option Bytes → ℕ → ℕ
 keyed (some word) n = suc n
 keyed none n = n
 
-abbrev pub place-from : {P : Type 0} → Out P → Option P
-place-from (next q) = some q
-place-from (refuse c) = none
-
 abbrev or-else : {A : Type 0} → A → Option A → A
 or-else a none = a
 or-else a (some b) = b
@@ -74,11 +71,11 @@ clash {A} {a} e = let q : true ≡ false = ap is-some e in let z : _≡_ {A = �
 module _ {L : Lang} (A : Machine L) (X : Lexis L) (J : Judging) where
   open Lang L using (Kind)
   open Lexis X using (keyword, sorts, make)
-  open Judging J using (St, Pl, kinds, kindOf, refuses, needs, made, steps)
+  open Judging J using (St, Pl, kinds, kindOf, cell, refuses, needs, made, steps)
 
   -- the kind of a first field is told as `text` tells it; where there is none, none or one that may not stand
   abbrev pub OfKind : (Kind → ℕ) → Pl → ℕ → Option Kind → Type 0
-  OfKind row p i none = (ltb i kinds ≡ false) ⊎ ((ltb i kinds ≡ true) × (refuses p i ≡ 5))
+  OfKind row p i none = (ltb i kinds ≡ false) ⊎ ((ltb i kinds ≡ true) × (refuses p (cell p i) ≡ 5))
   OfKind row p i (some k) = i ≡ row k
 
   pub record Ties : Type 1 where
@@ -91,13 +88,13 @@ module _ {L : Lang} (A : Machine L) (X : Lexis L) (J : Judging) where
     pub row : Kind → ℕ
     pub row-in : (k : Kind) → ltb (row k) kinds ≡ true
     pub kind-is : (p : Pl) → Sound p → (f : Field) → OfKind row p (kindOf p (f .bytes)) (kindAt A X (abs p) f)
-    pub refuses-is : (p : Pl) → Sound p → (k : Kind) → refuses p (row k) ≡ numberOf (stands A (abs p) k)
+    pub refuses-is : (p : Pl) → Sound p → (k : Kind) → refuses p (cell p (row k)) ≡ numberOf (stands A (abs p) k)
     pub needs-is : (k : Kind) → needs (row k) ≡ keyed (keyword k) (length (sorts k))
     pub needs-few : (k : Kind) → needs (row k) ≤ 3
     pub made-is : (k : Kind) (base : ℕ) (s : Bytes) (f : Fields) → FieldsWithin s f
         → told-as meant (made s base f (row k)) ≡ told-as (λ v. moved (say L k (make k v))) (readAll (sorts k) (behind (keyword k) (listed base s f (needs (row k)))))
-    pub step-is : (p : Pl) → Sound p → (s : St) (t : S L) → meant s ≡ moved t → told-as abs (steps p s) ≡ place-from (step A (abs p) t)
-    pub stays : (p : Pl) → Sound p → (s : St) (q : Pl) → steps p s ≡ some q → Sound q
+    pub step-is : (p : Pl) → Sound p → (s : St) (t : S L) → meant s ≡ moved t → mapOut abs (steps p (cell p (row (t .kind))) s) ≡ step A (abs p) t
+    pub stays : (p : Pl) → Sound p → (s : St) (t : S L) → meant s ≡ moved t → (q : Pl) → steps p (cell p (row (t .kind))) s ≡ next q → Sound q
 
   module _ (C : Ties) where
     open Ties C using (Mean, meant, moved, abs, Sound, row, row-in, kind-is, refuses-is, needs-is, needs-few, made-is, step-is, stays)
@@ -113,18 +110,17 @@ module _ {L : Lang} (A : Machine L) (X : Lexis L) (J : Judging) where
     renamed (good o q) = good (told-as moved o) q
 
     -- ## 9
-    taken-is : (p : Pl) (s : St) (t : S L) → meant s ≡ moved t → (o : Option Pl) (u : Out (Place A)) → told-as abs o ≡ place-from u → view p (taken J s o) ≡ renamed (T.taken A X t u)
-    taken-is p s t m none (refuse c) e = refl
-    taken-is p s t m (some q) (next b) e = ap₂ (λ (x : Mean) (y : Place A). good (some x) y) m (ap (or-else b) e)
-    taken-is p s t m none (next b) e = absurd (clash (sym e))
-    taken-is p s t m (some q) (refuse c) e = absurd (clash e)
+    taken-is : (p : Pl) (s : St) (t : S L) → meant s ≡ moved t → (o : Out Pl) → view p (taken J s o) ≡ renamed (T.taken A X t (mapOut abs o))
+    taken-is p s t m (next q) = ap (λ (x : Mean). good (some x) (abs q)) m
+    taken-is p s t m (refuse n) = refl
 
     -- ## 8
-    valued-is : (p : Pl) → Sound p → (k : Kind) (o : Option St) (v : Option (Vals (sorts k))) → told-as meant o ≡ told-as (λ v. moved (say L k (make k v))) v → view p (valued J p o) ≡ renamed (T.valued A X (abs p) k v)
+    valued-is : (p : Pl) → Sound p → (k : Kind) (o : Option St) (v : Option (Vals (sorts k))) → told-as meant o ≡ told-as (λ v. moved (say L k (make k v))) v → view p (valued J p (cell p (row k)) o) ≡ renamed (T.valued A X (abs p) k v)
     valued-is p i k none none e = refl
     valued-is p i k (some s) (some v) e =
-        let m : meant s ≡ moved (say L k (make k v)) = ap (or-else (meant s)) e in
-        taken-is p s (say L k (make k v)) m (steps p s) (step A (abs p) (say L k (make k v))) (step-is p i s (say L k (make k v)) m)
+        let t = say L k (make k v) in
+        let m : meant s ≡ moved t = ap (or-else (meant s)) e in
+        taken-is p s t m (steps p (cell p (row k)) s) ∙ ap (λ (o : Out (Place A)). renamed (T.taken A X t o)) (step-is p i s t m)
     valued-is p i k none (some v) e = absurd (clash (sym e))
     valued-is p i k (some s) none e = absurd (clash e)
 
@@ -152,14 +148,14 @@ module _ {L : Lang} (A : Machine L) (X : Lexis L) (J : Judging) where
     args-count (some w) g gs n = rw (compare·suc-suc (length gs) n)
 
     counted : (p : Pl) → Sound p → (base : ℕ) (s : Bytes) (g : Field) (gs : List Field) → fieldsAt base s ≡ g ∷ gs → (k : Kind)
-        → view p (pick (eqb (fieldsIn s .count) (needs (row k))) (valued J p (made s base (fieldsIn s) (row k))) (bad 7))
+        → view p (pick (eqb (fieldsIn s .count) (needs (row k))) (valued J p (cell p (row k)) (made s base (fieldsIn s) (row k))) (bad 7))
         ≡ renamed (check (eqb (length (args A X (keyword k) g gs)) (length (sorts k))) 7 (T.valued A X (abs p) k (readAll (sorts k) (args A X (keyword k) g gs))))
     counted p i base s g gs e k = go (eqb (fieldsIn s .count) (needs (row k))) refl
       where
         alike : eqb (length (args A X (keyword k) g gs)) (length (sorts k)) ≡ eqb (fieldsIn s .count) (needs (row k))
         alike = args-count (keyword k) g gs (length (sorts k)) ∙ ap₂ (λ (x : List Field) (y : ℕ). eqb (length x) y) (sym e) (sym (needs-is k)) ∙ sym (same-count base s (needs (row k)) (needs-few k))
 
-        go : (b : Bool) → eqb (fieldsIn s .count) (needs (row k)) ≡ b → view p (pick b (valued J p (made s base (fieldsIn s) (row k))) (bad 7))
+        go : (b : Bool) → eqb (fieldsIn s .count) (needs (row k)) ≡ b → view p (pick b (valued J p (cell p (row k)) (made s base (fieldsIn s) (row k))) (bad 7))
             ≡ renamed (check (eqb (length (args A X (keyword k) g gs)) (length (sorts k))) 7 (T.valued A X (abs p) k (readAll (sorts k) (args A X (keyword k) g gs))))
         go true c =
             let n : fieldsIn s .count ≡ needs (row k) = eqb-true (fieldsIn s .count) (needs (row k)) c in
@@ -173,7 +169,7 @@ module _ {L : Lang} (A : Machine L) (X : Lexis L) (J : Judging) where
     unfolding ofKind
     of-kind p i base s g gs e k = rw (refuses-is p i k) (go (stands A (abs p) k) refl)
       where
-        go : (o : Option ℕ) → stands A (abs p) k ≡ o → view p (pick (eqb (numberOf o) 0) (pick (eqb (fieldsIn s .count) (needs (row k))) (valued J p (made s base (fieldsIn s) (row k))) (bad 7)) (bad (numberOf o)))
+        go : (o : Option ℕ) → stands A (abs p) k ≡ o → view p (pick (eqb (numberOf o) 0) (pick (eqb (fieldsIn s .count) (needs (row k))) (valued J p (cell p (row k)) (made s base (fieldsIn s) (row k))) (bad 7)) (bad (numberOf o)))
             ≡ renamed (standing A X o (check (eqb (length (args A X (keyword k) g gs)) (length (sorts k))) 7 (T.valued A X (abs p) k (readAll (sorts k) (args A X (keyword k) g gs)))))
         go none q = counted p i base s g gs e k
         go (some n) q = rw (not-zero (abs p) k n q)
@@ -216,23 +212,32 @@ module _ {L : Lang} (A : Machine L) (X : Lexis L) (J : Judging) where
     pick-sound true x y h k = h
     pick-sound false x y h k = k
 
-    valued-sound : (p : Pl) → Sound p → (o : Option St) → SoundGot (valued J p o)
-    valued-sound p i none = tt
-    valued-sound p i (some s) = go (steps p s) refl
+    valued-sound : (p : Pl) → Sound p → (k : Kind) (o : Option St) (v : Option (Vals (sorts k))) → told-as meant o ≡ told-as (λ v. moved (say L k (make k v))) v → SoundGot (valued J p (cell p (row k)) o)
+    valued-sound p i k none v e = tt
+    valued-sound p i k (some s) none e = absurd (clash e)
+    valued-sound p i k (some s) (some v) e = go (steps p (cell p (row k)) s) refl
       where
-        go : (o : Option Pl) → steps p s ≡ o → SoundGot (taken J s o)
-        go none e = tt
-        go (some q) e = stays p i s q e
+        go : (o : Out Pl) → steps p (cell p (row k)) s ≡ o → SoundGot (taken J s o)
+        go (next q) t = stays p i s (say L k (make k v)) (ap (or-else (meant s)) e) q t
+        go (refuse n) t = tt
+
+    known-sound : (p : Pl) → Sound p → (base : ℕ) (s : Bytes) (n : ℕ) (o : Option Kind) → OfKind row p n o → SoundGot (known J s base (fieldsIn s) p n)
+    unfolding known ofKind
+    known-sound p i base s n none (inl h) = rw h tt
+    known-sound p i base s n none (inr (h, r)) = rw (h, r) tt
+    known-sound p i base s n (some k) h =
+        let v = valued J p (cell p (row k)) (made s base (fieldsIn s) (row k)) in
+        let c = pick (eqb (fieldsIn s .count) (needs (row k))) v (bad 7) in
+        rw (h, row-in k)
+        (pick-sound (eqb (refuses p (cell p (row k))) 0) c (bad (refuses p (cell p (row k))))
+        (pick-sound (eqb (fieldsIn s .count) (needs (row k))) v (bad 7) (valued-sound p i k (made s base (fieldsIn s) (row k)) (readAll (sorts k) (behind (keyword k) (listed base s (fieldsIn s) (needs (row k))))) (made-is k base s (fieldsIn s) (fields-within s))) tt) tt)
 
     told-sound : (p : Pl) → Sound p → (base : ℕ) (s : Bytes) → SoundGot (told J s base p)
-    unfolding told known ofKind
+    unfolding told
     told-sound p i base s =
-        let k = kindOf p (part s (fieldsIn s .a)) in
-        let v = valued J p (made s base (fieldsIn s) k) in
-        let c = pick (eqb (fieldsIn s .count) (needs k)) v (bad 7) in
-        let f = pick (eqb (refuses p k) 0) c (bad (refuses p k)) in
-        pick-sound (eqb (fieldsIn s .count) 0) blank (pick (ltb k kinds) f (bad 5)) tt
-        (pick-sound (ltb k kinds) f (bad 5) (pick-sound (eqb (refuses p k) 0) c (bad (refuses p k)) (pick-sound (eqb (fieldsIn s .count) (needs k)) v (bad 7) (valued-sound p i (made s base (fieldsIn s) k)) tt) tt) tt)
+        let f = fieldIn base s (fieldsIn s .a) in
+        let k = kindOf p (f .bytes) in
+        pick-sound (eqb (fieldsIn s .count) 0) blank (known J s base (fieldsIn s) p k) tt (known-sound p i base s k (kindAt A X (abs p) f) (kind-is p i f))
 
     pub line-sound : (p : Pl) → Sound p → (base : ℕ) (s : Bytes) → SoundGot (line J s base p)
     unfolding line content

@@ -20,6 +20,7 @@ use Rattle.word.specs.Number.{indexOf, digit-first}
 use Rattle.grammar.specs.Language.{S}
 use Rattle.grammar.specs.Statements.{Kind, Kind-discrete, lines, say, RNDF-name, num-segments, num-zones, format-version, creation-date, segment, num-lanes, segment-name, end-segment, lane, num-waypoints, lane-width, left-boundary, right-boundary, checkpoint, stop, exit, end-lane, zone, num-spots, zone-name, end-zone, perimeter, num-perimeterpoints, end-perimeter, spot, spot-width, end-spot, end-file, point}
 use Rattle.grammar.specs.Statements as G
+use Rattle.grammar.specs.PlaceTable.{rndf-table}
 use Rattle.grammar.specs.PlaceRows.{kinds, kind-row}
 use Rattle.grammar.specs.Machine.{Out, next, refuse, Stand, over, inside, lacks, step}
 use Rattle.grammar.specs.Places.{rndf, Base, opts, due, name-due, num-segments-due, num-zones-due, first-segment-due, part-due, num-lanes-due, first-lane-due, lane-due, num-waypoints-due, first-waypoint-due, waypoint-due, num-spots-due, perimeter-due, num-perimeterpoints-due, first-perimeterpoint-due, perimeterpoint-due, spot-due, first-of-spot-due, second-of-spot-due, end-spot-due}
@@ -40,12 +41,12 @@ use Rattle.made_out.proofs.Ties.{made-is}
 use Rattle.place.specs.declared.Place.{Place}
 use Rattle.place.specs.declared.Outcome as DO
 use Rattle.place.specs.declared.Outcome.the-variants.{Next, Refused}
-use Rattle.place.specs.Step.{stepOf, refusesOf}
+use Rattle.place.specs.Step.{cellOf, byCell, stepOf, refusesBy}
 use Rattle.place.specs.Abstract.{seen, absOf}
-use Rattle.place.proofs.Theorems.{Sound, the-step, next-sound, refuses-is}
-use Rattle.judge.specs.RndfLine.{rndfKind, next-from, rndf-judging}
+use Rattle.place.proofs.Theorems.{Sound, the-step, next-sound, refuses-is, step-by, refuses-by}
+use Rattle.judge.specs.RndfLine.{rndfKind, rndf-judging}
 use Rattle.judge.specs.Judging.{line}
-use Rattle.judge.proofs.Judged.{keyed, place-from, OfKind, Ties, view, renamed, line-is, SoundGot, line-sound}
+use Rattle.judge.proofs.Judged.{keyed, OfKind, Ties, view, renamed, line-is, SoundGot, line-sound}
 
 -- ## The kind of a first field
 row-back : (i : ℕ) → i < 30 → kind-row (getD kinds i point) ≡ i
@@ -139,15 +140,19 @@ no-option (first-of-spot-due m z n s) = tt
 no-option (second-of-spot-due m z n s) = tt
 no-option (end-spot-due m z n s) = tt
 
-pub refuses-as : (p : Place) → Sound p → (k : Kind) → refusesOf p (kind-row k) ≡ numberOf (stands (rndf Field) (absOf p) k)
-refuses-as p i k = refuses-is p k i ∙ ap numberOf (rndf-stands stretch-of (absOf p) k)
+-- 5, 6 or 0 by the cell of a kind in the table of an RNDF
+abbrev pub refusal : Place → ℕ → ℕ
+refusal p kind = refusesBy (p .given) (cellOf rndf-table p kind)
+
+pub refuses-as : (p : Place) → Sound p → (k : Kind) → refusal p (kind-row k) ≡ numberOf (stands (rndf Field) (absOf p) k)
+refuses-as p i k = refuses-by p (kind-row k) ∙ refuses-is p k i ∙ ap numberOf (rndf-stands stretch-of (absOf p) k)
 
 pub kind-is : (p : Place) → Sound p → (f : Field) → OfKind (rndf Field) rndf-lexis rndf-judging kind-row p (rndfKind (f .bytes)) (kindAt (rndf Field) rndf-lexis (absOf p) f)
 unfolding rndfKind numbered
 kind-is p i f = go (digit-first (f .bytes))
   where
     -- a digit: a point where it is due; else it may not stand
-    at-place : (q : Stand Base) → refusesOf p 29 ≡ numberOf (stands (rndf Field) q point) → OfKind (rndf Field) rndf-lexis rndf-judging kind-row p 29 (numbered (rndf Field) rndf-lexis q)
+    at-place : (q : Stand Base) → refusal p 29 ≡ numberOf (stands (rndf Field) q point) → OfKind (rndf Field) rndf-lexis rndf-judging kind-row p 29 (numbered (rndf Field) rndf-lexis q)
     at-place over r = inr (refl, r ∙ (unfold stands in refl))
     at-place (inside b g) r = by (Kind-discrete point (due Field b .on))
       where
@@ -236,19 +241,19 @@ pub statement-is : (k : Kind) (base : ℕ) (s : Bytes) (f : Fields) → FieldsWi
     → told-as meant (made-from (madeOf s base f (kind-row k))) ≡ told-as (λ v. statement-named stretch-of (say k (rndf-make k v))) (readAll (rndf-sorts k) (behind (word-at (kind-row k)) (listed base s f (needs-of (getD shapes (kind-row k) 0)))))
 statement-is k base s f w = ap (told-as meant) (made-is base s f w k) ∙ as-made k (λ v. says-named stretch-of k (rndf-make k v)) (readAll (rndf-sorts k) (behind (word-at (kind-row k)) (listed base s f (needs-of (getD shapes (kind-row k) 0)))))
 
-next-as : (o : DO.Outcome) → told-as absOf (next-from o) ≡ place-from (mapOut absOf (seen o))
-next-as (Next q) = refl
-next-as (Refused c) = refl
+-- the step with the cell of the kind that the statement has
+by-kind : (p : Place) (s : Statement) (t : G.Statement Field) → meant s ≡ statement-named stretch-of t → byCell p s (cellOf rndf-table p (kind-row (t .kind))) ≡ stepOf p s
+by-kind p s t m = ap (λ (x : G.Statement Stretch). byCell p s (cellOf rndf-table p (kind-row (x .kind)))) (sym m) ∙ step-by p s
 
-pub step-is : (p : Place) → Sound p → (s : Statement) (t : G.Statement Field) → meant s ≡ statement-named stretch-of t → told-as absOf (next-from (stepOf p s)) ≡ place-from (step (rndf Field) (absOf p) t)
-step-is p i s t m = next-as (stepOf p s) ∙ ap place-from (the-step p s i ∙ ap (step (rndf Stretch) (absOf p)) m ∙ rndf-renamed stretch-of (absOf p) t)
+pub step-is : (p : Place) → Sound p → (s : Statement) (t : G.Statement Field) → meant s ≡ statement-named stretch-of t → mapOut absOf (seen (byCell p s (cellOf rndf-table p (kind-row (t .kind))))) ≡ step (rndf Field) (absOf p) t
+step-is p i s t m = ap (λ (o : DO.Outcome). mapOut absOf (seen o)) (by-kind p s t m) ∙ the-step p s i ∙ ap (step (rndf Stretch) (absOf p)) m ∙ rndf-renamed stretch-of (absOf p) t
 
-next-was : (o : DO.Outcome) (q : Place) → next-from o ≡ some q → o ≡ Next q
-next-was (Next r) q e = ap Next (ap (λ (x : Option Place). elim x as (λ y. Place) [ none ↦ r | some z ↦ z ]) e)
+next-was : (o : DO.Outcome) (q : Place) → seen o ≡ next q → o ≡ Next q
+next-was (Next r) q e = ap Next (let z : r ≡ q = cc in z)
 next-was (Refused c) q e = absurd (let z : _≡_ {A = ℕ} 0 1 = cc in omega arith)
 
-pub stays : (p : Place) → Sound p → (s : Statement) (q : Place) → next-from (stepOf p s) ≡ some q → Sound q
-stays p i s q e = next-sound p s q i (next-was (stepOf p s) q e)
+pub stays : (p : Place) → Sound p → (s : Statement) (t : G.Statement Field) → meant s ≡ statement-named stretch-of t → (q : Place) → seen (byCell p s (cellOf rndf-table p (kind-row (t .kind)))) ≡ next q → Sound q
+stays p i s t m q e = next-sound p s q i (sym (by-kind p s t m) ∙ next-was (byCell p s (cellOf rndf-table p (kind-row (t .kind)))) q e)
 
 abbrev pub rndf-ties : Ties (rndf Field) rndf-lexis rndf-judging
 rndf-ties = record { Mean = G.Statement Stretch; meant = meant; moved = statement-named stretch-of; abs = absOf; Sound = Sound; row = kind-row; row-in = row-in; kind-is = kind-is; refuses-is = refuses-as; needs-is = needs-is; needs-few = needs-few; made-is = statement-is; step-is = step-is; stays = stays }

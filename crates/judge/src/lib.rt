@@ -15,6 +15,7 @@ use made_out::made_out;
 use place::Outcome;
 use place::Place;
 use statement::Statement;
+use statement::kinds;
 use word::begins_with_digit;
 use word::rndf_keyword;
 ghost use mathlib.Core.Path.{_≡_};
@@ -23,7 +24,8 @@ ghost use lib.ListN.{length};
 ghost use Rattle.line.specs.Forms.{FieldsWithin};
 ghost use Rattle.made_out.specs.Made.{made-from};
 ghost use Rattle.judge.specs.Judging.{taken, valued, ofKind, known, told, content};
-ghost use Rattle.judge.specs.RndfLine.{rndfKind, next-from, rndf-judging, verdict, lineOf};
+ghost use Rattle.place.specs.Abstract.{seen};
+ghost use Rattle.judge.specs.RndfLine.{rndfKind, judging, rndf-judging, verdict, lineBy};
 
 // What a line of an RNDF gets.
 pub enum Verdict {
@@ -32,57 +34,65 @@ pub enum Verdict {
     Bad(u8),
 }
 
-// The kind of a line by its first field: its row; 30 for a word that is no keyword.
+// The kind of a line by its first field: its column, of which a point's is the last; no kind for a word that is no keyword.
 fn kind_of(s: &[u8]) -> u8
     ensures { λ r. ⌜ r ≡ rndfKind (now (s .entry)) ⌝ }
 {
     if begins_with_digit(s) {
-        return 29;
+        return kinds::POINT;
     }
     let i = rndf_keyword(s);
-    if i < 29 { i } else { 30 }
+    if i < kinds::POINT { i } else { kinds::COUNT }
 }
 
-// 9, or the next place.
+// The place's own number, 9, or the next place.
 fn taken_told(s: Statement, o: Outcome) -> Verdict
-    ensures { λ r. ⌜ r ≡ verdict (taken rndf-judging s (next-from o)) ⌝ }
+    ensures { λ r. ⌜ r ≡ verdict (taken rndf-judging s (seen o)) ⌝ }
 {
     match o {
         Outcome::Next(q) => Verdict::Said(s, q),
-        Outcome::Refused(_) => Verdict::Bad(9),
+        Outcome::Refused(n) => Verdict::Bad(n),
     }
 }
 
-// 8, or what comes of the statement.
-fn values_told(p: Place, m: Made) -> Verdict
-    ensures { λ r. ⌜ r ≡ verdict (valued rndf-judging p (made-from m)) ⌝ }
+// 8, or what comes of the statement with the cell of its kind.
+fn values_told(p: Place, cell: u8, m: Made) -> Verdict
+    ensures { λ r. ⌜ r ≡ verdict (valued rndf-judging p cell (made-from m)) ⌝ }
 {
     let Made::Is(s) = m else {
         return Verdict::Bad(8);
     };
-    taken_told(s, p.step(s))
+    taken_told(s, p.step(cell, s))
 }
 
-// 5 or 6 by the kind alone, then 7.
-fn kind_told(s: &[u8], base: usize, f: Fields, p: Place, kind: u8) -> Verdict
+// 5 or 6 by the kind alone, then 7. The kind is looked up here, once for the line.
+fn kind_told(
+    table: &[[u8; 30]; 27],
+    s: &[u8],
+    base: usize,
+    f: Fields,
+    p: Place,
+    kind: u8,
+) -> Verdict
     requires { ⌜ FieldsWithin (now s) f × (base + length (now s) < 4294967296) × (kind < 30) ⌝ }
-    ensures { λ r. ⌜ r ≡ verdict (ofKind rndf-judging (now (s .entry)) base f p kind) ⌝ }
+    ensures { λ r. ⌜ r ≡ verdict (ofKind (judging (now (table .entry))) (now (s .entry)) base f p kind) ⌝ }
 {
-    let c = p.refuses(kind);
+    let cell = p.cell(table, kind);
+    let c = p.refuses(cell);
     if c != 0 {
         return Verdict::Bad(c);
     }
     if f.count == fields_needed(kind) {
-        values_told(p, made_out(s, base, f, kind))
+        values_told(p, cell, made_out(s, base, f, kind))
     } else {
         Verdict::Bad(7)
     }
 }
 
 // The fields, cut once: blank, or a line of its kind.
-fn fields_told(s: &[u8], base: usize, p: Place) -> Verdict
+fn fields_told(table: &[[u8; 30]; 27], s: &[u8], base: usize, p: Place) -> Verdict
     requires { ⌜ base + length (now s) < 4294967296 ⌝ }
-    ensures { λ r. ⌜ r ≡ verdict (told rndf-judging (now (s .entry)) base p) ⌝ }
+    ensures { λ r. ⌜ r ≡ verdict (told (judging (now (table .entry))) (now (s .entry)) base p) ⌝ }
 {
     let f = fields_of(s);
     if f.count == 0 {
@@ -92,29 +102,29 @@ fn fields_told(s: &[u8], base: usize, p: Place) -> Verdict
     let a = first.start;
     let e = first.stop;
     let kind = kind_of(&s[a..e]);
-    if kind < 30 {
-        kind_told(s, base, f, p, kind)
+    if kind < kinds::COUNT {
+        kind_told(table, s, base, f, p, kind)
     } else {
         Verdict::Bad(5)
     }
 }
 
 // 2, 3, 4, or the fields before a comment.
-fn content_told(s: &[u8], base: usize, p: Place) -> Verdict
+fn content_told(table: &[[u8; 30]; 27], s: &[u8], base: usize, p: Place) -> Verdict
     requires { ⌜ base + length (now s) < 4294967296 ⌝ }
-    ensures { λ r. ⌜ r ≡ verdict (content rndf-judging (now (s .entry)) base p) ⌝ }
+    ensures { λ r. ⌜ r ≡ verdict (content (judging (now (table .entry))) (now (s .entry)) base p) ⌝ }
 {
     match form_of(s) {
         Form::Bad(n) => Verdict::Bad(n),
-        Form::Body(e) => fields_told(&s[..e], base, p),
+        Form::Body(e) => fields_told(table, &s[..e], base, p),
     }
 }
 
-// A line, without its LF, that starts at `base` in the text.
-pub fn judge_line(s: &[u8], base: usize, p: Place) -> Verdict
+// A line, without its LF, that starts at `base` in the text. The table is `place_table::rndf_table()`, made once for the text.
+pub fn judge_line(table: &[[u8; 30]; 27], s: &[u8], base: usize, p: Place) -> Verdict
     requires { ⌜ base + length (now s) < 4294967296 ⌝ }
-    ensures { λ r. ⌜ r ≡ lineOf (now (s .entry)) base p ⌝ }
+    ensures { λ r. ⌜ r ≡ lineBy (now (table .entry)) (now (s .entry)) base p ⌝ }
 {
     let e = trimmed(s);
-    content_told(&s[..e], base, p)
+    content_told(table, &s[..e], base, p)
 }

@@ -1,4 +1,4 @@
-use Rattle.judge.specs.RndfLine.{rndfKind, next-from, rndf-judging, verdict, lineOf}
+use Rattle.judge.specs.RndfLine.{rndfKind, verdict, lineBy}
 use Rattle.judge.specs.Judging.{Got, taken, valued, ofKind, known, told, formed, content, line}
 use borrow.Author.Tests.{eq-eqb, ne-eqb, lt-ltb, le-ltb}
 use lib.Seq.{length-take-le}
@@ -14,25 +14,20 @@ use Rattle.judge.proofs.kind_of.Lts as lts
 use Rattle.word.proofs.begins_with_digit.Reads as begins-with-digit-reads
 use Rattle.word.proofs.rndf_keyword.Reads as rndf-keyword-reads
 
--- src/lib.rt:38:8
 begins-with-digit-requires : tie.Need-begins-with-digit-requires
 begins-with-digit-requires c κs = search needs
 
--- src/lib.rt:39:9
 returns : tie.Need-returns
 unfolding rndfKind
 returns c = rw (← (c .before .begins-with-digit .ensures), c .if1 .taken)
 
--- src/lib.rt:41:9
 rndf-keyword-requires : tie.Need-rndf-keyword-requires
 rndf-keyword-requires c κs = search needs
 
--- src/lib.rt:35:1
 returns-2 : tie.Need-returns-2
 unfolding rndfKind
 returns-2 c = rw (← (c .before .before .before .begins-with-digit .ensures), c .before .before .if1 .left, ← (c .before .rndf-keyword .ensures), lt-ltb _ 29 (c .if2 .taken))
 
--- src/lib.rt:35:1
 returns-3 : tie.Need-returns-3
 unfolding rndfKind
 returns-3 c = rw (← (c .before .before .before .begins-with-digit .ensures), c .before .before .if1 .left, ← (c .before .rndf-keyword .ensures), le-ltb _ 29 (c .if2 .left))
