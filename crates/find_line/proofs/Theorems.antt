@@ -1,7 +1,7 @@
 -- THE THEOREMS: the line that is found is where the row-th statement of its kind stands. For every text without a fault of 2 to 10. Assumes nothing.
 use mathlib.Core.Path.{_≡_, refl, sym, ap, _∙_}
 use mathlib.Core.List.{List}
-use Prim.Native.Nat.{ℕ, _<_}
+use Prim.Native.Nat.{ℕ, _<_, _≤_}
 use native.Mathlib.Omega.{arith}
 use lib.ListN.{length}
 use lib.Dec.{eqb}
@@ -29,7 +29,8 @@ use Rattle.walk.specs.Seeing.{noneSeen, seenMore, see, line-seen}
 use Rattle.walk.proofs.SeenLaws.{line-at, seen-there}
 use Rattle.walk.proofs.RndfWalk as R
 use Rattle.walk.proofs.MdfWalk as M
-use Rattle.find_line.specs.FoundLines.{rndfLineOf, mdfLineOf}
+use Rattle.refusal.proofs.Sized.{not-too-long}
+use Rattle.find_line.specs.FoundLines.{most, rndfLineOf, mdfLineOf, rndfLineIn, mdfLineIn}
 
 module _ (k : Rndf.Kind) (row : ℕ) where
   by-meaning : (w : Where) (s : Statement) (c : Seen) → see kindOf (kind-row k) row w s c ≡ see kindOf (kind-row k) row w (written (meant s)) c
@@ -58,3 +59,13 @@ module _ (k : Mdf.Kind) (row : ℕ) where
     where
       told : _≡_ {A = Where → Mdf.Statement Field → Seen → Seen} (λ w t. see MK.orderOf (mission-kind-row k) row w (M.told-as t)) (λ w t c. seenMore (eqb (mission-kind-row (t .kind)) (mission-kind-row k)) row (w .line) c)
       told = λ i w t c. seenMore (eqb (mission-kind-row (ML.means (t .kind) (order-named stretch-of t .val) i .kind)) (mission-kind-row k)) row (w .line) c
+
+-- what the functions answer of a text that is not too long
+module _ (text : Bytes) (kind row : ℕ) (size : length text ≤ most) where
+  pub rndf-line-sized : rndfLineIn text kind row ≡ rndfLineOf text kind row
+  unfolding rndfLineIn
+  rndf-line-sized = not-too-long text 0 (rndfLineOf text kind row) size
+
+  pub mdf-line-sized : mdfLineIn text kind row ≡ mdfLineOf text kind row
+  unfolding mdfLineIn
+  mdf-line-sized = not-too-long text 0 (mdfLineOf text kind row) size

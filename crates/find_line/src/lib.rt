@@ -2,25 +2,27 @@
 //
 // specs/FoundLines: the walk, executable. proofs/Theorems: the line is where the statement stands.
 //
-// Rests on `walk`, `judge`, `mission_judge` and what they rest on.
+// Rests on `refusal`, `walk`, `judge`, `mission_judge` and what they rest on.
 use judge::Verdict;
 use judge::judge_line;
 use mission_judge::MissionVerdict;
 use mission_judge::mission_judge_line;
 use mission_place::MissionPlace;
 use place::Place;
+use refusal::LONGEST_TEXT;
 use scan::far_byte_from;
 use walk::Seen;
 ghost use mathlib.Core.Path.{_≡_};
-ghost use Prim.Native.Nat.{_≤_};
-ghost use lib.ListN.{length};
-ghost use Rattle.find_line.specs.FoundLines.{most, rndfLineOf, mdfLineOf};
+ghost use Rattle.find_line.specs.FoundLines.{rndfLineIn, mdfLineIn};
 
-// The line of the statement of an RNDF that is the one with the number `row`, from 0, of its kind (by its column); 0 where there is none.
+// The line of the statement of an RNDF that is the one with the number `row`, from 0, of its kind (by its column); 0 where there is none, or where
+// the text is too long.
 pub fn rndf_line(text: &[u8], kind: u8, row: u32) -> u32
-    requires { ⌜ length (now text) ≤ most ⌝ }
-    ensures { λ r. ⌜ r ≡ rndfLineOf (now (text .entry)) kind row ⌝ }
+    ensures { λ r. ⌜ r ≡ rndfLineIn (now (text .entry)) kind row ⌝ }
 {
+    if LONGEST_TEXT < text.len() {
+        return 0;
+    }
     let mut place = Place::start();
     let mut seen = Seen::none();
     let mut from: usize = 0;
@@ -46,9 +48,11 @@ pub fn rndf_line(text: &[u8], kind: u8, row: u32) -> u32
 
 // The same for an MDF.
 pub fn mdf_line(text: &[u8], kind: u8, row: u32) -> u32
-    requires { ⌜ length (now text) ≤ most ⌝ }
-    ensures { λ r. ⌜ r ≡ mdfLineOf (now (text .entry)) kind row ⌝ }
+    ensures { λ r. ⌜ r ≡ mdfLineIn (now (text .entry)) kind row ⌝ }
 {
+    if LONGEST_TEXT < text.len() {
+        return 0;
+    }
     let mut place = MissionPlace::start();
     let mut seen = Seen::none();
     let mut from: usize = 0;

@@ -49,12 +49,10 @@ use Rattle.table_words.proofs.Bounds.{spelled-mission-bounded}
 use Rattle.table_words.proofs.Spelled.{mission-spelled}
 use Rattle.table_words.proofs.Renamed.{stretches-mission-file}
 use Rattle.walk.specs.Standing.{Where, places-in}
-use Rattle.walk.specs.Walking.{Found, fault, gathered}
+use Rattle.walk.specs.Walking.{fault, gathered}
 use Rattle.walk.proofs.MdfWalk.{walk-read, walk-faulty, walk-short, mdf-as-many}
 use Rattle.mission.specs.Storing.{MissionMemory, memory}
-use Rattle.mission.specs.Reading.{put, told, filledOf}
-use Rattle.mission.specs.declared.MissionFilled as DF
-use Rattle.mission.specs.declared.MissionFilled.the-variants as Filled
+use Rattle.mission.specs.Reading.{put, filledOf}
 use Rattle.mission.proofs.Gathered.{goals-put, limits-put, tables-of, counts-of, all-shown}
 
 -- ## By what `text` answers
@@ -74,41 +72,6 @@ pub filled-read : (text : Bytes) (ts : List (Statement Field)) → read-mdf text
     → filledOf text (memory noneRead goals limits) ≡ gathered (memory (shown (tables-of ts .file) (counts-of ts)) (goals-put goals 0 (tables-of ts .goals)) (limits-put limits 0 (tables-of ts .limits)))
 unfolding filledOf
 filled-read text ts e goals limits = walk-read put by-meaning (memory noneRead goals limits) text ts e ∙ ap gathered (all-shown (places-in text) ts (mdf-as-many text ts e) goals limits)
-
--- ## By what the program answered
-number-of : Found MissionMemory → ℕ
-number-of (fault i n) = n
-number-of (gathered m) = 0
-
-line-of : Found MissionMemory → ℕ
-line-of (fault i n) = i
-line-of (gathered m) = 0
-
-memory-of : MissionMemory → Found MissionMemory → MissionMemory
-memory-of d (fault i n) = d
-memory-of d (gathered m) = m
-
-is-gathered : Found MissionMemory → ℕ
-is-gathered (fault i n) = 0
-is-gathered (gathered m) = 1
-
-pub fault-told : (r : DF.MissionFilled) (tables : MissionProgress → MissionMemory) (i n : ℕ) → told r tables ≡ fault i n → r ≡ Filled.Fault i n
-unfolding number-of line-of is-gathered
-fault-told (Filled.Fault j k) tables i n e = ap₂ (λ (x y : ℕ). Filled.Fault x y) (ap line-of e) (ap number-of e)
-fault-told (Filled.Rows p) tables i n e = absurd (let z : _≡_ {A = ℕ} 1 0 = ap is-gathered e in omega arith)
-
--- progress and tables are those that were gathered
-pub record Holds (r : DF.MissionFilled) (g l : List ℕ) (m : MissionMemory) : Type 0 where
-  pub answer : r ≡ Filled.Rows (m .so-far)
-  pub goals : g ≡ m .goals
-  pub limits : l ≡ m .limits
-
-pub rows-told : (r : DF.MissionFilled) (goals limits : List ℕ) (m : MissionMemory) → told r (λ p. memory p goals limits) ≡ gathered m → Holds r goals limits m
-unfolding memory-of is-gathered
-rows-told (Filled.Fault i n) goals limits m e = absurd (let z : _≡_ {A = ℕ} 0 1 = ap is-gathered e in omega arith)
-rows-told (Filled.Rows p) goals limits m e =
-    let h : memory p goals limits ≡ m = ap (memory-of m) e in
-    record { answer = ap (λ (x : MissionMemory). Filled.Rows (x .so-far)) h; goals = ap (λ (x : MissionMemory). x .goals) h; limits = ap (λ (x : MissionMemory). x .limits) h }
 
 -- ## Of a text that spells a mission
 -- numbers in range are kept
@@ -184,8 +147,3 @@ module _ (m : Mission Field) (text : Bytes) (s : SpellsMdf m text) where
       ∙ ap gathered (ap (λ (p : MissionProgress). memory p (goals-put zg 0 (tables-of (s .said) .goals)) (limits-put zl 0 (tables-of (s .said) .limits))) progress-is
       ∙ ap₂ (memory (all-read m)) (ap (λ (t : MissionTables Stretch). goals-put zg 0 (t .goals)) tables-are ∙ goals-filled (mission-tables m) lent (b .goals) room)
       (ap (λ (t : MissionTables Stretch). limits-put zl 0 (t .limits)) tables-are ∙ limits-filled (mission-tables m) lent (b .limits) room))
-
-  -- and the program answers so: its contract, read for such a text
-  pub answers-spelled : (lent : MissionLent) → MissionHasRoom (mission-sizes (mission-tables m)) lent → (r : DF.MissionFilled) (goals limits : List ℕ)
-      → told r (λ p. memory p goals limits) ≡ filledOf text (memory noneRead (mission-zeros lent .goals) (mission-zeros lent .limits)) → Holds r goals limits (mission-memory m lent)
-  answers-spelled lent room r goals limits e = rows-told r goals limits (mission-memory m lent) (e ∙ filled-spelled lent room)

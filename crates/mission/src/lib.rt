@@ -1,29 +1,28 @@
-// A text of an MDF read into lent tables in one walk over its lines: the first fault of 2 to 10 with its line, or every goal and every limit stored where there is room for it,
+// A text of an MDF read into lent tables in one walk over its lines: 1 where it is too long, the first fault of 2 to 10 with its line, or every goal and every limit stored where there is room for it,
 // with the file's own row and how many rows there are of each table.
 //
 // specs/Storing: a row stored in the tables, executable. specs/Reading: the walk.
 // proofs/Filled: the walk finds what `text` answers, and stores what `fill` gives; for a text that spells a mission, its tables.
 //
-// Rests on `walk`, `mission_judge`, `mission_progress`, `rows`, `fill`, `table_words` and what they rest on.
+// Rests on `refusal`, `walk`, `mission_judge`, `mission_progress`, `rows`, `fill`, `table_words` and what they rest on.
 use mission_judge::MissionVerdict;
 use mission_judge::mission_judge_line;
 use mission_place::MissionPlace;
 use mission_progress::MissionProgress;
 use mission_progress::MissionRow;
 use mission_progress::mission_row;
+use refusal::Fault;
+use refusal::LONGEST_TEXT;
 use rows::store_goal;
 use rows::store_limit;
 use scan::far_byte_from;
 ghost use mathlib.Core.Path.{_≡_};
-ghost use Prim.Native.Nat.{_≤_};
-ghost use lib.ListN.{length};
 ghost use Rattle.mission_progress.specs.Progress.{noneRead};
 ghost use Rattle.mission.specs.Storing.{MissionMemory, memory, stored};
-ghost use Rattle.mission.specs.Reading.{most, told, filledOf};
+ghost use Rattle.mission.specs.Reading.{told, filledIn};
 
 pub enum MissionFilled {
-    // line and number
-    Fault(u32, u8),
+    Fault(Fault),
     Rows(MissionProgress),
 }
 
@@ -40,9 +39,11 @@ fn store(goals: &mut [u32], limits: &mut [u32], gained: MissionProgress, row: Mi
 
 // One walk over the lines of a text.
 pub fn fill_orders(text: &[u8], goals: &mut [u32], limits: &mut [u32]) -> MissionFilled
-    requires { ⌜ length (now text) ≤ most ⌝ }
-    ensures { λ r. ⌜ told r (λ p. memory p (now (goals .exit)) (now (limits .exit))) ≡ filledOf (now (text .entry)) (memory noneRead (now (goals .entry)) (now (limits .entry))) ⌝ }
+    ensures { λ r. ⌜ told r (λ p. memory p (now (goals .exit)) (now (limits .exit))) ≡ filledIn (now (text .entry)) (memory noneRead (now (goals .entry)) (now (limits .entry))) ⌝ }
 {
+    if LONGEST_TEXT < text.len() {
+        return MissionFilled::Fault(Fault { line: 0, number: 1 });
+    }
     let mut place = MissionPlace::start();
     let mut gained = MissionProgress::none();
     let mut from: usize = 0;
@@ -58,7 +59,7 @@ pub fn fill_orders(text: &[u8], goals: &mut [u32], limits: &mut [u32]) -> Missio
                 gained = gained.after(s);
             }
             MissionVerdict::Bad(n) => {
-                return MissionFilled::Fault(line, n);
+                return MissionFilled::Fault(Fault { line, number: n });
             }
         }
         from = e + 1;
@@ -67,6 +68,6 @@ pub fn fill_orders(text: &[u8], goals: &mut [u32], limits: &mut [u32]) -> Missio
     if place.is_over() {
         MissionFilled::Rows(gained)
     } else {
-        MissionFilled::Fault(line, 10)
+        MissionFilled::Fault(Fault { line, number: 10 })
     }
 }

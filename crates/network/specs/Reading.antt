@@ -10,10 +10,11 @@ use Rattle.progress.specs.After.{afterOf}
 use Rattle.progress.specs.Given.{rowOf}
 use Rattle.walk.specs.Standing.{Where}
 use Rattle.walk.specs.Walking.{Found, fault, gathered, walked}
+use Rattle.refusal.specs.Size.{if-too-long}
 use Rattle.network.specs.Storing.{Memory, memory, stored}
 use Rattle.network.specs.declared.Filled as DF
 use Rattle.network.specs.declared.Filled.the-variants as Filled
-pub use Rattle.walk.specs.Standing.{most}
+pub use Rattle.refusal.specs.Size.{most}
 
 abbrev pub with-progress : Progress → Memory → Memory
 with-progress p m = memory p (m .segments) (m .lanes) (m .zones) (m .spots) (m .points) (m .checkpoints) (m .stops) (m .exits)
@@ -24,9 +25,13 @@ put w s m = with-progress (afterOf s (m .so-far)) (stored (rowOf s (w .start) (m
 
 -- what was answered, and what the tables then hold, where there is no fault
 abbrev pub told : DF.Filled → (Progress → Memory) → Found Memory
-told (Filled.Fault i n) tables = fault i n
+told (Filled.Fault f) tables = fault (f .line) (f .number)
 told (Filled.Rows p) tables = gathered (tables p)
 
 -- tables of which there is so much so far, behind all lines of a text
 unfoldable pub filledOf : Bytes → Memory → Found Memory
 filledOf text m = walked rndf-judging put overOf firstPlace m 0 1 (linesOf text)
+
+-- 1 of a text that is too long; else the walk
+unfoldable pub filledIn : Bytes → Memory → Found Memory
+filledIn text m = if-too-long text (fault 0 1) (filledOf text m)

@@ -1,15 +1,17 @@
-// A text of an RNDF read into lent tables in one walk over its lines: the first fault of 2 to 10 with its line, or every row stored where there is room for it,
-// and how many there are of each table. Entries of exits are not looked up yet: where the exit's line starts stands for them (the crate `references`).
+// A text of an RNDF read into lent tables in one walk over its lines: 1 where it is too long, the first fault of 2 to 10 with its line, or every row stored where there is
+// room for it, and how many there are of each table. Entries of exits are not looked up yet: where the exit's line starts stands for them (the crate `references`).
 //
 // specs/Storing: a row stored in the tables, executable. specs/Reading: the walk.
 // proofs/: the walk finds what `text` answers, and stores what `fill` gives (Gathered); of a text that spells a network, the words of its tables (Spelled).
 //
-// Rests on `walk`, `judge`, `progress`, `rows`, `fill` and what they rest on.
+// Rests on `refusal`, `walk`, `judge`, `progress`, `rows`, `fill` and what they rest on.
 use judge::Verdict;
 use judge::judge_line;
 use place::Place;
 use progress::Progress;
 use progress::Row;
+use refusal::Fault;
+use refusal::LONGEST_TEXT;
 use rows::POINT_STRIDE;
 use rows::PointRow;
 use rows::store_checkpoint;
@@ -22,15 +24,12 @@ use rows::store_stop;
 use rows::store_zone;
 use scan::far_byte_from;
 ghost use mathlib.Core.Path.{_≡_};
-ghost use Prim.Native.Nat.{_≤_};
-ghost use lib.ListN.{length};
 ghost use Rattle.progress.specs.After.{noProgress};
 ghost use Rattle.network.specs.Storing.{Memory, memory, storePart, stored};
-ghost use Rattle.network.specs.Reading.{most, told, filledOf};
+ghost use Rattle.network.specs.Reading.{told, filledIn};
 
 pub enum Filled {
-    // line and number
-    Fault(u32, u8),
+    Fault(Fault),
     Rows(Progress),
 }
 
@@ -84,9 +83,11 @@ pub fn fill_lines(
     stops: &mut [u32],
     exits: &mut [u32],
 ) -> Filled
-    requires { ⌜ length (now text) ≤ most ⌝ }
-    ensures { λ r. ⌜ told r (λ p. memory p (now (segments .exit)) (now (lanes .exit)) (now (zones .exit)) (now (spots .exit)) (now (points .exit)) (now (checkpoints .exit)) (now (stops .exit)) (now (exits .exit))) ≡ filledOf (now (text .entry)) (memory noProgress (now (segments .entry)) (now (lanes .entry)) (now (zones .entry)) (now (spots .entry)) (now (points .entry)) (now (checkpoints .entry)) (now (stops .entry)) (now (exits .entry))) ⌝ }
+    ensures { λ r. ⌜ told r (λ p. memory p (now (segments .exit)) (now (lanes .exit)) (now (zones .exit)) (now (spots .exit)) (now (points .exit)) (now (checkpoints .exit)) (now (stops .exit)) (now (exits .exit))) ≡ filledIn (now (text .entry)) (memory noProgress (now (segments .entry)) (now (lanes .entry)) (now (zones .entry)) (now (spots .entry)) (now (points .entry)) (now (checkpoints .entry)) (now (stops .entry)) (now (exits .entry))) ⌝ }
 {
+    if LONGEST_TEXT < text.len() {
+        return Filled::Fault(Fault { line: 0, number: 1 });
+    }
     let mut place = Place::start();
     let mut gained = Progress::none();
     let mut from: usize = 0;
@@ -113,7 +114,7 @@ pub fn fill_lines(
                 gained = gained.after(s);
             }
             Verdict::Bad(n) => {
-                return Filled::Fault(line, n);
+                return Filled::Fault(Fault { line, number: n });
             }
         }
         from = e + 1;
@@ -122,6 +123,6 @@ pub fn fill_lines(
     if place.is_over() {
         Filled::Rows(gained)
     } else {
-        Filled::Fault(line, 10)
+        Filled::Fault(Fault { line, number: 10 })
     }
 }

@@ -13,10 +13,11 @@ use Rattle.place.specs.Step.{overOf}
 use Rattle.judge.specs.RndfLine.{rndf-judging}
 use Rattle.statement.specs.Kinds.{kindOf}
 use Rattle.walk.specs.Seeing.{noneSeen, seenMore, see, line-seen}
+use Rattle.refusal.proofs.Sized.{too-long, not-too-long}
 use Rattle.walk.proofs.Cutting.{at-end}
 use Rattle.walk.proofs.RndfSteps.{after, rest, a-line}
 use Rattle.walk.proofs.SeenLaws.{grows}
-use Rattle.find_line.specs.FoundLines.{most, rndfLineOf}
+use Rattle.find_line.specs.FoundLines.{most, rndfLineOf, rndfLineIn}
 use Rattle.find_line.proofs.rndf_line.Statement.{statement}
 use Rattle.find_line.proofs.rndf_line.Tie as tie
 use Rattle.find_line.proofs.rndf_line.Reads as reads
@@ -30,94 +31,78 @@ use Rattle.walk.proofs.Seen.more.Reads as more-reads
 use Rattle.walk.proofs.Seen.none.Reads as none-reads
 
 abbrev Inv-loop : tie.InvT-loop
-Inv-loop text kind row place₀ seen₀ from₀ line₀ place seen from line = (from ≤ length text + 1) × (line ≤ from + 1) × (seen .count ≤ line) × (line-seen (rest (see kindOf kind row) text place seen from line) ≡ rndfLineOf text kind row)
+Inv-loop text kind row place₀ seen₀ from₀ line₀ place seen from line = (from ≤ length text + 1) × (line ≤ from + 1) × (seen .count ≤ line) × (line-seen (rest (see kindOf kind row) text place seen from line) ≡ rndfLineIn text kind row) × (length text ≤ most)
 
 abbrev μ-loop : tie.MeasureT-loop
 μ-loop text kind row place₀ seen₀ from₀ line₀ place seen from line = length text + 1 - from
 
--- src/lib.rt:25:9
+returns : tie.Need-returns Inv-loop μ-loop
+unfolding rndfLineIn
+returns c = sym (too-long (c .before .before .args .text .now) _ _ (c .if1 .taken))
+
 start-requires : tie.Need-start-requires Inv-loop μ-loop
 start-requires c κs = search needs
 
--- src/lib.rt:26:9
 none-requires : tie.Need-none-requires Inv-loop μ-loop
 none-requires c κs = search needs
 
--- src/lib.rt:29:5
 loop-holds : tie.Need-loop-holds Inv-loop μ-loop
-unfolding rndfLineOf
-loop-holds c = (omega arith, omega arith, rw (c .none .ensures) (omega arith), rw (c .none .ensures, c .before .start .ensures) refl)
+unfolding rndfLineOf rndfLineIn
+loop-holds c = (omega arith, omega arith, rw (c .none .ensures) (omega arith), rw (c .none .ensures, c .before .start .ensures) (sym (not-too-long (c .before .before .before .before .args .text .now) _ _ (omega arith))), omega arith)
 
--- src/lib.rt:30:13
 far-byte-from-requires : tie.Need-far-byte-from-requires Inv-loop μ-loop
 far-byte-from-requires c κs = search needs
 
--- src/lib.rt:31:28
 sub-judge-line : tie.Need-sub-judge-line Inv-loop μ-loop
 sub-judge-line c = search needs
 
--- src/lib.rt:31:28
 part-judge-line-start : tie.Need-part-judge-line-start Inv-loop μ-loop
 part-judge-line-start c = search needs
 
--- src/lib.rt:31:28
 part-judge-line-end : tie.Need-part-judge-line-end Inv-loop μ-loop
-part-judge-line-end c = let s = c .before .before .before .before .before .before .args .text .now in let l = c .before .before .loop .from in omega (arith, c .far-byte-from .ensures, reach-le (stopsBy (Byte 10)) s l (omega arith))
+part-judge-line-end c = let s = c .before .before .before .before .before .before .before .args .text .now in let l = c .before .before .loop .from in omega (arith, c .far-byte-from .ensures, reach-le (stopsBy (Byte 10)) s l (omega arith))
 
--- src/lib.rt:31:13
 judge-line-requires : tie.Need-judge-line-requires Inv-loop μ-loop
-judge-line-requires c κs = let s = c .before .before .before .before .before .before .before .args .text .now in let l = c .before .before .before .loop .from in let e = c .before .far-byte-from .result in let h : e ≤ length s = omega (arith, c .before .far-byte-from .ensures, reach-le (stopsBy (Byte 10)) s l (omega arith)) in let p = c .before .before .before .before .before .before .before .pre in omega (arith, length-take-le (e - l) (drop l s) (omega (arith, length-drop l s)))
+judge-line-requires c κs = let s = c .before .before .before .before .before .before .before .before .args .text .now in let l = c .before .before .before .loop .from in let e = c .before .far-byte-from .result in let h : e ≤ length s = omega (arith, c .before .far-byte-from .ensures, reach-le (stopsBy (Byte 10)) s l (omega arith)) in omega (arith, length-take-le (e - l) (drop l s) (omega (arith, length-drop l s)))
 
 enum-told : tie.Need-enum-told Inv-loop μ-loop
 enum-told c = search needs
 
--- src/lib.rt:34:27
 enum-known-v : tie.Need-enum-known-v Inv-loop μ-loop
 enum-known-v c = search needs
 
--- src/lib.rt:36:34
 kind-requires : tie.Need-kind-requires Inv-loop μ-loop
 kind-requires c κs = search needs
 
--- src/lib.rt:36:17
 more-requires : tie.Need-more-requires Inv-loop μ-loop
 more-requires c κs = search needs
 
--- src/lib.rt:39:17
 enum-told-2 : tie.Need-enum-told-2 Inv-loop μ-loop
 enum-told-2 c = search needs
 
--- src/lib.rt:39:17
-returns : tie.Need-returns Inv-loop μ-loop
-returns c = let A = c .before .before .before .before .before .before .before .before .before .before .args in let s = A .text .now in let l = c .before .before .before .before .before .before .loop in sym (ap line-seen (rw (c .enum-told2 .given .1) at (a-line (see kindOf (A .kind) (A .row)) s (l .from) (c .before .before .before .before .far-byte-from .result) (omega arith) (c .before .before .before .before .far-byte-from .ensures) (l .place) (l .seen) (l .line) (c .before .before .judge-line .result) (c .before .before .judge-line .ensures)))) ∙ l .inv .3
+returns-2 : tie.Need-returns-2 Inv-loop μ-loop
+returns-2 c = let A = c .before .before .before .before .before .before .before .before .before .before .before .args in let s = A .text .now in let l = c .before .before .before .before .before .before .loop in sym (ap line-seen (rw (c .enum-told2 .given .1) at (a-line (see kindOf (A .kind) (A .row)) s (l .from) (c .before .before .before .before .far-byte-from .result) (omega arith) (c .before .before .before .before .far-byte-from .ensures) (l .place) (l .seen) (l .line) (c .before .before .judge-line .result) (c .before .before .judge-line .ensures)))) ∙ l .inv .3
 
--- src/lib.rt:42:16
 add-from : tie.Need-add-from Inv-loop μ-loop
-add-from c = let s = c .before .before .before .before .before .before .before .before .before .args .text .now in let l = c .before .before .before .before .before .loop .from in let p = c .before .before .before .before .before .before .before .before .before .pre in omega (arith, c .before .before .before .far-byte-from .ensures, reach-le (stopsBy (Byte 10)) s l (omega arith))
+add-from c = let s = c .before .before .before .before .before .before .before .before .before .before .args .text .now in let l = c .before .before .before .before .before .loop .from in omega (arith, c .before .before .before .far-byte-from .ensures, reach-le (stopsBy (Byte 10)) s l (omega arith))
 
--- src/lib.rt:43:9
 add-line : tie.Need-add-line Inv-loop μ-loop
 add-line c = search needs
 
--- src/lib.rt:29:5
 loop-less : tie.Need-loop-less Inv-loop μ-loop
 loop-less c = search needs
 
--- src/lib.rt:29:5
 loop-again : tie.Need-loop-again Inv-loop μ-loop
-loop-again c = let A = c .before .before .before .before .before .before .before .before .before .args in let s = A .text .now in let l = c .before .before .before .before .before .loop in let k = reach-le (stopsBy (Byte 10)) s (l .from) (omega arith) in let e = c .before .before .before .far-byte-from .ensures in let o = a-line (see kindOf (A .kind) (A .row)) s (l .from) (c .before .before .before .far-byte-from .result) (omega arith) (c .before .before .before .far-byte-from .ensures) (l .place) (l .seen) (l .line) (c .before .judge-line .result) (c .before .judge-line .ensures) in ⊎-elim (λ w. (omega arith, omega arith, rw (w .3) (omega (arith, l .inv .2)), rw (w .2, w .3) (sym (ap line-seen (rw (w .1 .given .1) at o)) ∙ l .inv .3))) (λ w. (omega arith, omega arith, grows _ _ _ _ _ (l .line) (w .6 ∙ w .4 .ensures) (l .inv .2), rw (w .5, w .6, w .4 .ensures, w .3 .ensures .0) (sym (ap line-seen (rw (w .1 .given .1) at o)) ∙ l .inv .3))) (c .match .came)
+loop-again c = let A = c .before .before .before .before .before .before .before .before .before .before .args in let s = A .text .now in let l = c .before .before .before .before .before .loop in let k = reach-le (stopsBy (Byte 10)) s (l .from) (omega arith) in let e = c .before .before .before .far-byte-from .ensures in let o = a-line (see kindOf (A .kind) (A .row)) s (l .from) (c .before .before .before .far-byte-from .result) (omega arith) (c .before .before .before .far-byte-from .ensures) (l .place) (l .seen) (l .line) (c .before .judge-line .result) (c .before .judge-line .ensures) in ⊎-elim (λ w. (omega arith, omega arith, rw (w .3) (omega (arith, l .inv .2)), rw (w .2, w .3) (sym (ap line-seen (rw (w .1 .given .1) at o)) ∙ l .inv .3), l .inv .4)) (λ w. (omega arith, omega arith, grows _ _ _ _ _ (l .line) (w .6 ∙ w .4 .ensures) (l .inv .2), rw (w .5, w .6, w .4 .ensures, w .3 .ensures .0) (sym (ap line-seen (rw (w .1 .given .1) at o)) ∙ l .inv .3), l .inv .4)) (c .match .came)
 
--- src/lib.rt:45:8
 is-over-requires : tie.Need-is-over-requires Inv-loop μ-loop
 is-over-requires c κs = search needs
 
--- src/lib.rt:21:1
-returns-2 : tie.Need-returns-2 Inv-loop μ-loop
-returns-2 c = let A = c .before .before .before .before .before .before .before .args in let s = A .text .now in let l = c .before .before .before .loop in sym (ap line-seen (rw (← (c .before .is-over .ensures), c .if1 .taken) at (at-end rndf-judging (see kindOf (A .kind) (A .row)) overOf s (l .from) (omega arith) (l .place) (l .seen) (l .line)))) ∙ l .inv .3
-
--- src/lib.rt:21:1
 returns-3 : tie.Need-returns-3 Inv-loop μ-loop
-returns-3 c = let A = c .before .before .before .before .before .before .before .args in let s = A .text .now in let l = c .before .before .before .loop in sym (ap line-seen (rw (← (c .before .is-over .ensures), c .if1 .left) at (at-end rndf-judging (see kindOf (A .kind) (A .row)) overOf s (l .from) (omega arith) (l .place) (l .seen) (l .line)))) ∙ l .inv .3
+returns-3 c = let A = c .before .before .before .before .before .before .before .before .args in let s = A .text .now in let l = c .before .before .before .loop in sym (ap line-seen (rw (← (c .before .is-over .ensures), c .if2 .taken) at (at-end rndf-judging (see kindOf (A .kind) (A .row)) overOf s (l .from) (omega arith) (l .place) (l .seen) (l .line)))) ∙ l .inv .3
+
+returns-4 : tie.Need-returns-4 Inv-loop μ-loop
+returns-4 c = let A = c .before .before .before .before .before .before .before .before .args in let s = A .text .now in let l = c .before .before .before .loop in sym (ap line-seen (rw (← (c .before .is-over .ensures), c .if2 .left) at (at-end rndf-judging (see kindOf (A .kind) (A .row)) overOf s (l .from) (omega arith) (l .place) (l .seen) (l .line)))) ∙ l .inv .3
 
 pub rndf-line-spec : {M : Type 1} → statement M
 rndf-line-spec =
@@ -125,6 +110,7 @@ rndf-line-spec =
     (tie.spec
     Inv-loop
     μ-loop
+    returns
     start-requires
     none-requires
     loop-holds
@@ -138,11 +124,11 @@ rndf-line-spec =
     kind-requires
     more-requires
     enum-told-2
-    returns
+    returns-2
     add-from
     add-line
     loop-less
     loop-again
     is-over-requires
-    returns-2
-    returns-3)
+    returns-3
+    returns-4)

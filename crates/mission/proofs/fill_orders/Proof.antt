@@ -13,10 +13,11 @@ use Rattle.mission_place.specs.Step.{overOf}
 use Rattle.mission_judge.specs.MdfLine.{mdf-judging}
 use Rattle.mission_progress.specs.Progress.{noneRead, total}
 use Rattle.walk.specs.Standing.{place}
+use Rattle.refusal.proofs.Sized.{too-long, not-too-long}
 use Rattle.walk.proofs.Cutting.{at-end}
 use Rattle.walk.proofs.MdfSteps.{rest, a-line}
 use Rattle.mission.specs.Storing.{MissionMemory, memory}
-use Rattle.mission.specs.Reading.{put, filledOf}
+use Rattle.mission.specs.Reading.{most, put, filledOf, filledIn}
 use Rattle.mission.proofs.Steps.{put-so, one-more}
 use Rattle.mission.proofs.fill_orders.Statement.{statement}
 use Rattle.mission.proofs.fill_orders.Tie as tie
@@ -26,12 +27,17 @@ Inv-loop text goals₀ limits₀ place₀ gained₀ from₀ line₀ goals limits
     (from ≤ length text + 1)
     × (line ≤ from + 1)
     × (total gained ≤ line)
-    × (rest put text place (memory gained goals limits) from line ≡ filledOf text (memory noneRead goals₀ limits₀))
+    × (rest put text place (memory gained goals limits) from line ≡ filledIn text (memory noneRead goals₀ limits₀))
     × (length goals ≡ length goals₀)
     × (length limits ≡ length limits₀)
+    × (length text ≤ most)
 
 abbrev μ-loop : tie.MeasureT-loop
 μ-loop text goals₀ limits₀ place₀ gained₀ from₀ line₀ goals limits place gained from line = length text + 1 - from
+
+returns : tie.Need-returns Inv-loop μ-loop
+unfolding filledIn
+returns c = sym (too-long (c .before .before .before .before .args .text .now) _ _ (c .if1 .taken))
 
 start-requires : tie.Need-start-requires Inv-loop μ-loop
 start-requires c κs = search needs
@@ -40,8 +46,8 @@ none-requires : tie.Need-none-requires Inv-loop μ-loop
 none-requires c κs = search needs
 
 loop-holds : tie.Need-loop-holds Inv-loop μ-loop
-unfolding filledOf
-loop-holds c = (omega arith, omega arith, rw (c .none .ensures) (omega arith), rw (c .none .ensures, c .before .start .ensures) refl, refl, refl)
+unfolding filledOf filledIn
+loop-holds c = (omega arith, omega arith, rw (c .none .ensures) (omega arith), rw (c .none .ensures, c .before .start .ensures) (sym (not-too-long (c .before .before .before .before .before .before .args .text .now) _ _ (omega arith))), refl, refl, omega arith)
 
 far-byte-from-requires : tie.Need-far-byte-from-requires Inv-loop μ-loop
 far-byte-from-requires c κs = search needs
@@ -54,17 +60,16 @@ part-mission-judge-line-start c = search needs
 
 part-mission-judge-line-end : tie.Need-part-mission-judge-line-end Inv-loop μ-loop
 part-mission-judge-line-end c =
-    let s = c .before .before .before .before .before .before .before .before .args .text .now in
+    let s = c .before .before .before .before .before .before .before .before .before .args .text .now in
     let l = c .before .before .loop .from in
     omega (arith, c .far-byte-from .ensures, reach-le (stopsBy (Byte 10)) s l (omega arith))
 
 mission-judge-line-requires : tie.Need-mission-judge-line-requires Inv-loop μ-loop
 mission-judge-line-requires c κs =
-    let s = c .before .before .before .before .before .before .before .before .before .args .text .now in
+    let s = c .before .before .before .before .before .before .before .before .before .before .args .text .now in
     let l = c .before .before .before .loop .from in
     let e = c .before .far-byte-from .result in
     let h : e ≤ length s = omega (arith, c .before .far-byte-from .ensures, reach-le (stopsBy (Byte 10)) s l (omega arith)) in
-    let p = c .before .before .before .before .before .before .before .before .before .pre in
     omega (arith, length-take-le (e - l) (drop l s) (omega (arith, length-drop l s)))
 
 enum-told : tie.Need-enum-told Inv-loop μ-loop
@@ -91,10 +96,10 @@ same-length c = c .before .before .before .before .before .before .before .loop 
 same-length-2 : tie.Need-same-length-2 Inv-loop μ-loop
 same-length-2 c = c .before .before .before .before .before .before .before .loop .inv .5
 
-returns : tie.Need-returns Inv-loop μ-loop
-returns c =
+returns-2 : tie.Need-returns-2 Inv-loop μ-loop
+returns-2 c =
     let l = c .before .before .before .before .before .before .before .loop in
-    let s = c .before .before .before .before .before .before .before .before .before .before .before .before .before .args .text .now in
+    let s = c .before .before .before .before .before .before .before .before .before .before .before .before .before .before .args .text .now in
     let scanned = c .before .before .before .before .before .far-byte-from in
     let judged = c .before .before .before .mission-judge-line in
     let o = a-line put s (l .from) (scanned .result) (omega arith) (scanned .ensures) (l .place) (memory (l .gained) (l .goals) (l .limits)) (l .line) (judged .result) (judged .ensures) in
@@ -102,9 +107,8 @@ returns c =
 
 add-from : tie.Need-add-from Inv-loop μ-loop
 add-from c =
-    let s = c .before .before .before .before .before .before .before .before .before .before .before .args .text .now in
+    let s = c .before .before .before .before .before .before .before .before .before .before .before .before .args .text .now in
     let l = c .before .before .before .before .before .loop .from in
-    let p = c .before .before .before .before .before .before .before .before .before .before .before .pre in
     omega (arith, c .before .before .before .far-byte-from .ensures, reach-le (stopsBy (Byte 10)) s l (omega arith))
 
 add-line : tie.Need-add-line Inv-loop μ-loop
@@ -116,14 +120,14 @@ loop-less c = search needs
 loop-again : tie.Need-loop-again Inv-loop μ-loop
 loop-again c =
     let l = c .before .before .before .before .before .loop in
-    let s = c .before .before .before .before .before .before .before .before .before .before .before .args .text .now in
+    let s = c .before .before .before .before .before .before .before .before .before .before .before .before .args .text .now in
     let scanned = c .before .before .before .far-byte-from in
     let e = scanned .ensures in
     let k = reach-le (stopsBy (Byte 10)) s (l .from) (omega arith) in
     let judged = c .before .mission-judge-line in
     let o = a-line put s (l .from) (scanned .result) (omega arith) (scanned .ensures) (l .place) (memory (l .gained) (l .goals) (l .limits)) (l .line) (judged .result) (judged .ensures) in
     ⊎-elim
-    (λ w. (omega arith, omega arith, rw (w .5) (omega (arith, l .inv .2)), rw (w .2, w .3, w .4, w .5) (sym (rw (w .1 .given .1) at o) ∙ l .inv .3), rw (w .2) (l .inv .4), rw (w .3) (l .inv .5)))
+    (λ w. (omega arith, omega arith, rw (w .5) (omega (arith, l .inv .2)), rw (w .2, w .3, w .4, w .5) (sym (rw (w .1 .given .1) at o) ∙ l .inv .3), rw (w .2) (l .inv .4), rw (w .3) (l .inv .5), l .inv .6))
     (λ w. (
       omega arith,
       omega arith,
@@ -133,6 +137,7 @@ loop-again c =
           ∙ rw (w .14) (sym (rw (w .1 .given .1) at o) ∙ l .inv .3),
       rw (w .12) (w .6 .kept .0 ∙ l .inv .4),
       rw (w .13) (w .6 .kept .1 .0 ∙ l .inv .5),
+      l .inv .6,
     ))
     (c .match .came)
 
@@ -145,11 +150,11 @@ same-length-3 c = c .before .before .before .loop .inv .4
 same-length-4 : tie.Need-same-length-4 Inv-loop μ-loop
 same-length-4 c = c .before .before .before .loop .inv .5
 
-returns-2 : tie.Need-returns-2 Inv-loop μ-loop
-returns-2 c =
+returns-3 : tie.Need-returns-3 Inv-loop μ-loop
+returns-3 c =
     let l = c .before .before .before .loop in
-    let s = c .before .before .before .before .before .before .before .before .before .args .text .now in
-    sym (rw (← (c .before .is-over .ensures), c .if1 .taken) at (at-end mdf-judging put overOf s (l .from) (omega arith) (l .place) (memory (l .gained) (l .goals) (l .limits)) (l .line))) ∙ l .inv .3
+    let s = c .before .before .before .before .before .before .before .before .before .before .args .text .now in
+    sym (rw (← (c .before .is-over .ensures), c .if2 .taken) at (at-end mdf-judging put overOf s (l .from) (omega arith) (l .place) (memory (l .gained) (l .goals) (l .limits)) (l .line))) ∙ l .inv .3
 
 same-length-5 : tie.Need-same-length-5 Inv-loop μ-loop
 same-length-5 c = c .before .before .before .loop .inv .4
@@ -157,11 +162,11 @@ same-length-5 c = c .before .before .before .loop .inv .4
 same-length-6 : tie.Need-same-length-6 Inv-loop μ-loop
 same-length-6 c = c .before .before .before .loop .inv .5
 
-returns-3 : tie.Need-returns-3 Inv-loop μ-loop
-returns-3 c =
+returns-4 : tie.Need-returns-4 Inv-loop μ-loop
+returns-4 c =
     let l = c .before .before .before .loop in
-    let s = c .before .before .before .before .before .before .before .before .before .args .text .now in
-    sym (rw (← (c .before .is-over .ensures), c .if1 .left) at (at-end mdf-judging put overOf s (l .from) (omega arith) (l .place) (memory (l .gained) (l .goals) (l .limits)) (l .line))) ∙ l .inv .3
+    let s = c .before .before .before .before .before .before .before .before .before .before .args .text .now in
+    sym (rw (← (c .before .is-over .ensures), c .if2 .left) at (at-end mdf-judging put overOf s (l .from) (omega arith) (l .place) (memory (l .gained) (l .goals) (l .limits)) (l .line))) ∙ l .inv .3
 
 pub fill-orders-spec : {M : Type 1} → statement M
 fill-orders-spec =
@@ -169,6 +174,7 @@ fill-orders-spec =
     (tie.spec
     Inv-loop
     μ-loop
+    returns
     start-requires
     none-requires
     loop-holds
@@ -185,7 +191,7 @@ fill-orders-spec =
     enum-known-v-2
     same-length
     same-length-2
-    returns
+    returns-2
     add-from
     add-line
     loop-less
@@ -193,7 +199,7 @@ fill-orders-spec =
     is-over-requires
     same-length-3
     same-length-4
-    returns-2
+    returns-3
     same-length-5
     same-length-6
-    returns-3)
+    returns-4)

@@ -1,0 +1,2 @@
+-- A number that fits is kept.
+pub mod Fitted

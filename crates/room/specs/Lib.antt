@@ -1,0 +1,2 @@
+-- What there is room for.
+pub mod Room
