@@ -19,6 +19,7 @@ use Rattle.word.specs.Keywords.{mdf-keywords}
 use Rattle.word.specs.Number.{indexOf, digit-first}
 use Rattle.grammar.specs.MissionStatements.{Kind, say, MDF-name, RNDF, format-version, creation-date, checkpoints, num-checkpoints, end-checkpoints, speed-limits, num-speed-limits, end-speed-limits, end-file, goal, limit}
 use Rattle.grammar.specs.MissionStatements as G
+use Rattle.grammar.specs.PlaceTable.{mdf-table}
 use Rattle.grammar.specs.PlaceRows.{mission-kinds, mission-kind-row}
 use Rattle.grammar.specs.Machine.{Out, next, refuse, Stand, over, inside, step}
 use Rattle.grammar.specs.MissionPlaces.{mdf, Base, name-due, RNDF-due, checkpoints-due, num-checkpoints-due, goal-due, speed-limits-due, num-speed-limits-due, limit-due, end-file-due}
@@ -40,12 +41,12 @@ use Rattle.made_out.proofs.MissionTies.{order-is}
 use Rattle.mission_place.specs.declared.MissionPlace.{MissionPlace}
 use Rattle.mission_place.specs.declared.MissionOutcome as DO
 use Rattle.mission_place.specs.declared.MissionOutcome.the-variants.{Next, Refused}
-use Rattle.mission_place.specs.Step.{numberKindOf, stepOf, refusesOf}
+use Rattle.mission_place.specs.Step.{numberKindOf, cellOf, byCell, stepOf, refusesBy}
 use Rattle.mission_place.specs.Abstract.{seen, absOf, dueDigit}
-use Rattle.mission_place.proofs.Theorems.{Sound, the-step, next-sound, refuses-is, number-kind-is}
+use Rattle.mission_place.proofs.Theorems.{Sound, the-step, next-sound, refuses-is, step-by, refuses-by, number-kind-is}
 use Rattle.judge.specs.Judging.{line}
-use Rattle.judge.proofs.Judged.{keyed, place-from, OfKind, Ties, view, renamed, line-is, SoundGot, line-sound}
-use Rattle.mission_judge.specs.MdfLine.{mdfKind, next-from, mdf-judging}
+use Rattle.judge.proofs.Judged.{keyed, OfKind, Ties, view, renamed, line-is, SoundGot, line-sound}
+use Rattle.mission_judge.specs.MdfLine.{mdfKind, mdf-judging}
 
 -- ## The kind of a first field
 row-back : (i : ℕ) → i < 13 → mission-kind-row (getD mission-kinds i limit) ≡ i
@@ -66,8 +67,12 @@ row-in end-file = refl
 row-in goal = refl
 row-in limit = refl
 
-pub refuses-as : (p : MissionPlace) → Sound p → (k : Kind) → refusesOf p (mission-kind-row k) ≡ numberOf (stands (mdf Field) (absOf p) k)
-refuses-as p i k = refuses-is p k i ∙ ap numberOf (mdf-stands stretch-of (absOf p) k)
+-- 5, 6 or 0 by the cell of a kind in the table of an MDF
+abbrev pub refusal : MissionPlace → ℕ → ℕ
+refusal p kind = refusesBy p (cellOf mdf-table p kind)
+
+pub refuses-as : (p : MissionPlace) → Sound p → (k : Kind) → refusal p (mission-kind-row k) ≡ numberOf (stands (mdf Field) (absOf p) k)
+refuses-as p i k = refuses-by p (mission-kind-row k) ∙ refuses-is p k i ∙ ap numberOf (mdf-stands stretch-of (absOf p) k)
 
 -- a goal or a limit by the place, or none
 digit-kind : (p : MissionPlace) (q : Stand Base) → OfKind (mdf Field) mdf-lexis mdf-judging mission-kind-row p (dueDigit q) (numbered (mdf Field) mdf-lexis q)
@@ -136,19 +141,19 @@ pub statement-is : (k : Kind) (base : ℕ) (s : Bytes) (f : Fields) → FieldsWi
     → told-as meant (order-from (orderMadeOf s base f (mission-kind-row k))) ≡ told-as (λ v. order-named stretch-of (say k (mdf-make k v))) (readAll (mdf-sorts k) (behind (word-at (mission-kind-row k)) (listed base s f (order-needs (getD order-shapes (mission-kind-row k) 0)))))
 statement-is k base s f w = ap (told-as meant) (order-is base s f w k) ∙ as-made k (λ v. orders-named stretch-of k (mdf-make k v)) (readAll (mdf-sorts k) (behind (word-at (mission-kind-row k)) (listed base s f (order-needs (getD order-shapes (mission-kind-row k) 0)))))
 
-next-as : (o : DO.MissionOutcome) → told-as absOf (next-from o) ≡ place-from (mapOut absOf (seen o))
-next-as (Next q) = refl
-next-as (Refused c) = refl
+-- the step with the cell of the kind that the order has
+by-kind : (p : MissionPlace) (s : Order) (t : G.Statement Field) → meant s ≡ order-named stretch-of t → byCell p s (cellOf mdf-table p (mission-kind-row (t .kind))) ≡ stepOf p s
+by-kind p s t m = ap (λ (x : G.Statement Stretch). byCell p s (cellOf mdf-table p (mission-kind-row (x .kind)))) (sym m) ∙ step-by p s
 
-pub step-is : (p : MissionPlace) → Sound p → (s : Order) (t : G.Statement Field) → meant s ≡ order-named stretch-of t → told-as absOf (next-from (stepOf p s)) ≡ place-from (step (mdf Field) (absOf p) t)
-step-is p i s t m = next-as (stepOf p s) ∙ ap place-from (the-step p s i ∙ ap (step (mdf Stretch) (absOf p)) m ∙ mdf-renamed stretch-of (absOf p) t)
+pub step-is : (p : MissionPlace) → Sound p → (s : Order) (t : G.Statement Field) → meant s ≡ order-named stretch-of t → mapOut absOf (seen (byCell p s (cellOf mdf-table p (mission-kind-row (t .kind))))) ≡ step (mdf Field) (absOf p) t
+step-is p i s t m = ap (λ (o : DO.MissionOutcome). mapOut absOf (seen o)) (by-kind p s t m) ∙ the-step p s i ∙ ap (step (mdf Stretch) (absOf p)) m ∙ mdf-renamed stretch-of (absOf p) t
 
-next-was : (o : DO.MissionOutcome) (q : MissionPlace) → next-from o ≡ some q → o ≡ Next q
-next-was (Next r) q e = ap Next (ap (λ (x : Option MissionPlace). elim x as (λ y. MissionPlace) [ none ↦ r | some z ↦ z ]) e)
+next-was : (o : DO.MissionOutcome) (q : MissionPlace) → seen o ≡ next q → o ≡ Next q
+next-was (Next r) q e = ap Next (let z : r ≡ q = cc in z)
 next-was (Refused c) q e = absurd (let z : _≡_ {A = ℕ} 0 1 = cc in omega arith)
 
-pub stays : (p : MissionPlace) → Sound p → (s : Order) (q : MissionPlace) → next-from (stepOf p s) ≡ some q → Sound q
-stays p i s q e = next-sound p s q i (next-was (stepOf p s) q e)
+pub stays : (p : MissionPlace) → Sound p → (s : Order) (t : G.Statement Field) → meant s ≡ order-named stretch-of t → (q : MissionPlace) → seen (byCell p s (cellOf mdf-table p (mission-kind-row (t .kind)))) ≡ next q → Sound q
+stays p i s t m q e = next-sound p s q i (sym (by-kind p s t m) ∙ next-was (byCell p s (cellOf mdf-table p (mission-kind-row (t .kind)))) q e)
 
 abbrev pub mdf-ties : Ties (mdf Field) mdf-lexis mdf-judging
 mdf-ties = record { Mean = G.Statement Stretch; meant = meant; moved = order-named stretch-of; abs = absOf; Sound = Sound; row = mission-kind-row; row-in = row-in; kind-is = kind-is; refuses-is = refuses-as; needs-is = needs-is; needs-few = needs-few; made-is = statement-is; step-is = step-is; stays = stays }

@@ -1,5 +1,4 @@
 -- Executable: what a line of an MDF gets, over the program's types. Assumes nothing.
-use mathlib.Core.Option.{Option, none, some}
 use mathlib.Core.List.{List}
 use Prim.Native.Nat.{ℕ}
 use lib.ListN.{getD}
@@ -8,26 +7,29 @@ use Rattle.terms.specs.Ascii.{Bytes}
 use Rattle.terms.specs.Words.{pick}
 use Rattle.word.specs.Keywords.{mdf-keywords}
 use Rattle.word.specs.Number.{indexOf, digit-first}
+use Rattle.grammar.specs.MissionStatements.{goal}
+use Rattle.grammar.specs.PlaceTable.{mdf-table}
+use Rattle.grammar.specs.PlaceRows.{mission-kind-row}
 use Rattle.statement.specs.declared.Order.{Order}
 use Rattle.made_out.specs.MadeOrders.{order-shapes, order-needs, orderMadeOf, order-from}
 use Rattle.mission_place.specs.declared.MissionPlace.{MissionPlace}
-use Rattle.mission_place.specs.declared.MissionOutcome as DO
-use Rattle.mission_place.specs.declared.MissionOutcome.the-variants as Outcome
-use Rattle.mission_place.specs.Step.{numberKindOf, refusesOf, stepOf}
+use Rattle.mission_place.specs.Step.{numberKindOf, cellOf, refusesBy, byCell}
+use Rattle.mission_place.specs.Abstract.{seen}
 use Rattle.judge.specs.Judging.{Got, bad, blank, said, Judging, line}
 use Rattle.mission_judge.specs.declared.MissionVerdict.{MissionVerdict}
 use Rattle.mission_judge.specs.declared.MissionVerdict.the-variants as Verdict
 
 -- a line that begins with a digit is a goal or a limit by its place; 13 for a word that is no keyword
 unfoldable pub mdfKind : MissionPlace → Bytes → ℕ
-mdfKind p w = pick (digit-first w) (numberKindOf p) (pick (ltb (indexOf w mdf-keywords) 11) (indexOf w mdf-keywords) 13)
+mdfKind p w = pick (digit-first w) (numberKindOf p) (pick (ltb (indexOf w mdf-keywords) (mission-kind-row goal)) (indexOf w mdf-keywords) 13)
 
-abbrev pub next-from : DO.MissionOutcome → Option MissionPlace
-next-from (Outcome.Next q) = some q
-next-from (Outcome.Refused c) = none
+-- with a table that is lent
+abbrev pub judging : List (List ℕ) → Judging
+judging table = record { St = Order; Pl = MissionPlace; kinds = 13; kindOf = mdfKind; cell = cellOf table; refuses = refusesBy; needs = λ k. order-needs (getD order-shapes k 0); made = λ s base f k. order-from (orderMadeOf s base f k); steps = λ p c s. seen (byCell p s c) }
 
+-- with the table of an MDF
 abbrev pub mdf-judging : Judging
-mdf-judging = record { St = Order; Pl = MissionPlace; kinds = 13; kindOf = mdfKind; refuses = refusesOf; needs = λ k. order-needs (getD order-shapes k 0); made = λ s base f k. order-from (orderMadeOf s base f k); steps = λ p s. next-from (stepOf p s) }
+mdf-judging = judging mdf-table
 
 -- as the program answers
 abbrev pub verdict : Got Order MissionPlace → MissionVerdict
@@ -35,5 +37,5 @@ verdict (bad n) = Verdict.Bad n
 verdict blank = Verdict.Blank
 verdict (said s q) = Verdict.Said s q
 
-unfoldable pub lineOf : Bytes → ℕ → MissionPlace → MissionVerdict
-lineOf s base p = verdict (line mdf-judging s base p)
+unfoldable pub lineBy : List (List ℕ) → Bytes → ℕ → MissionPlace → MissionVerdict
+lineBy table s base p = verdict (line (judging table) s base p)

@@ -15,6 +15,7 @@ use made_out::order_made_out;
 use mission_place::MissionOutcome;
 use mission_place::MissionPlace;
 use statement::Order;
+use statement::orders;
 use word::begins_with_digit;
 use word::mdf_keyword;
 ghost use mathlib.Core.Path.{_≡_};
@@ -23,7 +24,8 @@ ghost use lib.ListN.{length};
 ghost use Rattle.line.specs.Forms.{FieldsWithin};
 ghost use Rattle.made_out.specs.MadeOrders.{order-from};
 ghost use Rattle.judge.specs.Judging.{taken, valued, ofKind, known, told, content};
-ghost use Rattle.mission_judge.specs.MdfLine.{mdfKind, next-from, mdf-judging, verdict, lineOf};
+ghost use Rattle.mission_place.specs.Abstract.{seen};
+ghost use Rattle.mission_judge.specs.MdfLine.{mdfKind, judging, mdf-judging, verdict, lineBy};
 
 // What a line of an MDF gets.
 pub enum MissionVerdict {
@@ -32,7 +34,7 @@ pub enum MissionVerdict {
     Bad(u8),
 }
 
-// The kind of a line by its first field: its row; 13 for a word that is no keyword.
+// The kind of a line by its first field: its column, of which those of a goal and a limit are the last; no kind for a word that is no keyword.
 fn kind_of(p: MissionPlace, s: &[u8]) -> u8
     ensures { λ r. ⌜ r ≡ mdfKind p (now (s .entry)) ⌝ }
 {
@@ -40,49 +42,57 @@ fn kind_of(p: MissionPlace, s: &[u8]) -> u8
         return p.number_kind();
     }
     let i = mdf_keyword(s);
-    if i < 11 { i } else { 13 }
+    if i < orders::GOAL { i } else { orders::COUNT }
 }
 
-// 9, or the next place.
+// The place's own number, 9, or the next place.
 fn taken_told(s: Order, o: MissionOutcome) -> MissionVerdict
-    ensures { λ r. ⌜ r ≡ verdict (taken mdf-judging s (next-from o)) ⌝ }
+    ensures { λ r. ⌜ r ≡ verdict (taken mdf-judging s (seen o)) ⌝ }
 {
     match o {
         MissionOutcome::Next(q) => MissionVerdict::Said(s, q),
-        MissionOutcome::Refused(_) => MissionVerdict::Bad(9),
+        MissionOutcome::Refused(n) => MissionVerdict::Bad(n),
     }
 }
 
-// 8, or what comes of the statement.
-fn values_told(p: MissionPlace, m: MadeOrder) -> MissionVerdict
-    ensures { λ r. ⌜ r ≡ verdict (valued mdf-judging p (order-from m)) ⌝ }
+// 8, or what comes of the order with the cell of its kind.
+fn values_told(p: MissionPlace, cell: u8, m: MadeOrder) -> MissionVerdict
+    ensures { λ r. ⌜ r ≡ verdict (valued mdf-judging p cell (order-from m)) ⌝ }
 {
     let MadeOrder::Is(s) = m else {
         return MissionVerdict::Bad(8);
     };
-    taken_told(s, p.step(s))
+    taken_told(s, p.step(cell, s))
 }
 
-// 5 or 6 by the kind alone, then 7.
-fn kind_told(s: &[u8], base: usize, f: Fields, p: MissionPlace, kind: u8) -> MissionVerdict
+// 5 or 6 by the kind alone, then 7. The kind is looked up here, once for the line.
+fn kind_told(
+    table: &[[u8; 13]; 12],
+    s: &[u8],
+    base: usize,
+    f: Fields,
+    p: MissionPlace,
+    kind: u8,
+) -> MissionVerdict
     requires { ⌜ FieldsWithin (now s) f × (base + length (now s) < 4294967296) × (kind < 13) ⌝ }
-    ensures { λ r. ⌜ r ≡ verdict (ofKind mdf-judging (now (s .entry)) base f p kind) ⌝ }
+    ensures { λ r. ⌜ r ≡ verdict (ofKind (judging (now (table .entry))) (now (s .entry)) base f p kind) ⌝ }
 {
-    let c = p.refuses(kind);
+    let cell = p.cell(table, kind);
+    let c = p.refuses(cell);
     if c != 0 {
         return MissionVerdict::Bad(c);
     }
     if f.count == order_fields_needed(kind) {
-        values_told(p, order_made_out(s, base, f, kind))
+        values_told(p, cell, order_made_out(s, base, f, kind))
     } else {
         MissionVerdict::Bad(7)
     }
 }
 
 // The fields, cut once: blank, or a line of its kind.
-fn fields_told(s: &[u8], base: usize, p: MissionPlace) -> MissionVerdict
+fn fields_told(table: &[[u8; 13]; 12], s: &[u8], base: usize, p: MissionPlace) -> MissionVerdict
     requires { ⌜ base + length (now s) < 4294967296 ⌝ }
-    ensures { λ r. ⌜ r ≡ verdict (told mdf-judging (now (s .entry)) base p) ⌝ }
+    ensures { λ r. ⌜ r ≡ verdict (told (judging (now (table .entry))) (now (s .entry)) base p) ⌝ }
 {
     let f = fields_of(s);
     if f.count == 0 {
@@ -92,29 +102,34 @@ fn fields_told(s: &[u8], base: usize, p: MissionPlace) -> MissionVerdict
     let a = first.start;
     let e = first.stop;
     let kind = kind_of(p, &s[a..e]);
-    if kind < 13 {
-        kind_told(s, base, f, p, kind)
+    if kind < orders::COUNT {
+        kind_told(table, s, base, f, p, kind)
     } else {
         MissionVerdict::Bad(5)
     }
 }
 
 // 2, 3, 4, or the fields before a comment.
-fn content_told(s: &[u8], base: usize, p: MissionPlace) -> MissionVerdict
+fn content_told(table: &[[u8; 13]; 12], s: &[u8], base: usize, p: MissionPlace) -> MissionVerdict
     requires { ⌜ base + length (now s) < 4294967296 ⌝ }
-    ensures { λ r. ⌜ r ≡ verdict (content mdf-judging (now (s .entry)) base p) ⌝ }
+    ensures { λ r. ⌜ r ≡ verdict (content (judging (now (table .entry))) (now (s .entry)) base p) ⌝ }
 {
     match form_of(s) {
         Form::Bad(n) => MissionVerdict::Bad(n),
-        Form::Body(e) => fields_told(&s[..e], base, p),
+        Form::Body(e) => fields_told(table, &s[..e], base, p),
     }
 }
 
-// A line, without its LF, that starts at `base` in the text.
-pub fn mission_judge_line(s: &[u8], base: usize, p: MissionPlace) -> MissionVerdict
+// A line, without its LF, that starts at `base` in the text. The table is `place_table::mdf_table()`, made once for the text.
+pub fn mission_judge_line(
+    table: &[[u8; 13]; 12],
+    s: &[u8],
+    base: usize,
+    p: MissionPlace,
+) -> MissionVerdict
     requires { ⌜ base + length (now s) < 4294967296 ⌝ }
-    ensures { λ r. ⌜ r ≡ lineOf (now (s .entry)) base p ⌝ }
+    ensures { λ r. ⌜ r ≡ lineBy (now (table .entry)) (now (s .entry)) base p ⌝ }
 {
     let e = trimmed(s);
-    content_told(&s[..e], base, p)
+    content_told(table, &s[..e], base, p)
 }

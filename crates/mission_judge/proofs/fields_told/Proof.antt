@@ -1,6 +1,6 @@
 use Rattle.line.specs.Forms.{fieldsIn, SpanWithin}
 use Rattle.line.proofs.Spans.{fields-within}
-use Rattle.mission_judge.specs.MdfLine.{mdfKind, next-from, mdf-judging, verdict, lineOf}
+use Rattle.mission_judge.specs.MdfLine.{mdfKind, verdict, lineBy}
 use Rattle.judge.specs.Judging.{Got, taken, valued, ofKind, known, told, formed, content, line}
 use borrow.Author.Tests.{eq-eqb, ne-eqb, lt-ltb, le-ltb}
 use lib.Seq.{length-take-le}
@@ -17,41 +17,32 @@ use Rattle.mission_judge.proofs.kind_of.Reads as kind-of-reads
 use Rattle.mission_judge.proofs.kind_told.Reads as kind-told-reads
 use Rattle.line.proofs.fields_of.Reads as fields-of-reads
 
--- src/lib.rt:79:9
 fields-of-requires : tie.Need-fields-of-requires
 fields-of-requires c κs = search needs
 
--- src/lib.rt:81:9
 returns : tie.Need-returns
 unfolding told
 returns c = rw (← (c .before .before .fields-of .ensures), eq-eqb _ 0 (c .if1 .taken))
 
--- src/lib.rt:86:24
 sub-kind-of : tie.Need-sub-kind-of
 sub-kind-of c = let h : SpanWithin (c .before .before .before .before .before .args .s .now) (c .before .before .before .fields-of .result .a) = rw (c .before .before .before .fields-of .ensures) (fields-within (c .before .before .before .before .before .args .s .now) .first) in omega (arith, h .order, h .inside)
 
--- src/lib.rt:86:24
 part-kind-of-start : tie.Need-part-kind-of-start
 part-kind-of-start c = let h : SpanWithin (c .before .before .before .before .before .args .s .now) (c .before .before .before .fields-of .result .a) = rw (c .before .before .before .fields-of .ensures) (fields-within (c .before .before .before .before .before .args .s .now) .first) in omega (arith, h .order, h .inside)
 
--- src/lib.rt:86:24
 part-kind-of-end : tie.Need-part-kind-of-end
 part-kind-of-end c = let h : SpanWithin (c .before .before .before .before .before .args .s .now) (c .before .before .before .fields-of .result .a) = rw (c .before .before .before .fields-of .ensures) (fields-within (c .before .before .before .before .before .args .s .now) .first) in omega (arith, h .order, h .inside)
 
--- src/lib.rt:86:9
 kind-of-requires : tie.Need-kind-of-requires
 kind-of-requires c κs = search needs
 
--- src/lib.rt:87:20
 kind-told-requires : tie.Need-kind-told-requires
 kind-told-requires c κs = (rw (c .before .before .before .before .before .before .fields-of .ensures) (fields-within (c .before .before .before .before .before .before .before .before .args .s .now)), c .before .before .before .before .before .before .before .before .pre, c .if2 .taken)
 
--- src/lib.rt:75:1
 returns-2 : tie.Need-returns-2
 unfolding told known
 returns-2 c = rw (← (c .before .before .before .before .before .before .before .fields-of .ensures), ne-eqb _ 0 (c .before .before .before .before .before .if1 .left), ← (c .before .before .kind-of .ensures), lt-ltb _ 13 (c .before .if2 .taken)) (c .kind-told .ensures)
 
--- src/lib.rt:75:1
 returns-3 : tie.Need-returns-3
 unfolding told known
 returns-3 c = rw (← (c .before .before .before .before .before .before .fields-of .ensures), ne-eqb _ 0 (c .before .before .before .before .if1 .left), ← (c .before .kind-of .ensures), le-ltb _ 13 (c .if2 .left))

@@ -1,5 +1,5 @@
 use borrow.Author.Tests.{lt-ltb, le-ltb}
-use Rattle.mission_judge.specs.MdfLine.{mdfKind}
+use Rattle.mission_judge.specs.MdfLine.{mdfKind, verdict, lineBy}
 use borrow.Author.Needs.{needs}
 use Rattle.mission_judge.proofs.kind_of.Statement.{statement}
 use Rattle.mission_judge.proofs.kind_of.Tie as tie
@@ -9,29 +9,23 @@ use Rattle.mission_place.proofs.MissionPlace.number_kind.Reads as number-kind-r
 use Rattle.word.proofs.begins_with_digit.Reads as begins-with-digit-reads
 use Rattle.word.proofs.mdf_keyword.Reads as mdf-keyword-reads
 
--- src/lib.rt:39:8
 begins-with-digit-requires : tie.Need-begins-with-digit-requires
 begins-with-digit-requires c κs = search needs
 
--- src/lib.rt:40:9
 number-kind-requires : tie.Need-number-kind-requires
 number-kind-requires c κs = search needs
 
--- src/lib.rt:40:9
 returns : tie.Need-returns
 unfolding mdfKind
 returns c = rw (← (c .before .before .begins-with-digit .ensures), c .before .if1 .taken) (c .number-kind .ensures)
 
--- src/lib.rt:42:9
 mdf-keyword-requires : tie.Need-mdf-keyword-requires
 mdf-keyword-requires c κs = search needs
 
--- src/lib.rt:36:1
 returns-2 : tie.Need-returns-2
 unfolding mdfKind
 returns-2 c = rw (← (c .before .before .before .begins-with-digit .ensures), c .before .before .if1 .left, ← (c .before .mdf-keyword .ensures), lt-ltb _ 11 (c .if2 .taken))
 
--- src/lib.rt:36:1
 returns-3 : tie.Need-returns-3
 unfolding mdfKind
 returns-3 c = rw (← (c .before .before .before .begins-with-digit .ensures), c .before .before .if1 .left, ← (c .before .mdf-keyword .ensures), le-ltb _ 11 (c .if2 .left))

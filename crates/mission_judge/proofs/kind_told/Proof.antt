@@ -1,4 +1,4 @@
-use Rattle.mission_judge.specs.MdfLine.{mdfKind, next-from, mdf-judging, verdict, lineOf}
+use Rattle.mission_judge.specs.MdfLine.{mdfKind, verdict, lineBy}
 use Rattle.judge.specs.Judging.{Got, taken, valued, ofKind, known, told, formed, content, line}
 use borrow.Author.Tests.{eq-eqb, ne-eqb, lt-ltb, le-ltb}
 use lib.Seq.{length-take-le}
@@ -16,41 +16,38 @@ use Rattle.made_out.proofs.order_fields_needed.Reads as order-fields-needed-rea
 use Rattle.made_out.proofs.order_made_out.Reads as order-made-out-reads
 use Rattle.mission_place.proofs.MissionPlace.refuses.Reads as refuses-reads
 
--- src/lib.rt:63:9
+cell-requires : tie.Need-cell-requires
+cell-requires c κs = search needs
+
 refuses-requires : tie.Need-refuses-requires
 refuses-requires c κs = search needs
 
--- src/lib.rt:65:9
 returns : tie.Need-returns
 unfolding ofKind
-returns c = rw (← (c .before .refuses .ensures), ne-eqb _ 0 (c .if1 .taken))
+returns c = rw (← (c .before .before .cell .ensures), ← (c .before .refuses .ensures), ne-eqb _ 0 (c .if1 .taken))
 
--- src/lib.rt:67:19
 order-fields-needed-requires : tie.Need-order-fields-needed-requires
 order-fields-needed-requires c κs = search needs
 
--- src/lib.rt:68:24
 order-made-out-requires : tie.Need-order-made-out-requires
 order-made-out-requires c κs = search needs
 
--- src/lib.rt:68:9
 values-told-requires : tie.Need-values-told-requires
 values-told-requires c κs = search needs
 
--- src/lib.rt:59:1
 returns-2 : tie.Need-returns-2
 unfolding ofKind
-returns-2 c = rw (← (c .before .before .before .before .before .before .refuses .ensures), eq-eqb _ 0 (c .before .before .before .before .before .if1 .left), ← (c .before .before .before .before .order-fields-needed .ensures), eq-eqb _ _ (c .before .before .if2 .taken), ← (c .before .order-made-out .ensures)) (c .values-told .ensures)
+returns-2 c = rw (← (c .before .before .before .before .before .before .before .cell .ensures), ← (c .before .before .before .before .before .before .refuses .ensures), eq-eqb _ 0 (c .before .before .before .before .before .if1 .left), ← (c .before .before .before .before .order-fields-needed .ensures), eq-eqb _ _ (c .before .before .if2 .taken), ← (c .before .order-made-out .ensures)) (c .values-told .ensures)
 
--- src/lib.rt:59:1
 returns-3 : tie.Need-returns-3
 unfolding ofKind
-returns-3 c = rw (← (c .before .before .before .before .refuses .ensures), eq-eqb _ 0 (c .before .before .before .if1 .left), ← (c .before .before .order-fields-needed .ensures), ne-eqb _ _ (c .if2 .left))
+returns-3 c = rw (← (c .before .before .before .before .before .cell .ensures), ← (c .before .before .before .before .refuses .ensures), eq-eqb _ 0 (c .before .before .before .if1 .left), ← (c .before .before .order-fields-needed .ensures), ne-eqb _ _ (c .if2 .left))
 
 pub kind-told-spec : {M : Type 1} → statement M
 kind-told-spec =
     tie.close
     (tie.spec
+    cell-requires
     refuses-requires
     returns
     order-fields-needed-requires

@@ -1,6 +1,6 @@
 use Rattle.line.specs.Lines.{trimOf}
 use Rattle.line.proofs.Ends.{trim-le}
-use Rattle.mission_judge.specs.MdfLine.{mdfKind, next-from, mdf-judging, verdict, lineOf}
+use Rattle.mission_judge.specs.MdfLine.{mdfKind, verdict, lineBy}
 use Rattle.judge.specs.Judging.{Got, taken, valued, ofKind, known, told, formed, content, line}
 use borrow.Author.Tests.{eq-eqb, ne-eqb, lt-ltb, le-ltb}
 use lib.Seq.{length-take-le}
@@ -16,21 +16,17 @@ use Rattle.mission_judge.proofs.mission_judge_line.Lts as lts
 use Rattle.mission_judge.proofs.content_told.Reads as content-told-reads
 use Rattle.line.proofs.trimmed.Reads as trimmed-reads
 
--- src/lib.rt:106:9
 trimmed-requires : tie.Need-trimmed-requires
 trimmed-requires c κs = search needs
 
--- src/lib.rt:107:18
 slice-aggregate-content-told : tie.Need-slice-aggregate-content-told
 slice-aggregate-content-told c = sym (length-take-le (c .before .trimmed .result) (c .before .before .before .args .s .now) (rw (c .before .trimmed .ensures) (trim-le (c .before .before .before .args .s .now))))
 
--- src/lib.rt:107:5
 content-told-requires : tie.Need-content-told-requires
 content-told-requires c κs = let p = c .before .before .before .pre in let h : c .before .trimmed .result ≤ length (c .before .before .before .args .s .now) = rw (c .before .trimmed .ensures) (trim-le (c .before .before .before .args .s .now)) in omega (arith, length-take-le (c .before .trimmed .result) (c .before .before .before .args .s .now) h)
 
--- src/lib.rt:102:1
 returns : tie.Need-returns
-unfolding lineOf line
+unfolding lineBy line
 returns c = rw (← (c .before .before .trimmed .ensures)) (c .content-told .ensures)
 
 pub mission-judge-line-spec : {M : Type 1} → statement M

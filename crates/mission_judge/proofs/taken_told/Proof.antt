@@ -1,4 +1,4 @@
-use Rattle.mission_judge.specs.MdfLine.{mdfKind, next-from, mdf-judging, verdict, lineOf}
+use Rattle.mission_judge.specs.MdfLine.{mdfKind, verdict, lineBy}
 use Rattle.judge.specs.Judging.{Got, taken, valued, ofKind, known, told, formed, content, line}
 use borrow.Author.Tests.{eq-eqb, ne-eqb, lt-ltb, le-ltb}
 use lib.Seq.{length-take-le}
@@ -12,21 +12,17 @@ use Rattle.mission_judge.proofs.taken_told.Tie as tie
 use Rattle.mission_judge.proofs.taken_told.Reads as reads
 use Rattle.mission_judge.proofs.taken_told.Lts as lts
 
--- src/lib.rt:50:23
 enum-known-o : tie.Need-enum-known-o
 enum-known-o c = search needs
 
--- src/lib.rt:51:32
-enum-told : tie.Need-enum-told
-enum-told c = search needs
+enum-known-o-2 : tie.Need-enum-known-o-2
+enum-known-o-2 c = search needs
 
--- src/lib.rt:46:1
 returns : tie.Need-returns
 returns c = rw (c .before .o .given .1)
 
--- src/lib.rt:46:1
 returns-2 : tie.Need-returns-2
-returns-2 c = rw (c .enum-told .given .1)
+returns-2 c = rw (c .before .o2 .given .1)
 
 pub taken-told-spec : {M : Type 1} → statement M
-taken-told-spec = tie.close (tie.spec enum-known-o enum-told returns returns-2)
+taken-told-spec = tie.close (tie.spec enum-known-o enum-known-o-2 returns returns-2)

@@ -1,4 +1,4 @@
-use Rattle.mission_judge.specs.MdfLine.{mdfKind, next-from, mdf-judging, verdict, lineOf}
+use Rattle.mission_judge.specs.MdfLine.{mdfKind, verdict, lineBy}
 use Rattle.judge.specs.Judging.{Got, taken, valued, ofKind, known, told, formed, content, line}
 use borrow.Author.Tests.{eq-eqb, ne-eqb, lt-ltb, le-ltb}
 use lib.Seq.{length-take-le}
@@ -14,27 +14,21 @@ use Rattle.mission_judge.proofs.values_told.Lts as lts
 use Rattle.mission_judge.proofs.taken_told.Reads as taken-told-reads
 use Rattle.mission_place.proofs.MissionPlace.step.Reads as step-reads
 
--- src/lib.rt:59:18
 enum-known-m : tie.Need-enum-known-m
 enum-known-m c = search needs
 
--- src/lib.rt:60:9
 enum-told : tie.Need-enum-told
 enum-told c = search needs
 
--- src/lib.rt:60:9
 returns : tie.Need-returns
 returns c = search needs
 
--- src/lib.rt:62:19
 step-requires : tie.Need-step-requires
 step-requires c κs = search needs
 
--- src/lib.rt:62:5
 taken-told-requires : tie.Need-taken-told-requires
 taken-told-requires c κs = search needs
 
--- src/lib.rt:56:1
 returns-2 : tie.Need-returns-2
 returns-2 c = rw (c .before .before .before .m .given .1, ← (c .before .step .ensures)) (c .taken-told .ensures)
 
