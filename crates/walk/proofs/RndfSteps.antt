@@ -1,17 +1,19 @@
 -- One line of an RNDF in a walk, as the program tells it. Assumes nothing.
 use mathlib.Core.Path.{_≡_, refl, sym, ap, _∙_}
+use mathlib.Core.List.{List}
 use Prim.Native.Nat.{ℕ, _+_, _-_, _<_}
 use lib.ListN.{length, take, drop}
 use Rattle.terms.specs.Ascii.{Bytes}
 use Rattle.scan.specs.Reach.{reach, stopsBy}
 use Rattle.scan.specs.declared.Until.the-variants.{Byte}
+use Rattle.grammar.specs.PlaceTable.{rndf-table}
 use Rattle.statement.specs.declared.Statement.{Statement}
 use Rattle.place.specs.declared.Place.{Place}
 use Rattle.place.specs.Step.{overOf}
 use Rattle.judge.specs.declared.Verdict as DV
 use Rattle.judge.specs.declared.Verdict.the-variants as Verdict
 use Rattle.judge.specs.Judging.{Got, bad, blank, said, line}
-use Rattle.judge.specs.RndfLine.{rndf-judging, verdict, lineOf}
+use Rattle.judge.specs.RndfLine.{rndf-judging, verdict, lineBy}
 use Rattle.walk.specs.Standing.{Where, place}
 use Rattle.walk.specs.Walking.{Found, fault, onward}
 use Rattle.walk.proofs.Cutting.{from-on, one-line}
@@ -31,10 +33,11 @@ module _ {G : Type 0} (put : Where → Statement → G → G) where
   abbrev pub rest : Bytes → Place → G → ℕ → ℕ → Found G
   rest = from-on rndf-judging put overOf
 
-  pub a-line : (s : Bytes) (from e : ℕ) → from < length s → e ≡ reach (stopsBy (Byte 10)) s from → (p : Place) (c : G) (i : ℕ) (v : DV.Verdict) → v ≡ lineOf (take (e - from) (drop from s)) from p
+  -- judged with the right table
+  pub a-line : (table : List (List ℕ)) → table ≡ rndf-table → (s : Bytes) (from e : ℕ) → from < length s → e ≡ reach (stopsBy (Byte 10)) s from → (p : Place) (c : G) (i : ℕ) (v : DV.Verdict) → v ≡ lineBy table (take (e - from) (drop from s)) from p
       → rest s p c from i ≡ after (place from i) p c (λ q d. rest s q d (e + 1) (i + 1)) v
-  unfolding lineOf
-  a-line s from e h q p c i v w =
+  unfolding lineBy
+  a-line table t s from e h q p c i v w =
       one-line rndf-judging put overOf s from e h q p c i
       ∙ onward-is (place from i) p c (λ q d. rest s q d (e + 1) (i + 1)) (line rndf-judging (take (e - from) (drop from s)) from p)
-      ∙ ap (after (place from i) p c (λ q d. rest s q d (e + 1) (i + 1))) (sym w)
+      ∙ ap (after (place from i) p c (λ q d. rest s q d (e + 1) (i + 1))) (ap (λ (t : List (List ℕ)). lineBy t (take (e - from) (drop from s)) from p) (sym t) ∙ sym w)

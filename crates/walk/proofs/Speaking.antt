@@ -49,7 +49,7 @@ module _ {L : Lang} (A : Machine L) (X : Lexis L) where
 
   taken-speaks : (t : S L) (o : Out (Place A)) → Speaks (taken A X t o)
   taken-speaks t (next q) = good-speaks t q
-  taken-speaks t (refuse c) = fault-speaks 9
+  taken-speaks t (refuse c) = fault-speaks c
 
   valued-speaks : (p : Place A) (k : Kind) (o : Option (Vals (X .sorts k))) → Speaks (valued A X p k o)
   valued-speaks p k none = fault-speaks 8
