@@ -9,6 +9,8 @@ use mission_judge::MissionVerdict;
 use mission_judge::mission_judge_line;
 use mission_place::MissionPlace;
 use place::Place;
+use place_table::mdf_table;
+use place_table::rndf_table;
 use refusal::LONGEST_TEXT;
 use scan::far_byte_from;
 use walk::Seen;
@@ -23,13 +25,14 @@ pub fn rndf_line(text: &[u8], kind: u8, row: u32) -> u32
     if LONGEST_TEXT < text.len() {
         return 0;
     }
+    let table = rndf_table();
     let mut place = Place::start();
     let mut seen = Seen::none();
     let mut from: usize = 0;
     let mut line: u32 = 1;
     while from < text.len() {
         let e = far_byte_from(text, from, 10);
-        let v = judge_line(&text[from..e], from, place);
+        let v = judge_line(&table, &text[from..e], from, place);
         match v {
             Verdict::Blank => {}
             Verdict::Said(s, q) => {
@@ -53,13 +56,14 @@ pub fn mdf_line(text: &[u8], kind: u8, row: u32) -> u32
     if LONGEST_TEXT < text.len() {
         return 0;
     }
+    let table = mdf_table();
     let mut place = MissionPlace::start();
     let mut seen = Seen::none();
     let mut from: usize = 0;
     let mut line: u32 = 1;
     while from < text.len() {
         let e = far_byte_from(text, from, 10);
-        let v = mission_judge_line(&text[from..e], from, place);
+        let v = mission_judge_line(&table, &text[from..e], from, place);
         match v {
             MissionVerdict::Blank => {}
             MissionVerdict::Said(s, q) => {

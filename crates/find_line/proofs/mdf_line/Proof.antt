@@ -31,14 +31,17 @@ use Rattle.walk.proofs.Seen.more.Reads as more-reads
 use Rattle.walk.proofs.Seen.none.Reads as none-reads
 
 abbrev Inv-loop : tie.InvT-loop
-Inv-loop text kind row place₀ seen₀ from₀ line₀ place seen from line = (from ≤ length text + 1) × (line ≤ from + 1) × (seen .count ≤ line) × (line-seen (rest (see orderOf kind row) text place seen from line) ≡ mdfLineIn text kind row) × (length text ≤ most)
+Inv-loop text kind row table place₀ seen₀ from₀ line₀ place seen from line = (from ≤ length text + 1) × (line ≤ from + 1) × (seen .count ≤ line) × (line-seen (rest (see orderOf kind row) text place seen from line) ≡ mdfLineIn text kind row) × (length text ≤ most)
 
 abbrev μ-loop : tie.MeasureT-loop
-μ-loop text kind row place₀ seen₀ from₀ line₀ place seen from line = length text + 1 - from
+μ-loop text kind row table place₀ seen₀ from₀ line₀ place seen from line = length text + 1 - from
 
 returns : tie.Need-returns Inv-loop μ-loop
 unfolding mdfLineIn
 returns c = sym (too-long (c .before .before .args .text .now) _ _ (c .if1 .taken))
+
+mdf-table-requires : tie.Need-mdf-table-requires Inv-loop μ-loop
+mdf-table-requires c κs = search needs
 
 start-requires : tie.Need-start-requires Inv-loop μ-loop
 start-requires c κs = search needs
@@ -48,7 +51,7 @@ none-requires c κs = search needs
 
 loop-holds : tie.Need-loop-holds Inv-loop μ-loop
 unfolding mdfLineOf mdfLineIn
-loop-holds c = (omega arith, omega arith, rw (c .none .ensures) (omega arith), rw (c .none .ensures, c .before .start .ensures) (sym (not-too-long (c .before .before .before .before .args .text .now) _ _ (omega arith))), omega arith)
+loop-holds c = (omega arith, omega arith, rw (c .none .ensures) (omega arith), rw (c .none .ensures, c .before .start .ensures) (sym (not-too-long (c .before .before .before .before .before .args .text .now) _ _ (omega arith))), omega arith)
 
 far-byte-from-requires : tie.Need-far-byte-from-requires Inv-loop μ-loop
 far-byte-from-requires c κs = search needs
@@ -60,10 +63,10 @@ part-mission-judge-line-start : tie.Need-part-mission-judge-line-start Inv-loop 
 part-mission-judge-line-start c = search needs
 
 part-mission-judge-line-end : tie.Need-part-mission-judge-line-end Inv-loop μ-loop
-part-mission-judge-line-end c = let s = c .before .before .before .before .before .before .before .args .text .now in let l = c .before .before .loop .from in omega (arith, c .far-byte-from .ensures, reach-le (stopsBy (Byte 10)) s l (omega arith))
+part-mission-judge-line-end c = let s = c .before .before .before .before .before .before .before .before .before .args .text .now in let l = c .before .before .before .loop .from in omega (arith, c .before .far-byte-from .ensures, reach-le (stopsBy (Byte 10)) s l (omega arith))
 
 mission-judge-line-requires : tie.Need-mission-judge-line-requires Inv-loop μ-loop
-mission-judge-line-requires c κs = let s = c .before .before .before .before .before .before .before .before .args .text .now in let l = c .before .before .before .loop .from in let e = c .before .far-byte-from .result in let h : e ≤ length s = omega (arith, c .before .far-byte-from .ensures, reach-le (stopsBy (Byte 10)) s l (omega arith)) in omega (arith, length-take-le (e - l) (drop l s) (omega (arith, length-drop l s)))
+mission-judge-line-requires c κs = let s = c .before .before .before .before .before .before .before .before .before .before .args .text .now in let l = c .before .before .before .before .loop .from in let e = c .before .before .far-byte-from .result in let h : e ≤ length s = omega (arith, c .before .before .far-byte-from .ensures, reach-le (stopsBy (Byte 10)) s l (omega arith)) in omega (arith, length-take-le (e - l) (drop l s) (omega (arith, length-drop l s)))
 
 enum-told : tie.Need-enum-told Inv-loop μ-loop
 enum-told c = search needs
@@ -81,10 +84,10 @@ enum-told-2 : tie.Need-enum-told-2 Inv-loop μ-loop
 enum-told-2 c = search needs
 
 returns-2 : tie.Need-returns-2 Inv-loop μ-loop
-returns-2 c = let A = c .before .before .before .before .before .before .before .before .before .before .before .args in let s = A .text .now in let l = c .before .before .before .before .before .before .loop in sym (ap line-seen (rw (c .enum-told2 .given .1) at (a-line (see orderOf (A .kind) (A .row)) s (l .from) (c .before .before .before .before .far-byte-from .result) (omega arith) (c .before .before .before .before .far-byte-from .ensures) (l .place) (l .seen) (l .line) (c .before .before .mission-judge-line .result) (c .before .before .mission-judge-line .ensures)))) ∙ l .inv .3
+returns-2 c = let A = c .before .before .before .before .before .before .before .before .before .before .before .before .before .args in let s = A .text .now in let l = c .before .before .before .before .before .before .before .loop in sym (ap line-seen (rw (c .enum-told2 .given .1) at (a-line (see orderOf (A .kind) (A .row)) (c .before .before .before .before .before .before .before .before .before .before .mdf-table .result) (c .before .before .before .before .before .before .before .before .before .before .mdf-table .ensures) s (l .from) (c .before .before .before .before .before .far-byte-from .result) (omega arith) (c .before .before .before .before .before .far-byte-from .ensures) (l .place) (l .seen) (l .line) (c .before .before .mission-judge-line .result) (c .before .before .mission-judge-line .ensures)))) ∙ l .inv .3
 
 add-from : tie.Need-add-from Inv-loop μ-loop
-add-from c = let s = c .before .before .before .before .before .before .before .before .before .before .args .text .now in let l = c .before .before .before .before .before .loop .from in omega (arith, c .before .before .before .far-byte-from .ensures, reach-le (stopsBy (Byte 10)) s l (omega arith))
+add-from c = let s = c .before .before .before .before .before .before .before .before .before .before .before .before .args .text .now in let l = c .before .before .before .before .before .before .loop .from in omega (arith, c .before .before .before .before .far-byte-from .ensures, reach-le (stopsBy (Byte 10)) s l (omega arith))
 
 add-line : tie.Need-add-line Inv-loop μ-loop
 add-line c = search needs
@@ -93,16 +96,16 @@ loop-less : tie.Need-loop-less Inv-loop μ-loop
 loop-less c = search needs
 
 loop-again : tie.Need-loop-again Inv-loop μ-loop
-loop-again c = let A = c .before .before .before .before .before .before .before .before .before .before .args in let s = A .text .now in let l = c .before .before .before .before .before .loop in let k = reach-le (stopsBy (Byte 10)) s (l .from) (omega arith) in let e = c .before .before .before .far-byte-from .ensures in let o = a-line (see orderOf (A .kind) (A .row)) s (l .from) (c .before .before .before .far-byte-from .result) (omega arith) (c .before .before .before .far-byte-from .ensures) (l .place) (l .seen) (l .line) (c .before .mission-judge-line .result) (c .before .mission-judge-line .ensures) in ⊎-elim (λ w. (omega arith, omega arith, rw (w .3) (omega (arith, l .inv .2)), rw (w .2, w .3) (sym (ap line-seen (rw (w .1 .given .1) at o)) ∙ l .inv .3), l .inv .4)) (λ w. (omega arith, omega arith, grows _ _ _ _ _ (l .line) (w .6 ∙ w .4 .ensures) (l .inv .2), rw (w .5, w .6, w .4 .ensures, w .3 .ensures .0) (sym (ap line-seen (rw (w .1 .given .1) at o)) ∙ l .inv .3), l .inv .4)) (c .match .came)
+loop-again c = let A = c .before .before .before .before .before .before .before .before .before .before .before .before .args in let s = A .text .now in let l = c .before .before .before .before .before .before .loop in let k = reach-le (stopsBy (Byte 10)) s (l .from) (omega arith) in let e = c .before .before .before .before .far-byte-from .ensures in let o = a-line (see orderOf (A .kind) (A .row)) (c .before .before .before .before .before .before .before .before .before .mdf-table .result) (c .before .before .before .before .before .before .before .before .before .mdf-table .ensures) s (l .from) (c .before .before .before .before .far-byte-from .result) (omega arith) (c .before .before .before .before .far-byte-from .ensures) (l .place) (l .seen) (l .line) (c .before .mission-judge-line .result) (c .before .mission-judge-line .ensures) in ⊎-elim (λ w. (omega arith, omega arith, rw (w .3) (omega (arith, l .inv .2)), rw (w .2, w .3) (sym (ap line-seen (rw (w .1 .given .1) at o)) ∙ l .inv .3), l .inv .4)) (λ w. (omega arith, omega arith, grows _ _ _ _ _ (l .line) (w .6 ∙ w .4 .ensures) (l .inv .2), rw (w .5, w .6, w .4 .ensures, w .3 .ensures .0) (sym (ap line-seen (rw (w .1 .given .1) at o)) ∙ l .inv .3), l .inv .4)) (c .match .came)
 
 is-over-requires : tie.Need-is-over-requires Inv-loop μ-loop
 is-over-requires c κs = search needs
 
 returns-3 : tie.Need-returns-3 Inv-loop μ-loop
-returns-3 c = let A = c .before .before .before .before .before .before .before .before .args in let s = A .text .now in let l = c .before .before .before .loop in sym (ap line-seen (rw (← (c .before .is-over .ensures), c .if2 .taken) at (at-end mdf-judging (see orderOf (A .kind) (A .row)) overOf s (l .from) (omega arith) (l .place) (l .seen) (l .line)))) ∙ l .inv .3
+returns-3 c = let A = c .before .before .before .before .before .before .before .before .before .args in let s = A .text .now in let l = c .before .before .before .loop in sym (ap line-seen (rw (← (c .before .is-over .ensures), c .if2 .taken) at (at-end mdf-judging (see orderOf (A .kind) (A .row)) overOf s (l .from) (omega arith) (l .place) (l .seen) (l .line)))) ∙ l .inv .3
 
 returns-4 : tie.Need-returns-4 Inv-loop μ-loop
-returns-4 c = let A = c .before .before .before .before .before .before .before .before .args in let s = A .text .now in let l = c .before .before .before .loop in sym (ap line-seen (rw (← (c .before .is-over .ensures), c .if2 .left) at (at-end mdf-judging (see orderOf (A .kind) (A .row)) overOf s (l .from) (omega arith) (l .place) (l .seen) (l .line)))) ∙ l .inv .3
+returns-4 c = let A = c .before .before .before .before .before .before .before .before .before .args in let s = A .text .now in let l = c .before .before .before .loop in sym (ap line-seen (rw (← (c .before .is-over .ensures), c .if2 .left) at (at-end mdf-judging (see orderOf (A .kind) (A .row)) overOf s (l .from) (omega arith) (l .place) (l .seen) (l .line)))) ∙ l .inv .3
 
 pub mdf-line-spec : {M : Type 1} → statement M
 mdf-line-spec =
@@ -111,6 +114,7 @@ mdf-line-spec =
     Inv-loop
     μ-loop
     returns
+    mdf-table-requires
     start-requires
     none-requires
     loop-holds
