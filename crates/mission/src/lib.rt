@@ -11,6 +11,7 @@ use mission_place::MissionPlace;
 use mission_progress::MissionProgress;
 use mission_progress::MissionRow;
 use mission_progress::mission_row;
+use place_table::mdf_table;
 use refusal::Fault;
 use refusal::LONGEST_TEXT;
 use rows::store_goal;
@@ -44,13 +45,14 @@ pub fn fill_orders(text: &[u8], goals: &mut [u32], limits: &mut [u32]) -> Missio
     if LONGEST_TEXT < text.len() {
         return MissionFilled::Fault(Fault { line: 0, number: 1 });
     }
+    let table = mdf_table();
     let mut place = MissionPlace::start();
     let mut gained = MissionProgress::none();
     let mut from: usize = 0;
     let mut line: u32 = 1;
     while from < text.len() {
         let e = far_byte_from(text, from, 10);
-        let v = mission_judge_line(&text[from..e], from, place);
+        let v = mission_judge_line(&table, &text[from..e], from, place);
         match v {
             MissionVerdict::Blank => {}
             MissionVerdict::Said(s, q) => {

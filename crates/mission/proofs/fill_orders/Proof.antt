@@ -23,7 +23,7 @@ use Rattle.mission.proofs.fill_orders.Statement.{statement}
 use Rattle.mission.proofs.fill_orders.Tie as tie
 
 abbrev Inv-loop : tie.InvT-loop
-Inv-loop text goals₀ limits₀ place₀ gained₀ from₀ line₀ goals limits place gained from line =
+Inv-loop text goals₀ limits₀ table place₀ gained₀ from₀ line₀ goals limits place gained from line =
     (from ≤ length text + 1)
     × (line ≤ from + 1)
     × (total gained ≤ line)
@@ -33,11 +33,14 @@ Inv-loop text goals₀ limits₀ place₀ gained₀ from₀ line₀ goals limits
     × (length text ≤ most)
 
 abbrev μ-loop : tie.MeasureT-loop
-μ-loop text goals₀ limits₀ place₀ gained₀ from₀ line₀ goals limits place gained from line = length text + 1 - from
+μ-loop text goals₀ limits₀ table place₀ gained₀ from₀ line₀ goals limits place gained from line = length text + 1 - from
 
 returns : tie.Need-returns Inv-loop μ-loop
 unfolding filledIn
 returns c = sym (too-long (c .before .before .before .before .args .text .now) _ _ (c .if1 .taken))
+
+mdf-table-requires : tie.Need-mdf-table-requires Inv-loop μ-loop
+mdf-table-requires c κs = search needs
 
 start-requires : tie.Need-start-requires Inv-loop μ-loop
 start-requires c κs = search needs
@@ -47,7 +50,7 @@ none-requires c κs = search needs
 
 loop-holds : tie.Need-loop-holds Inv-loop μ-loop
 unfolding filledOf filledIn
-loop-holds c = (omega arith, omega arith, rw (c .none .ensures) (omega arith), rw (c .none .ensures, c .before .start .ensures) (sym (not-too-long (c .before .before .before .before .before .before .args .text .now) _ _ (omega arith))), refl, refl, omega arith)
+loop-holds c = (omega arith, omega arith, rw (c .none .ensures) (omega arith), rw (c .none .ensures, c .before .start .ensures) (sym (not-too-long (c .before .before .before .before .before .before .before .args .text .now) _ _ (omega arith))), refl, refl, omega arith)
 
 far-byte-from-requires : tie.Need-far-byte-from-requires Inv-loop μ-loop
 far-byte-from-requires c κs = search needs
@@ -60,16 +63,16 @@ part-mission-judge-line-start c = search needs
 
 part-mission-judge-line-end : tie.Need-part-mission-judge-line-end Inv-loop μ-loop
 part-mission-judge-line-end c =
-    let s = c .before .before .before .before .before .before .before .before .before .args .text .now in
-    let l = c .before .before .loop .from in
-    omega (arith, c .far-byte-from .ensures, reach-le (stopsBy (Byte 10)) s l (omega arith))
+    let s = c .before .before .before .before .before .before .before .before .before .before .before .args .text .now in
+    let l = c .before .before .before .loop .from in
+    omega (arith, c .before .far-byte-from .ensures, reach-le (stopsBy (Byte 10)) s l (omega arith))
 
 mission-judge-line-requires : tie.Need-mission-judge-line-requires Inv-loop μ-loop
 mission-judge-line-requires c κs =
-    let s = c .before .before .before .before .before .before .before .before .before .before .args .text .now in
-    let l = c .before .before .before .loop .from in
-    let e = c .before .far-byte-from .result in
-    let h : e ≤ length s = omega (arith, c .before .far-byte-from .ensures, reach-le (stopsBy (Byte 10)) s l (omega arith)) in
+    let s = c .before .before .before .before .before .before .before .before .before .before .before .before .args .text .now in
+    let l = c .before .before .before .before .loop .from in
+    let e = c .before .before .far-byte-from .result in
+    let h : e ≤ length s = omega (arith, c .before .before .far-byte-from .ensures, reach-le (stopsBy (Byte 10)) s l (omega arith)) in
     omega (arith, length-take-le (e - l) (drop l s) (omega (arith, length-drop l s)))
 
 enum-told : tie.Need-enum-told Inv-loop μ-loop
@@ -91,25 +94,26 @@ enum-known-v-2 : tie.Need-enum-known-v-2 Inv-loop μ-loop
 enum-known-v-2 c = search needs
 
 same-length : tie.Need-same-length Inv-loop μ-loop
-same-length c = c .before .before .before .before .before .before .before .loop .inv .4
+same-length c = c .before .before .before .before .before .before .before .before .loop .inv .4
 
 same-length-2 : tie.Need-same-length-2 Inv-loop μ-loop
-same-length-2 c = c .before .before .before .before .before .before .before .loop .inv .5
+same-length-2 c = c .before .before .before .before .before .before .before .before .loop .inv .5
 
 returns-2 : tie.Need-returns-2 Inv-loop μ-loop
 returns-2 c =
-    let l = c .before .before .before .before .before .before .before .loop in
-    let s = c .before .before .before .before .before .before .before .before .before .before .before .before .before .before .args .text .now in
-    let scanned = c .before .before .before .before .before .far-byte-from in
+    let l = c .before .before .before .before .before .before .before .before .loop in
+    let made = c .before .before .before .before .before .before .before .before .before .before .before .mdf-table in
+    let s = c .before .before .before .before .before .before .before .before .before .before .before .before .before .before .before .before .args .text .now in
+    let scanned = c .before .before .before .before .before .before .far-byte-from in
     let judged = c .before .before .before .mission-judge-line in
-    let o = a-line put s (l .from) (scanned .result) (omega arith) (scanned .ensures) (l .place) (memory (l .gained) (l .goals) (l .limits)) (l .line) (judged .result) (judged .ensures) in
+    let o = a-line put (made .result) (made .ensures) s (l .from) (scanned .result) (omega arith) (scanned .ensures) (l .place) (memory (l .gained) (l .goals) (l .limits)) (l .line) (judged .result) (judged .ensures) in
     sym (rw (c .before .v2 .given .1) at o) ∙ l .inv .3
 
 add-from : tie.Need-add-from Inv-loop μ-loop
 add-from c =
-    let s = c .before .before .before .before .before .before .before .before .before .before .before .before .args .text .now in
-    let l = c .before .before .before .before .before .loop .from in
-    omega (arith, c .before .before .before .far-byte-from .ensures, reach-le (stopsBy (Byte 10)) s l (omega arith))
+    let s = c .before .before .before .before .before .before .before .before .before .before .before .before .before .before .args .text .now in
+    let l = c .before .before .before .before .before .before .loop .from in
+    omega (arith, c .before .before .before .before .far-byte-from .ensures, reach-le (stopsBy (Byte 10)) s l (omega arith))
 
 add-line : tie.Need-add-line Inv-loop μ-loop
 add-line c = search needs
@@ -119,13 +123,14 @@ loop-less c = search needs
 
 loop-again : tie.Need-loop-again Inv-loop μ-loop
 loop-again c =
-    let l = c .before .before .before .before .before .loop in
-    let s = c .before .before .before .before .before .before .before .before .before .before .before .before .args .text .now in
-    let scanned = c .before .before .before .far-byte-from in
+    let l = c .before .before .before .before .before .before .loop in
+    let made = c .before .before .before .before .before .before .before .before .before .mdf-table in
+    let s = c .before .before .before .before .before .before .before .before .before .before .before .before .before .before .args .text .now in
+    let scanned = c .before .before .before .before .far-byte-from in
     let e = scanned .ensures in
     let k = reach-le (stopsBy (Byte 10)) s (l .from) (omega arith) in
     let judged = c .before .mission-judge-line in
-    let o = a-line put s (l .from) (scanned .result) (omega arith) (scanned .ensures) (l .place) (memory (l .gained) (l .goals) (l .limits)) (l .line) (judged .result) (judged .ensures) in
+    let o = a-line put (made .result) (made .ensures) s (l .from) (scanned .result) (omega arith) (scanned .ensures) (l .place) (memory (l .gained) (l .goals) (l .limits)) (l .line) (judged .result) (judged .ensures) in
     ⊎-elim
     (λ w. (omega arith, omega arith, rw (w .5) (omega (arith, l .inv .2)), rw (w .2, w .3, w .4, w .5) (sym (rw (w .1 .given .1) at o) ∙ l .inv .3), rw (w .2) (l .inv .4), rw (w .3) (l .inv .5), l .inv .6))
     (λ w. (
@@ -153,7 +158,7 @@ same-length-4 c = c .before .before .before .loop .inv .5
 returns-3 : tie.Need-returns-3 Inv-loop μ-loop
 returns-3 c =
     let l = c .before .before .before .loop in
-    let s = c .before .before .before .before .before .before .before .before .before .before .args .text .now in
+    let s = c .before .before .before .before .before .before .before .before .before .before .before .args .text .now in
     sym (rw (← (c .before .is-over .ensures), c .if2 .taken) at (at-end mdf-judging put overOf s (l .from) (omega arith) (l .place) (memory (l .gained) (l .goals) (l .limits)) (l .line))) ∙ l .inv .3
 
 same-length-5 : tie.Need-same-length-5 Inv-loop μ-loop
@@ -165,7 +170,7 @@ same-length-6 c = c .before .before .before .loop .inv .5
 returns-4 : tie.Need-returns-4 Inv-loop μ-loop
 returns-4 c =
     let l = c .before .before .before .loop in
-    let s = c .before .before .before .before .before .before .before .before .before .before .args .text .now in
+    let s = c .before .before .before .before .before .before .before .before .before .before .before .args .text .now in
     sym (rw (← (c .before .is-over .ensures), c .if2 .left) at (at-end mdf-judging put overOf s (l .from) (omega arith) (l .place) (memory (l .gained) (l .goals) (l .limits)) (l .line))) ∙ l .inv .3
 
 pub fill-orders-spec : {M : Type 1} → statement M
@@ -175,6 +180,7 @@ fill-orders-spec =
     Inv-loop
     μ-loop
     returns
+    mdf-table-requires
     start-requires
     none-requires
     loop-holds
