@@ -8,6 +8,7 @@
 use judge::Verdict;
 use judge::judge_line;
 use place::Place;
+use place_table::rndf_table;
 use progress::Progress;
 use progress::Row;
 use refusal::Fault;
@@ -88,13 +89,14 @@ pub fn fill_lines(
     if LONGEST_TEXT < text.len() {
         return Filled::Fault(Fault { line: 0, number: 1 });
     }
+    let table = rndf_table();
     let mut place = Place::start();
     let mut gained = Progress::none();
     let mut from: usize = 0;
     let mut line: u32 = 1;
     while from < text.len() {
         let e = far_byte_from(text, from, 10);
-        let v = judge_line(&text[from..e], from, place);
+        let v = judge_line(&table, &text[from..e], from, place);
         match v {
             Verdict::Blank => {}
             Verdict::Said(s, q) => {

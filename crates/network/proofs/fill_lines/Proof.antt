@@ -33,16 +33,19 @@ use Rattle.progress.proofs.Progress.row.Reads as row-reads
 use Rattle.scan.proofs.far_byte_from.Reads as far-byte-from-reads
 
 abbrev Inv-loop : tie.InvT-loop
-Inv-loop text segments₀ lanes₀ zones₀ spots₀ points₀ checkpoints₀ stops₀ exits₀ place₀ gained₀ from₀ line₀ segments lanes zones spots points checkpoints stops exits place gained from line =
+Inv-loop text segments₀ lanes₀ zones₀ spots₀ points₀ checkpoints₀ stops₀ exits₀ table place₀ gained₀ from₀ line₀ segments lanes zones spots points checkpoints stops exits place gained from line =
     (from ≤ length text + 1) × (line ≤ from + 1) × (total gained ≤ line) × (lengths (memory gained segments lanes zones spots points checkpoints stops exits) ≡ lengths (memory noProgress segments₀ lanes₀ (zones₀) (spots₀) (points₀) (checkpoints₀) (stops₀) (exits₀))) × (rest put text place (memory gained segments lanes zones spots points checkpoints stops exits) from line ≡ filledIn text (memory noProgress segments₀ lanes₀ (zones₀) (spots₀) (points₀) (checkpoints₀) (stops₀) (exits₀))) × (length text ≤ most)
 
 abbrev μ-loop : tie.MeasureT-loop
-μ-loop text segments₀ lanes₀ zones₀ spots₀ points₀ checkpoints₀ stops₀ exits₀ place₀ gained₀ from₀ line₀ segments lanes zones spots points checkpoints stops exits place gained from line =
+μ-loop text segments₀ lanes₀ zones₀ spots₀ points₀ checkpoints₀ stops₀ exits₀ table place₀ gained₀ from₀ line₀ segments lanes zones spots points checkpoints stops exits place gained from line =
     length text + 1 - from
 
 returns : tie.Need-returns Inv-loop μ-loop
 unfolding filledIn
 returns c = sym (too-long (c .before .before .before .before .before .before .before .before .before .args .text .now) _ _ (c .if1 .taken))
+
+rndf-table-requires : tie.Need-rndf-table-requires Inv-loop μ-loop
+rndf-table-requires c κs = search needs
 
 start-requires : tie.Need-start-requires Inv-loop μ-loop
 start-requires c κs = search needs
@@ -52,7 +55,7 @@ none-requires c κs = search needs
 
 loop-holds : tie.Need-loop-holds Inv-loop μ-loop
 unfolding filledOf filledIn
-loop-holds c = (omega arith, omega arith, rw (c .none .ensures) (omega arith), refl, rw (c .none .ensures, c .before .start .ensures) (sym (not-too-long (c .before .before .before .before .before .before .before .before .before .before .before .args .text .now) _ _ (omega arith))), omega arith)
+loop-holds c = (omega arith, omega arith, rw (c .none .ensures) (omega arith), refl, rw (c .none .ensures, c .before .start .ensures) (sym (not-too-long (c .before .before .before .before .before .before .before .before .before .before .before .before .args .text .now) _ _ (omega arith))), omega arith)
 
 far-byte-from-requires : tie.Need-far-byte-from-requires Inv-loop μ-loop
 far-byte-from-requires c κs = search needs
@@ -64,10 +67,10 @@ part-judge-line-start : tie.Need-part-judge-line-start Inv-loop μ-loop
 part-judge-line-start c = search needs
 
 part-judge-line-end : tie.Need-part-judge-line-end Inv-loop μ-loop
-part-judge-line-end c = let A = c .before .before .before .before .before .before .before .before .before .before .before .before .before .before .args in let s = A .text .now in let l = c .before .before .loop in let pre = l .inv .5 in omega (arith, c .far-byte-from .ensures, reach-le (stopsBy (Byte 10)) s (l .from) (omega arith))
+part-judge-line-end c = let A = c .before .before .before .before .before .before .before .before .before .before .before .before .before .before .before .before .args in let s = A .text .now in let l = c .before .before .before .loop in let pre = l .inv .5 in omega (arith, c .before .far-byte-from .ensures, reach-le (stopsBy (Byte 10)) s (l .from) (omega arith))
 
 judge-line-requires : tie.Need-judge-line-requires Inv-loop μ-loop
-judge-line-requires c κs = let A = c .before .before .before .before .before .before .before .before .before .before .before .before .before .before .before .args in let s = A .text .now in let l = c .before .before .before .loop in let pre = l .inv .5 in let e = c .before .far-byte-from .result in let h : e ≤ length s = omega (arith, c .before .far-byte-from .ensures, reach-le (stopsBy (Byte 10)) s (l .from) (omega arith)) in omega (arith, length-take-le (e - l .from) (drop (l .from) s) (omega (arith, length-drop (l .from) s)))
+judge-line-requires c κs = let A = c .before .before .before .before .before .before .before .before .before .before .before .before .before .before .before .before .before .args in let s = A .text .now in let l = c .before .before .before .before .loop in let pre = l .inv .5 in let e = c .before .before .far-byte-from .result in let h : e ≤ length s = omega (arith, c .before .before .far-byte-from .ensures, reach-le (stopsBy (Byte 10)) s (l .from) (omega arith)) in omega (arith, length-take-le (e - l .from) (drop (l .from) s) (omega (arith, length-drop (l .from) s)))
 
 enum-told : tie.Need-enum-told Inv-loop μ-loop
 enum-told c = search needs
@@ -76,7 +79,7 @@ enum-known-v : tie.Need-enum-known-v Inv-loop μ-loop
 enum-known-v c = search needs
 
 cast-row : tie.Need-cast-row Inv-loop μ-loop
-cast-row c = let A = c .before .before .before .before .before .before .before .before .before .before .before .before .before .before .before .before .before .before .before .before .before .before .before .before .before .before .before .args in let s = A .text .now in let l = c .before .before .before .before .before .before .before .before .before .before .before .before .before .before .before .loop in let pre = l .inv .5 in record { fits = omega (arith, pre, l .inv .0) }
+cast-row c = let A = c .before .before .before .before .before .before .before .before .before .before .before .before .before .before .before .before .before .before .before .before .before .before .before .before .before .before .before .before .before .args in let s = A .text .now in let l = c .before .before .before .before .before .before .before .before .before .before .before .before .before .before .before .before .loop in let pre = l .inv .5 in record { fits = omega (arith, pre, l .inv .0) }
 
 row-requires : tie.Need-row-requires Inv-loop μ-loop
 row-requires c κs = search needs
@@ -85,55 +88,55 @@ store-requires : tie.Need-store-requires Inv-loop μ-loop
 store-requires c κs = search needs
 
 after-requires : tie.Need-after-requires Inv-loop μ-loop
-after-requires c κs = let A = c .before .before .before .before .before .before .before .before .before .before .before .before .before .before .before .before .before .before .before .before .before .before .before .before .before .before .before .before .before .before .before .before .before .before .before .before .before .before .before .before .before .before .before .before .args in let s = A .text .now in let l = c .before .before .before .before .before .before .before .before .before .before .before .before .before .before .before .before .before .before .before .before .before .before .before .before .before .before .before .before .before .before .before .before .loop in let pre = l .inv .5 in omega (arith, pre, l .inv .0, l .inv .1, l .inv .2)
+after-requires c κs = let A = c .before .before .before .before .before .before .before .before .before .before .before .before .before .before .before .before .before .before .before .before .before .before .before .before .before .before .before .before .before .before .before .before .before .before .before .before .before .before .before .before .before .before .before .before .before .before .args in let s = A .text .now in let l = c .before .before .before .before .before .before .before .before .before .before .before .before .before .before .before .before .before .before .before .before .before .before .before .before .before .before .before .before .before .before .before .before .before .loop in let pre = l .inv .5 in omega (arith, pre, l .inv .0, l .inv .1, l .inv .2)
 
 enum-known-v-2 : tie.Need-enum-known-v-2 Inv-loop μ-loop
 enum-known-v-2 c = search needs
 
 same-length : tie.Need-same-length Inv-loop μ-loop
-same-length c = ap (λ (x : Lengths). x .segments) (c .before .before .before .before .before .before .before .loop .inv .3)
+same-length c = ap (λ (x : Lengths). x .segments) (c .before .before .before .before .before .before .before .before .loop .inv .3)
 
 same-length-2 : tie.Need-same-length-2 Inv-loop μ-loop
-same-length-2 c = ap (λ (x : Lengths). x .lanes) (c .before .before .before .before .before .before .before .loop .inv .3)
+same-length-2 c = ap (λ (x : Lengths). x .lanes) (c .before .before .before .before .before .before .before .before .loop .inv .3)
 
 same-length-3 : tie.Need-same-length-3 Inv-loop μ-loop
-same-length-3 c = ap (λ (x : Lengths). x .zones) (c .before .before .before .before .before .before .before .loop .inv .3)
+same-length-3 c = ap (λ (x : Lengths). x .zones) (c .before .before .before .before .before .before .before .before .loop .inv .3)
 
 same-length-4 : tie.Need-same-length-4 Inv-loop μ-loop
-same-length-4 c = ap (λ (x : Lengths). x .spots) (c .before .before .before .before .before .before .before .loop .inv .3)
+same-length-4 c = ap (λ (x : Lengths). x .spots) (c .before .before .before .before .before .before .before .before .loop .inv .3)
 
 same-length-5 : tie.Need-same-length-5 Inv-loop μ-loop
-same-length-5 c = ap (λ (x : Lengths). x .points) (c .before .before .before .before .before .before .before .loop .inv .3)
+same-length-5 c = ap (λ (x : Lengths). x .points) (c .before .before .before .before .before .before .before .before .loop .inv .3)
 
 same-length-6 : tie.Need-same-length-6 Inv-loop μ-loop
-same-length-6 c = ap (λ (x : Lengths). x .checkpoints) (c .before .before .before .before .before .before .before .loop .inv .3)
+same-length-6 c = ap (λ (x : Lengths). x .checkpoints) (c .before .before .before .before .before .before .before .before .loop .inv .3)
 
 same-length-7 : tie.Need-same-length-7 Inv-loop μ-loop
-same-length-7 c = ap (λ (x : Lengths). x .stops) (c .before .before .before .before .before .before .before .loop .inv .3)
+same-length-7 c = ap (λ (x : Lengths). x .stops) (c .before .before .before .before .before .before .before .before .loop .inv .3)
 
 same-length-8 : tie.Need-same-length-8 Inv-loop μ-loop
-same-length-8 c = ap (λ (x : Lengths). x .exits) (c .before .before .before .before .before .before .before .loop .inv .3)
+same-length-8 c = ap (λ (x : Lengths). x .exits) (c .before .before .before .before .before .before .before .before .loop .inv .3)
 
 returns-2 : tie.Need-returns-2 Inv-loop μ-loop
-returns-2 c = let A = c .before .before .before .before .before .before .before .before .before .before .before .before .before .before .before .before .before .before .before .args in let s = A .text .now in let l = c .before .before .before .before .before .before .before .loop in let pre = l .inv .5 in sym (rw (c .before .v2 .given .1) at (a-line put s (l .from) (c .before .before .before .before .before .far-byte-from .result) (omega arith) (c .before .before .before .before .before .far-byte-from .ensures) (l .place) (memory (l .gained) (l .segments) (l .lanes) (l .zones) (l .spots) (l .points) (l .checkpoints) (l .stops) (l .exits)) (l .line) (c .before .before .before .judge-line .result) (c .before .before .before .judge-line .ensures))) ∙ l .inv .4
+returns-2 c = let A = c .before .before .before .before .before .before .before .before .before .before .before .before .before .before .before .before .before .before .before .before .before .args in let s = A .text .now in let l = c .before .before .before .before .before .before .before .before .loop in let pre = l .inv .5 in sym (rw (c .before .v2 .given .1) at (a-line put (c .before .before .before .before .before .before .before .before .before .before .before .rndf-table .result) (c .before .before .before .before .before .before .before .before .before .before .before .rndf-table .ensures) s (l .from) (c .before .before .before .before .before .before .far-byte-from .result) (omega arith) (c .before .before .before .before .before .before .far-byte-from .ensures) (l .place) (memory (l .gained) (l .segments) (l .lanes) (l .zones) (l .spots) (l .points) (l .checkpoints) (l .stops) (l .exits)) (l .line) (c .before .before .before .judge-line .result) (c .before .before .before .judge-line .ensures))) ∙ l .inv .4
 
 add-from : tie.Need-add-from Inv-loop μ-loop
-add-from c = let A = c .before .before .before .before .before .before .before .before .before .before .before .before .before .before .before .before .before .args in let s = A .text .now in let l = c .before .before .before .before .before .loop in let pre = l .inv .5 in omega (arith, c .before .before .before .far-byte-from .ensures, reach-le (stopsBy (Byte 10)) s (l .from) (omega arith))
+add-from c = let A = c .before .before .before .before .before .before .before .before .before .before .before .before .before .before .before .before .before .before .before .args in let s = A .text .now in let l = c .before .before .before .before .before .before .loop in let pre = l .inv .5 in omega (arith, c .before .before .before .before .far-byte-from .ensures, reach-le (stopsBy (Byte 10)) s (l .from) (omega arith))
 
 add-line : tie.Need-add-line Inv-loop μ-loop
-add-line c = let A = c .before .before .before .before .before .before .before .before .before .before .before .before .before .before .before .before .before .args in let s = A .text .now in let l = c .before .before .before .before .before .loop in let pre = l .inv .5 in record { fits = omega (arith, pre, l .inv .0, l .inv .1) }
+add-line c = let A = c .before .before .before .before .before .before .before .before .before .before .before .before .before .before .before .before .before .before .before .args in let s = A .text .now in let l = c .before .before .before .before .before .before .loop in let pre = l .inv .5 in record { fits = omega (arith, pre, l .inv .0, l .inv .1) }
 
 loop-less : tie.Need-loop-less Inv-loop μ-loop
 loop-less c = search needs
 
 loop-again : tie.Need-loop-again Inv-loop μ-loop
-loop-again c = let A = c .before .before .before .before .before .before .before .before .before .before .before .before .before .before .before .before .before .args in let s = A .text .now in let l = c .before .before .before .before .before .loop in let pre = l .inv .5 in let k = reach-le (stopsBy (Byte 10)) s (l .from) (omega arith) in let e = c .before .before .before .far-byte-from .ensures in let o = a-line put s (l .from) (c .before .before .before .far-byte-from .result) (omega arith) (c .before .before .before .far-byte-from .ensures) (l .place) (memory (l .gained) (l .segments) (l .lanes) (l .zones) (l .spots) (l .points) (l .checkpoints) (l .stops) (l .exits)) (l .line) (c .before .judge-line .result) (c .before .judge-line .ensures) in ⊎-elim
+loop-again c = let A = c .before .before .before .before .before .before .before .before .before .before .before .before .before .before .before .before .before .before .before .args in let s = A .text .now in let l = c .before .before .before .before .before .before .loop in let pre = l .inv .5 in let k = reach-le (stopsBy (Byte 10)) s (l .from) (omega arith) in let e = c .before .before .before .before .far-byte-from .ensures in let o = a-line put (c .before .before .before .before .before .before .before .before .before .rndf-table .result) (c .before .before .before .before .before .before .before .before .before .rndf-table .ensures) s (l .from) (c .before .before .before .before .far-byte-from .result) (omega arith) (c .before .before .before .before .far-byte-from .ensures) (l .place) (memory (l .gained) (l .segments) (l .lanes) (l .zones) (l .spots) (l .points) (l .checkpoints) (l .stops) (l .exits)) (l .line) (c .before .judge-line .result) (c .before .judge-line .ensures) in ⊎-elim
     (λ w. let same : (memory (c .match .gained) (c .match .segments) (c .match .lanes) (c .match .zones) (c .match .spots) (c .match .points) (c .match .checkpoints) (c .match .stops) (c .match .exits)) ≡ (memory (l .gained) (l .segments) (l .lanes) (l .zones) (l .spots) (l .points) (l .checkpoints) (l .stops) (l .exits)) = λ i. memory (w .11 i) (w .2 i) (w .3 i) (w .4 i) (w .5 i) (w .6 i) (w .7 i) (w .8 i) (w .9 i) in (
       omega arith,
       omega arith,
       rw (w .11) (omega (arith, l .inv .2)),
       ap lengths same ∙ l .inv .3,
-      ap₂ (λ (q : Place) (m : Memory). rest put s q m (c .before .before .before .far-byte-from .result + 1) (l .line + 1)) (w .10) same ∙ sym (rw (w .1 .given .1) at o) ∙ l .inv .4,
+      ap₂ (λ (q : Place) (m : Memory). rest put s q m (c .before .before .before .before .far-byte-from .result + 1) (l .line + 1)) (w .10) same ∙ sym (rw (w .1 .given .1) at o) ∙ l .inv .4,
       l .inv .5,
     ))
     (λ w. let same : (memory (c .match .gained) (c .match .segments) (c .match .lanes) (c .match .zones) (c .match .spots) (c .match .points) (c .match .checkpoints) (c .match .stops) (c .match .exits)) ≡ put (place (l .from) (l .line)) (w .1 .given .0 .0) (memory (l .gained) (l .segments) (l .lanes) (l .zones) (l .spots) (l .points) (l .checkpoints) (l .stops) (l .exits)) = (λ i. memory (w .38 i) (w .29 i) (w .30 i) (w .31 i) (w .32 i) (w .33 i) (w .34 i) (w .35 i) (w .36 i)) ∙ stepped (w .1 .given .0 .0) (w .11 .result) (l .from) (l .line) (w .28 .result) (memory (l .gained) (l .segments) (l .lanes) (l .zones) (l .spots) (l .points) (l .checkpoints) (l .stops) (l .exits)) _ (w .12 .ensures) (w .11 .ensures) (w .28 .ensures) in (
@@ -141,7 +144,7 @@ loop-again c = let A = c .before .before .before .before .before .before .before
       omega arith,
       grown _ _ _ (l .line) (w .38 ∙ w .28 .ensures) (l .inv .2),
       ap lengths same ∙ put-long _ _ _ ∙ l .inv .3,
-      ap₂ (λ (q : Place) (m : Memory). rest put s q m (c .before .before .before .far-byte-from .result + 1) (l .line + 1)) (w .37) same ∙ sym (rw (w .1 .given .1) at o) ∙ l .inv .4,
+      ap₂ (λ (q : Place) (m : Memory). rest put s q m (c .before .before .before .before .far-byte-from .result + 1) (l .line + 1)) (w .37) same ∙ sym (rw (w .1 .given .1) at o) ∙ l .inv .4,
       l .inv .5,
     ))
     (c .match .came)
@@ -174,7 +177,7 @@ same-length-16 : tie.Need-same-length-16 Inv-loop μ-loop
 same-length-16 c = ap (λ (x : Lengths). x .exits) (c .before .before .before .loop .inv .3)
 
 returns-3 : tie.Need-returns-3 Inv-loop μ-loop
-returns-3 c = let A = c .before .before .before .before .before .before .before .before .before .before .before .before .before .before .before .args in let s = A .text .now in let l = c .before .before .before .loop in let pre = l .inv .5 in sym (rw (← (c .before .is-over .ensures), c .if2 .taken) at (at-end rndf-judging put overOf s (l .from) (omega arith) (l .place) (memory (l .gained) (l .segments) (l .lanes) (l .zones) (l .spots) (l .points) (l .checkpoints) (l .stops) (l .exits)) (l .line))) ∙ l .inv .4
+returns-3 c = let A = c .before .before .before .before .before .before .before .before .before .before .before .before .before .before .before .before .args in let s = A .text .now in let l = c .before .before .before .loop in let pre = l .inv .5 in sym (rw (← (c .before .is-over .ensures), c .if2 .taken) at (at-end rndf-judging put overOf s (l .from) (omega arith) (l .place) (memory (l .gained) (l .segments) (l .lanes) (l .zones) (l .spots) (l .points) (l .checkpoints) (l .stops) (l .exits)) (l .line))) ∙ l .inv .4
 
 same-length-17 : tie.Need-same-length-17 Inv-loop μ-loop
 same-length-17 c = ap (λ (x : Lengths). x .segments) (c .before .before .before .loop .inv .3)
@@ -201,7 +204,7 @@ same-length-24 : tie.Need-same-length-24 Inv-loop μ-loop
 same-length-24 c = ap (λ (x : Lengths). x .exits) (c .before .before .before .loop .inv .3)
 
 returns-4 : tie.Need-returns-4 Inv-loop μ-loop
-returns-4 c = let A = c .before .before .before .before .before .before .before .before .before .before .before .before .before .before .before .args in let s = A .text .now in let l = c .before .before .before .loop in let pre = l .inv .5 in sym (rw (← (c .before .is-over .ensures), c .if2 .left) at (at-end rndf-judging put overOf s (l .from) (omega arith) (l .place) (memory (l .gained) (l .segments) (l .lanes) (l .zones) (l .spots) (l .points) (l .checkpoints) (l .stops) (l .exits)) (l .line))) ∙ l .inv .4
+returns-4 c = let A = c .before .before .before .before .before .before .before .before .before .before .before .before .before .before .before .before .args in let s = A .text .now in let l = c .before .before .before .loop in let pre = l .inv .5 in sym (rw (← (c .before .is-over .ensures), c .if2 .left) at (at-end rndf-judging put overOf s (l .from) (omega arith) (l .place) (memory (l .gained) (l .segments) (l .lanes) (l .zones) (l .spots) (l .points) (l .checkpoints) (l .stops) (l .exits)) (l .line))) ∙ l .inv .4
 
 pub fill-lines-spec : {M : Type 1} → statement M
 fill-lines-spec =
@@ -210,6 +213,7 @@ fill-lines-spec =
     Inv-loop
     μ-loop
     returns
+    rndf-table-requires
     start-requires
     none-requires
     loop-holds
