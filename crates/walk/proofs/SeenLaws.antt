@@ -13,7 +13,7 @@ use Rattle.grammar.specs.Language.{Lang, S, asKind, allOf}
 use Rattle.fill.specs.FirstLines.{here-or-behind, place-of}
 use Rattle.walk.specs.declared.Seen.{Seen}
 use Rattle.walk.specs.Standing.{Where, place, over}
-use Rattle.walk.specs.Seeing.{seenMore}
+use Rattle.walk.specs.Seeing.{seenMore, moreSeen}
 use Rattle.walk.proofs.Speaking.{is-some}
 
 -- the line of the i-th place
@@ -52,6 +52,11 @@ module _ (L : Lang) (k : L .Kind) (wanted : S L → Bool) (wanted-is : (t : S L)
           let here : c .count ≡ row = omega arith in
           rw (wanted-is t, q) (stays ws ts (record { count = c .count + 1; line = pick (eqb (c .count) row) (w .line) (c .line) }) (omega arith) ∙ rw (eq-eqb (c .count) row here) refl)
       go (some v) q (suc j) h l f = rw (wanted-is t, q) (f (record { count = c .count + 1; line = pick (eqb (c .count) row) (w .line) (c .line) }) j (omega arith) (omega arith))
+
+-- the program's count is the count as long as there is room for one more
+pub counts : (b : Bool) (row line : ℕ) (c : Seen) → c .count < 4294967295 → moreSeen b row line c ≡ seenMore b row line c
+unfolding moreSeen
+counts b row line c h = rw (ne-eqb (c .count) 4294967295 (λ (e : c .count ≡ 4294967295). omega arith))
 
 -- one more at most is counted
 pub one-more : (b : Bool) (row line : ℕ) (c : Seen) → seenMore b row line c .count ≤ c .count + 1

@@ -7,8 +7,10 @@
 //
 // Rests on `judge` and what it rests on, and on `fill`.
 ghost use mathlib.Core.Path.{_≡_};
-ghost use Prim.Native.Nat.{_<_};
-ghost use Rattle.walk.specs.Seeing.{noneSeen, seenMore};
+ghost use Rattle.walk.specs.Seeing.{noneSeen, moreSeen};
+
+// A count that is as large as 32 bits hold stays there.
+const FULL: u32 = 4294967295;
 
 // How many statements of one kind were seen, and the line of the one that is looked for: 0 until it is met.
 pub struct Seen {
@@ -25,10 +27,11 @@ impl Seen {
 
     // Behind a statement that stands on `line`: of the kind or not. Looked for is the one with the number `row`, from 0.
     pub fn more(self, wanted: bool, row: u32, line: u32) -> Seen
-        requires { ⌜ self .count < 4294967295 ⌝ }
-        ensures { λ r. ⌜ r ≡ seenMore wanted row line self ⌝ }
+        ensures { λ r. ⌜ r ≡ moreSeen wanted row line self ⌝ }
     {
-        if wanted {
+        if self.count == FULL {
+            self
+        } else if wanted {
             let count = self.count + 1;
             if self.count == row {
                 Seen { count, line }

@@ -16,7 +16,7 @@ use Rattle.walk.specs.Seeing.{noneSeen, seenMore, see, line-seen}
 use Rattle.refusal.proofs.Sized.{too-long, not-too-long}
 use Rattle.walk.proofs.Cutting.{at-end}
 use Rattle.walk.proofs.MdfSteps.{after, rest, a-line}
-use Rattle.walk.proofs.SeenLaws.{grows}
+use Rattle.walk.proofs.SeenLaws.{counts, grows}
 use Rattle.find_line.specs.FoundLines.{most, mdfLineOf, mdfLineIn}
 use Rattle.find_line.proofs.mdf_line.Statement.{statement}
 use Rattle.find_line.proofs.mdf_line.Tie as tie
@@ -96,7 +96,7 @@ loop-less : tie.Need-loop-less Inv-loop μ-loop
 loop-less c = search needs
 
 loop-again : tie.Need-loop-again Inv-loop μ-loop
-loop-again c = let A = c .before .before .before .before .before .before .before .before .before .before .before .before .args in let s = A .text .now in let l = c .before .before .before .before .before .before .loop in let k = reach-le (stopsBy (Byte 10)) s (l .from) (omega arith) in let e = c .before .before .before .before .far-byte-from .ensures in let o = a-line (see orderOf (A .kind) (A .row)) (c .before .before .before .before .before .before .before .before .before .mdf-table .result) (c .before .before .before .before .before .before .before .before .before .mdf-table .ensures) s (l .from) (c .before .before .before .before .far-byte-from .result) (omega arith) (c .before .before .before .before .far-byte-from .ensures) (l .place) (l .seen) (l .line) (c .before .mission-judge-line .result) (c .before .mission-judge-line .ensures) in ⊎-elim (λ w. (omega arith, omega arith, rw (w .3) (omega (arith, l .inv .2)), rw (w .2, w .3) (sym (ap line-seen (rw (w .1 .given .1) at o)) ∙ l .inv .3), l .inv .4)) (λ w. (omega arith, omega arith, grows _ _ _ _ _ (l .line) (w .6 ∙ w .4 .ensures) (l .inv .2), rw (w .5, w .6, w .4 .ensures, w .3 .ensures .0) (sym (ap line-seen (rw (w .1 .given .1) at o)) ∙ l .inv .3), l .inv .4)) (c .match .came)
+loop-again c = let A = c .before .before .before .before .before .before .before .before .before .before .before .before .args in let s = A .text .now in let l = c .before .before .before .before .before .before .loop in let k = reach-le (stopsBy (Byte 10)) s (l .from) (omega arith) in let e = c .before .before .before .before .far-byte-from .ensures in let o = a-line (see orderOf (A .kind) (A .row)) (c .before .before .before .before .before .before .before .before .before .mdf-table .result) (c .before .before .before .before .before .before .before .before .before .mdf-table .ensures) s (l .from) (c .before .before .before .before .far-byte-from .result) (omega arith) (c .before .before .before .before .far-byte-from .ensures) (l .place) (l .seen) (l .line) (c .before .mission-judge-line .result) (c .before .mission-judge-line .ensures) in ⊎-elim (λ w. (omega arith, omega arith, rw (w .3) (omega (arith, l .inv .2)), rw (w .2, w .3) (sym (ap line-seen (rw (w .1 .given .1) at o)) ∙ l .inv .3), l .inv .4)) (λ w. let room = counts _ (A .row) (l .line) (l .seen) (omega (arith, l .inv .0, l .inv .1, l .inv .2, l .inv .4)) in (omega arith, omega arith, grows _ _ _ _ _ (l .line) (w .6 ∙ w .4 .ensures ∙ room) (l .inv .2), rw (w .5, w .6, w .4 .ensures ∙ room, w .3 .ensures .0) (sym (ap line-seen (rw (w .1 .given .1) at o)) ∙ l .inv .3), l .inv .4)) (c .match .came)
 
 is-over-requires : tie.Need-is-over-requires Inv-loop μ-loop
 is-over-requires c κs = search needs
