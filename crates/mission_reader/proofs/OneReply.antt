@@ -13,6 +13,7 @@ use Rattle.table_words.specs.Words.{MissionLent}
 use Rattle.form_faults.proofs.FormFaults.{mdf-one-bad-line, mdf-one-unended, mdf-bad-or-unended, mdf-bad-or-spelled, mdf-unended-or-spelled}
 use Rattle.fault_lines.proofs.MdfFaults.{mission-line-one, line-not-fits}
 use Rattle.rows.specs.declared.MissionFileRow.{MissionFileRow}
+use Rattle.refusal.specs.Shapes.{fault}
 use Rattle.mission_reader.specs.declared.MissionCounts.{MissionCounts}
 use Rattle.mission_reader.specs.declared.MissionReply as DP
 use Rattle.mission_reader.specs.declared.MissionReply.the-variants as Reply
@@ -63,12 +64,12 @@ module _ (n : Network Field) (mdf : Bytes) (u : MissionLent) where
 
 -- ## The contract of `read_mission`, `outcome r goals limits ≡ missionOf ..`
 abbrev reply-in : Read → DP.MissionReply
-reply-in (refused line number) = Reply.Refused line number
+reply-in (refused line number) = Reply.Refused (fault line number)
 reply-in (accepted c f goals limits) = Reply.Accepted c f
 
 reply-told : (r : DP.MissionReply) (goals limits : List ℕ) → reply-in (outcome r goals limits) ≡ r
 reply-told (Reply.Accepted c f) goals limits = refl
-reply-told (Reply.Refused line number) goals limits = refl
+reply-told (Reply.Refused f) goals limits = refl
 
 -- no second reply satisfies it ..
 pub one-reply : (x : Read) (r r′ : DP.MissionReply) (g l g′ l′ : List ℕ) → outcome r g l ≡ x → outcome r′ g′ l′ ≡ x → r ≡ r′

@@ -3,7 +3,7 @@ use mathlib.Core.Path.{_≡_, refl, sym, ap, ap₂, subst, _∙_}
 use mathlib.Core.List.{List, [], _∷_, map, map-map}
 use mathlib.Core.Option.{none}
 use mathlib.Core.Bool.{Bool, true, false}
-use Prim.Native.Nat.{ℕ, _+_}
+use Prim.Native.Nat.{ℕ, _+_, _≤_}
 use lib.Dec.{eqb}
 use lib.ListN.{length, length-map}
 use borrow.Author.Tests.{eqb-true, eqb-false}
@@ -42,12 +42,14 @@ use Rattle.mission_references.specs.declared.BadLimit.the-variants as Bad
 use Rattle.mission_references.specs.Numbers.{goalRefusal, limitRefusal}
 use Rattle.mission_references.specs.Tests.{firstForeignGoal, firstBadLimit}
 use Rattle.mission_references.proofs.Laws.{goals-refused, limits-refused}
+use Rattle.find_line.proofs.Theorems.{mdf-line-sized}
 use Rattle.fault_lines.specs.FaultLines.{FirstMdfFault, NoMdfFault}
 use Rattle.fault_lines.proofs.MdfFaults.{other-name-line, foreign-goal-line, bad-limit-line, id-missing-line, no-mission-line}
 use Rattle.mission.proofs.Filled.{mission-memory}
-use Rattle.mission_reader.specs.declared.Reference as DF
-use Rattle.mission_reader.specs.declared.Reference.the-variants as Reference
-use Rattle.mission_reader.specs.MissionReplies.{RoomFor}
+use Rattle.refusal.specs.declared.References as DF
+use Rattle.refusal.specs.declared.References.the-variants as References
+use Rattle.refusal.specs.Shapes as Shape
+use Rattle.mission_reader.specs.MissionReplies.{most, RoomFor}
 use Rattle.mission_reader.specs.MissionReading.{Rndf, rndf-of, sameName, name-line, end-line, by-count, limitFound, goalFound, referOf}
 use Rattle.mission_reader.proofs.Standing.{network-name, mission-name}
 
@@ -56,9 +58,9 @@ abbrev pub accepted-rndf : (n : Network Field) (rndf : Bytes) (t : Lent) → Rnd
 accepted-rndf n rndf t = rndf-of rndf (network-file n .name) (network-filled n t .checkpoints) (length (tables n .checkpoints)) (length (n .segments) + length (n .zones))
 
 -- what is found of references says this of an MDF for the network
-abbrev pub Refers : Network Field → Bytes → DF.Reference → Type 0
-Refers n mdf Reference.Right = NoMdfFault n mdf
-Refers n mdf (Reference.Wrong line number) = FirstMdfFault n mdf line number
+abbrev pub Refers : Network Field → Bytes → DF.References → Type 0
+Refers n mdf References.Right = NoMdfFault n mdf
+Refers n mdf (References.Wrong f) = FirstMdfFault n mdf (f .line) (f .number)
 
 each-mapped : {A B : Type 0} (P : B → Type 0) (f : A → B) (l : List A) → Each (λ a. P (f a)) l → Each P (map f l)
 each-mapped P f [] e = tt
@@ -71,7 +73,7 @@ same-goals a b c d = rw (a, b, c, d) refl
 same-limits : (p : ℕ) {l l′ : List ℕ} {k k′ : ℕ} → l ≡ l′ → k ≡ k′ → limitRefusal (firstBadLimit l k p) ≡ limitRefusal (firstBadLimit l′ k′ p)
 same-limits p a b = rw (a, b) refl
 
-module _ (n : Network Field) (rndf : Bytes) (s : SpellsRndf n rndf) (t : Lent) (roomy : HasRoom (sizes (tables n)) t) (m : Mission Field) (mdf : Bytes) (h : SpellsMdf m mdf) (u : MissionLent) (room : RoomFor m u) where
+module _ (n : Network Field) (rndf : Bytes) (s : SpellsRndf n rndf) (t : Lent) (roomy : HasRoom (sizes (tables n)) t) (m : Mission Field) (mdf : Bytes) (h : SpellsMdf m mdf) (u : MissionLent) (room : RoomFor m u) (long : length mdf ≤ most) where
   abbrev known : Rndf
   known = accepted-rndf n rndf t
 
@@ -147,21 +149,21 @@ module _ (n : Network Field) (rndf : Bytes) (s : SpellsRndf n rndf) (t : Lent) (
         missing true q e good = refl
         missing false q e good = absurd (e (all-counted (parts n) ids (good .0) (good .1) q))
 
-        go : (x : Bool) → eqb (length (m .limits)) (parts n) ≡ x → Each (Between 1 (parts n)) ids × Different ids → Refers n mdf (pick x Reference.Right (Reference.Wrong (end-line mdf) 18))
+        go : (x : Bool) → eqb (length (m .limits)) (parts n) ≡ x → Each (Between 1 (parts n)) ids × Different ids → Refers n mdf (pick x References.Right (References.Wrong (Shape.fault (end-line mdf) 18)))
         go true q good = no-mission-line n m mdf h same goals limits (counted-all (parts n) ids (good .0) (good .1) (as-many ∙ eqb-true (length (m .limits)) (parts n) q))
         go false q good =
-            id-missing-line n m mdf h same goals limits
-            (missing (some-missing (parts n) ids) refl (λ e. eqb-false (length (m .limits)) (parts n) q (sym as-many ∙ e)) good)
+            rw (mdf-line-sized mdf 9 0 long) (id-missing-line n m mdf h same goals limits
+            (missing (some-missing (parts n) ids) refl (λ e. eqb-false (length (m .limits)) (parts n) q (sym as-many ∙ e)) good))
 
     by-limits : first-foreign-goal (all-numbers n) (m .goals) ≡ none → (b : BadLimit) → limitRefusal b ≡ first-bad-limit (parts n) ids → Refers n mdf (limitFound mdf b (length (m .limits)) (parts n))
     unfolding limitFound
-    by-limits goals (Bad.NotThere row) q = bad-limit-line n m mdf h same goals (fault row 16) (sym q)
-    by-limits goals (Bad.Again row) q = bad-limit-line n m mdf h same goals (fault row 17) (sym q)
+    by-limits goals (Bad.NotThere row) q = rw (mdf-line-sized mdf 12 row long) (bad-limit-line n m mdf h same goals (fault row 16) (sym q))
+    by-limits goals (Bad.Again row) q = rw (mdf-line-sized mdf 12 row long) (bad-limit-line n m mdf h same goals (fault row 17) (sym q))
     by-limits goals Bad.Nothing q = counted goals (sym q)
 
     by-goals : (f : FirstRow) → goalRefusal f ≡ first-foreign-goal (all-numbers n) (m .goals) → Refers n mdf (goalFound mdf f (limitFound mdf bad (length (m .limits)) (parts n)))
     unfolding goalFound
-    by-goals (Goal.At row) q = foreign-goal-line n m mdf h same (fault row 15) (sym q)
+    by-goals (Goal.At row) q = rw (mdf-line-sized mdf 11 row long) (foreign-goal-line n m mdf h same (fault row 15) (sym q))
     by-goals Goal.Nothing q = by-limits (sym q) bad limits-tested
 
   -- THE LAW: what is found over the tables is the first line at fault, or no line is at fault
@@ -169,9 +171,9 @@ module _ (n : Network Field) (rndf : Bytes) (s : SpellsRndf n rndf) (t : Lent) (
   unfolding referOf foreign bad
   refers = subst (λ (x : Bool). Refers n mdf (by-name x)) (sym name-compared) (go (sameBytes (m .rndf .bytes) (n .name .bytes)) refl)
     where
-      by-name : Bool → DF.Reference
-      by-name x = pick x (goalFound mdf foreign (limitFound mdf bad (length (m .limits)) (parts n))) (Reference.Wrong (name-line mdf) 14)
+      by-name : Bool → DF.References
+      by-name x = pick x (goalFound mdf foreign (limitFound mdf bad (length (m .limits)) (parts n))) (References.Wrong (Shape.fault (name-line mdf) 14))
 
       go : (x : Bool) → sameBytes (m .rndf .bytes) (n .name .bytes) ≡ x → Refers n mdf (by-name x)
       go true q = by-goals (same-equal (m .rndf .bytes) (n .name .bytes) q) foreign goals-tested
-      go false q = other-name-line n m mdf h (false-differ (m .rndf .bytes) (n .name .bytes) q)
+      go false q = rw (mdf-line-sized mdf 1 0 long) (other-name-line n m mdf h (false-differ (m .rndf .bytes) (n .name .bytes) q))

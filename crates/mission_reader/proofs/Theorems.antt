@@ -25,13 +25,14 @@ use Rattle.fault_lines.proofs.MdfFaults.{no-line-fits}
 use Rattle.form_faults.specs.FormFaults.{MdfBadLine, MdfUnended}
 use Rattle.walk.specs.Walking.{Found, fault, gathered}
 use Rattle.mission.specs.Storing.{MissionMemory}
-use Rattle.mission.specs.Reading.{filledOf}
+use Rattle.mission.specs.Reading.{filledOf, filledIn}
 use Rattle.mission.proofs.Filled.{all-read, mission-memory}
 use Rattle.mission_reader.specs.declared.MissionCounts.{MissionCounts}
 use Rattle.mission_reader.specs.declared.MissionReply as DP
 use Rattle.mission_reader.specs.declared.MissionReply.the-variants as Reply
-use Rattle.mission_reader.specs.declared.Reference as DF
-use Rattle.mission_reader.specs.declared.Reference.the-variants as Reference
+use Rattle.refusal.specs.declared.References as DF
+use Rattle.refusal.specs.declared.References.the-variants as References
+use Rattle.refusal.specs.Shapes as Shape
 use Rattle.mission_reader.specs.MissionReplies.{most, RoomFor, AcceptsMdf, RefusesMdf, too-long, bad-line, unended, no-room, bad-reference, rows-used, Delivers, Takes}
 use Rattle.mission_reader.specs.MissionReading.{Rndf, room, referOf, answeredOf, judgedOf, Read, refused, accepted, outcome, from-filled, empty, missionOf}
 use Rattle.mission_reader.proofs.Found.{found-fault, found-mission, known-behind, goals-long, limits-long, filled-behind}
@@ -73,13 +74,13 @@ module _ (n : Network Field) (rndf : Bytes) (s : SpellsRndf n rndf) (t : Lent) (
 
   module _ (long : length mdf ≤ most) where
     module _ (m : Mission Field) (h : SpellsMdf m mdf) where
-      by-reference : RoomFor m u → (x : DF.Reference) → Refers n mdf x → Replies n mdf u (outcome (answeredOf x (all-read m)) (mission-filled (mission-tables m) u .goals) (mission-filled (mission-tables m) u .limits))
-      by-reference r Reference.Right none-wrong = record {
+      by-reference : RoomFor m u → (x : DF.References) → Refers n mdf x → Replies n mdf u (outcome (answeredOf x (all-read m)) (mission-filled (mission-tables m) u .goals) (mission-filled (mission-tables m) u .limits))
+      by-reference r References.Right none-wrong = record {
         mission = m;
         accepts = record { size = long; spelled = h; room = r; fits = no-line-fits n m mdf h none-wrong };
         delivers = record { counted = refl; own-row = refl; goals-hold = refl; limits-hold = refl };
       }
-      by-reference r (Reference.Wrong line number) f = bad-reference long h r f
+      by-reference r (References.Wrong x) f = bad-reference long h r f
 
       module _ (w : MissionMemory) (e : filledOf mdf (empty (u .goals) (u .limits)) ≡ gathered w) where
         room-tested : room (w .so-far) (length (w .goals)) (length (w .limits)) ≡ room (all-read m) (length (u .goals)) (length (u .limits))
@@ -89,16 +90,16 @@ module _ (n : Network Field) (rndf : Bytes) (s : SpellsRndf n rndf) (t : Lent) (
             rw (known-behind m mdf h _ _ w e, g, l) refl
 
         -- where the tables are filled, what they hold is judged
-        judged : (x : Bool) → room (all-read m) (length (u .goals)) (length (u .limits)) ≡ x → judgedOf known mdf w ≡ pick x (answeredOf (referOf known mdf w) (w .so-far)) (Reply.Refused 0 11)
+        judged : (x : Bool) → room (all-read m) (length (u .goals)) (length (u .limits)) ≡ x → judgedOf known mdf w ≡ pick x (answeredOf (referOf known mdf w) (w .so-far)) (Reply.Refused (Shape.fault 0 11))
         unfolding judgedOf
-        judged x q = ap (λ (y : Bool). pick y (answeredOf (referOf known mdf w) (w .so-far)) (Reply.Refused 0 11)) (room-tested ∙ q)
+        judged x q = ap (λ (y : Bool). pick y (answeredOf (referOf known mdf w) (w .so-far)) (Reply.Refused (Shape.fault 0 11))) (room-tested ∙ q)
 
         by-room : (x : Bool) → room (all-read m) (length (u .goals)) (length (u .limits)) ≡ x → Replies n mdf u (outcome (judgedOf known mdf w) (w .goals) (w .limits))
         by-room true q =
             let r = room-right m u q in
             subst (λ (y : DP.MissionReply). Replies n mdf u (outcome y (w .goals) (w .limits))) (sym (judged true q))
             (subst (λ (v : MissionMemory). Replies n mdf u (outcome (answeredOf (referOf known mdf v) (v .so-far)) (v .goals) (v .limits))) (sym (filled-behind m mdf h u w e r))
-            (by-reference r (referOf known mdf (mission-memory m u)) (refers n rndf s t roomy m mdf h u r)))
+            (by-reference r (referOf known mdf (mission-memory m u)) (refers n rndf s t roomy m mdf h u r long)))
         by-room false q =
             subst (λ (y : DP.MissionReply). Replies n mdf u (outcome y (w .goals) (w .limits))) (sym (judged false q)) (no-room long h (λ r. clash (sym (room-only m u r) ∙ q)))
 
@@ -114,10 +115,10 @@ module _ (n : Network Field) (rndf : Bytes) (s : SpellsRndf n rndf) (t : Lent) (
 
   -- THE THEOREM
   pub replies-right : Replies n mdf u answer
-  unfolding missionOf
+  unfolding missionOf filledIn
   replies-right = go (ltb most (length mdf)) refl
     where
-      go : (x : Bool) → ltb most (length mdf) ≡ x → Replies n mdf u (pick x (refused 0 1) (from-filled known mdf (filledOf mdf (empty (u .goals) (u .limits)))))
+      go : (x : Bool) → ltb most (length mdf) ≡ x → Replies n mdf u (from-filled known mdf (pick x (fault 0 1) (filledOf mdf (empty (u .goals) (u .limits)))))
       go true q = too-long (ltb-true most (length mdf) q)
       go false q = by-found (ltb-false most (length mdf) q) (filledOf mdf (empty (u .goals) (u .limits))) refl
 

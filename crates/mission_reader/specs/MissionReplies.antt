@@ -18,7 +18,7 @@ use Rattle.table_words.specs.FileRows.{mission-file}
 use Rattle.form_faults.specs.FormFaults.{MdfBadLine, MdfUnended}
 use Rattle.fault_lines.specs.FaultLines.{FirstMdfFault}
 use Rattle.mission_reader.specs.declared.MissionCounts.{MissionCounts}
-pub use Rattle.walk.specs.Standing.{most}
+pub use Rattle.refusal.specs.Size.{most}
 
 -- 01: 11 "a table has fewer rows than needed"; there is room where none has
 abbrev pub RoomFor : Mission Field → MissionLent → Type 0

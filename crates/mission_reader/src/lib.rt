@@ -1,6 +1,6 @@
 // The reader of an MDF, given the RNDF that was accepted before it: an MDF read into lent goals and limits.
 //
-// The MDF is walked once, line by line, each row stored where there is room (`mission`); then it is seen whether there was room for all (11), the RNDF's name is compared (14),
+// The tables are cleared; the MDF is walked once, line by line, each row stored where there is room (`mission`); then it is seen whether there was room for all (11), the RNDF's name is compared (14),
 // goals and limits are looked up (`mission_references`; 15 to 17) and the limits counted (18). The line of a fault is found again by `find_line`.
 // A refusal leaves the tables as they are then: the caller clears them.
 //
@@ -8,7 +8,7 @@
 // proofs/Found: what the walk found. proofs/References: 14 to 18 over filled tables are the first line at fault. proofs/Standing: a name stands in its text where it says.
 // proofs/OneReply: no second reply. proofs/Steps: the parts of `read_mission` together.
 //
-// Rests on `mission`, `mission_references`, `find_line`, `rows` and `scan`, for its theorem on `fault_lines`, `form_faults` and `table_words`, and on what they rest on.
+// Rests on `refusal`, `room`, `mission`, `mission_references`, `find_line`, `rows` and `scan`, for its theorem on `fault_lines`, `form_faults` and `table_words`, and on what they rest on.
 //
 // Settled: the contract of `read_mission` gives its reply, and where it accepts both tables, by a function of what is lent (proofs/OneReply).
 use find_line::mdf_line;
@@ -19,21 +19,19 @@ use mission_references::BadLimit;
 use mission_references::FirstRow;
 use mission_references::first_bad_limit;
 use mission_references::first_foreign_goal;
+use refusal::Fault;
+use refusal::References;
+use room::fits;
 use rows::GOAL_STRIDE;
 use rows::LIMIT_STRIDE;
 use rows::MissionFileRow;
 use rows::Stretch;
 use rows::clear;
 use rows::name_of;
-use rows::rows_of;
 use scan::same;
 ghost use mathlib.Core.Path.{_≡_};
-ghost use Prim.Native.Nat.{_≤_};
-ghost use lib.ListN.{length};
 ghost use Rattle.mission.specs.Storing.{memory};
-ghost use Rattle.mission.specs.Reading.{told, filledOf};
-ghost use Rattle.mission_reader.specs.MissionReplies.{most};
-ghost use Rattle.mission_reader.specs.MissionReading.{rndf-of, fits, room, sameName, limitsFault, referOf, answeredOf, judgedOf, empty, outcome, missionOf};
+ghost use Rattle.mission_reader.specs.MissionReading.{rndf-of, room, sameName, limitsFault, referOf, answeredOf, judgedOf, outcome, missionOf};
 
 // The rows used of each table of an MDF.
 pub struct MissionCounts {
@@ -41,20 +39,11 @@ pub struct MissionCounts {
     pub limits: u32,
 }
 
-// The rows used and the file's own row; or line and number, of file 2.
+// The rows used and the file's own row; or what is at fault.
 pub enum MissionReply {
     Accepted(MissionCounts, MissionFileRow),
-    Refused(u32, u8),
+    Refused(Fault),
 }
-
-// What is found of references: nothing wrong, or line and number.
-enum Reference {
-    Right,
-    Wrong(u32, u8),
-}
-
-// 1: a text over so many bytes.
-const MOST: usize = 16777215;
 
 // The columns of the statements that 14 to 18 are found at.
 const RNDF: u8 = 1;
@@ -73,19 +62,27 @@ fn same_name(rndf: &[u8], name: Stretch, mdf: &[u8], given: Stretch) -> bool
 }
 
 // 16 or 17 at the first limit at fault; else 18 where there are not as many limits as segments and zones.
-fn limits_fault(mdf: &[u8], limits: &[u32], limit_count: u32, parts: u32) -> Reference
-    requires { ⌜ length (now mdf) ≤ most ⌝ }
+fn limits_fault(mdf: &[u8], limits: &[u32], limit_count: u32, parts: u32) -> References
     ensures { λ r. ⌜ r ≡ limitsFault (now (mdf .entry)) (now (limits .entry)) «limit_count» parts ⌝ }
 {
     let bad = first_bad_limit(limits, limit_count, parts);
     match bad {
-        BadLimit::NotThere(row) => Reference::Wrong(mdf_line(mdf, LIMIT, row), 16),
-        BadLimit::Again(row) => Reference::Wrong(mdf_line(mdf, LIMIT, row), 17),
+        BadLimit::NotThere(row) => References::Wrong(Fault {
+            line: mdf_line(mdf, LIMIT, row),
+            number: 16,
+        }),
+        BadLimit::Again(row) => References::Wrong(Fault {
+            line: mdf_line(mdf, LIMIT, row),
+            number: 17,
+        }),
         BadLimit::Nothing => {
             if limit_count == parts {
-                Reference::Right
+                References::Right
             } else {
-                Reference::Wrong(mdf_line(mdf, END_SPEED_LIMITS, 0), 18)
+                References::Wrong(Fault {
+                    line: mdf_line(mdf, END_SPEED_LIMITS, 0),
+                    number: 18,
+                })
             }
         }
     }
@@ -102,26 +99,24 @@ fn refer(
     goals: &[u32],
     limits: &[u32],
     gained: MissionProgress,
-) -> Reference
-    requires { ⌜ length (now mdf) ≤ most ⌝ }
+) -> References
     ensures { λ r. ⌜ r ≡ referOf (rndf-of (now (rndf .entry)) name (now (checkpoints .entry)) «checkpoint_count» parts) (now (mdf .entry)) (memory gained (now (goals .entry)) (now (limits .entry))) ⌝ }
 {
     if same_name(rndf, name, mdf, gained.file.rndf) {
         let foreign = first_foreign_goal(checkpoints, checkpoint_count, goals, gained.goals);
         match foreign {
-            FirstRow::At(row) => Reference::Wrong(mdf_line(mdf, GOAL, row), 15),
+            FirstRow::At(row) => References::Wrong(Fault {
+                line: mdf_line(mdf, GOAL, row),
+                number: 15,
+            }),
             FirstRow::Nothing => limits_fault(mdf, limits, gained.limits, parts),
         }
     } else {
-        Reference::Wrong(mdf_line(mdf, RNDF, 0), 14)
+        References::Wrong(Fault {
+            line: mdf_line(mdf, RNDF, 0),
+            number: 14,
+        })
     }
-}
-
-// So many rows fit into a table of so many words.
-fn fits(rows: u32, words: usize, stride: usize) -> bool
-    ensures { λ r. ⌜ r ≡ fits rows words stride ⌝ }
-{
-    rows as usize <= rows_of(words, stride)
 }
 
 // 11 is not due: both tables have the rows that are needed.
@@ -135,11 +130,11 @@ fn both_fit(gained: MissionProgress, goals: usize, limits: usize) -> bool
     }
 }
 
-fn answered(found: Reference, gained: MissionProgress) -> MissionReply
+fn answered(found: References, gained: MissionProgress) -> MissionReply
     ensures { λ r. ⌜ r ≡ answeredOf found gained ⌝ }
 {
     match found {
-        Reference::Right => {
+        References::Right => {
             let file = gained.file;
             MissionReply::Accepted(
                 MissionCounts {
@@ -149,7 +144,7 @@ fn answered(found: Reference, gained: MissionProgress) -> MissionReply
                 file,
             )
         }
-        Reference::Wrong(line, number) => MissionReply::Refused(line, number),
+        References::Wrong(fault) => MissionReply::Refused(fault),
     }
 }
 
@@ -165,7 +160,6 @@ fn judge_rows(
     limits: &[u32],
     gained: MissionProgress,
 ) -> MissionReply
-    requires { ⌜ length (now mdf) ≤ most ⌝ }
     ensures { λ r. ⌜ r ≡ judgedOf (rndf-of (now (rndf .entry)) name (now (checkpoints .entry)) «checkpoint_count» parts) (now (mdf .entry)) (memory gained (now (goals .entry)) (now (limits .entry))) ⌝ }
 {
     if both_fit(gained, goals.len(), limits.len()) {
@@ -182,18 +176,11 @@ fn judge_rows(
         );
         answered(found, gained)
     } else {
-        MissionReply::Refused(0, 11)
+        MissionReply::Refused(Fault {
+            line: 0,
+            number: 11,
+        })
     }
-}
-
-// The tables cleared, then filled in one walk over the text.
-fn fill_cleared(mdf: &[u8], goals: &mut [u32], limits: &mut [u32]) -> MissionFilled
-    requires { ⌜ length (now mdf) ≤ most ⌝ }
-    ensures { λ r. ⌜ told r (λ p. memory p (now (goals .exit)) (now (limits .exit))) ≡ filledOf (now (mdf .entry)) (empty (now (goals .entry)) (now (limits .entry))) ⌝ }
-{
-    clear(goals);
-    clear(limits);
-    fill_orders(mdf, goals, limits)
 }
 
 // `rndf`: the text of an accepted RNDF, `name`: where its name stands in it, `checkpoints`: its filled table of so many rows, `parts`: how many segments and zones it has.
@@ -209,12 +196,11 @@ pub fn read_mission(
 ) -> MissionReply
     ensures { λ r. ⌜ outcome r (now (goals .exit)) (now (limits .exit)) ≡ missionOf (rndf-of (now (rndf .entry)) name (now (checkpoints .entry)) «checkpoint_count» parts) (now (mdf .entry)) (now (goals .entry)) (now (limits .entry)) ⌝ }
 {
-    if MOST < mdf.len() {
-        return MissionReply::Refused(0, 1);
-    }
-    let filled = fill_cleared(mdf, goals, limits);
+    clear(goals);
+    clear(limits);
+    let filled = fill_orders(mdf, goals, limits);
     match filled {
-        MissionFilled::Fault(line, number) => MissionReply::Refused(line, number),
+        MissionFilled::Fault(fault) => MissionReply::Refused(fault),
         MissionFilled::Rows(gained) => judge_rows(
             rndf,
             name,

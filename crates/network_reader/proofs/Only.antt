@@ -4,7 +4,7 @@ use mathlib.Core.Bool.{Bool, true, false}
 use mathlib.Core.Logic.{_⊎_, inl, inr}
 use Prim.Native.Nat.{ℕ, _≤_}
 use lib.ListN.{length}
-use borrow.Author.Tests.{lt-ltb, le-ltb}
+use Rattle.refusal.proofs.Sized as Size
 use Rattle.terms.specs.Ascii.{Bytes}
 use Rattle.terms.proofs.Tests.{clash}
 use Rattle.line.specs.Content.{Field}
@@ -19,7 +19,7 @@ use Rattle.table_words.specs.Words.{Lent, HasRoom, zeros, network-filled}
 use Rattle.table_words.specs.FileRows.{network-file}
 use Rattle.walk.specs.Walking.{Found, fault, gathered}
 use Rattle.network.specs.Storing.{Memory}
-use Rattle.network.specs.Reading.{filledOf}
+use Rattle.network.specs.Reading.{filledOf, filledIn}
 use Rattle.network.proofs.Answered.{filled-faulty, filled-short}
 use Rattle.network.proofs.Spelled.{counted-spelled, left-filled}
 use Rattle.fault_lines.specs.FaultLines.{FirstRndfFault}
@@ -31,8 +31,8 @@ use Rattle.network_reader.proofs.Theorems.{Meant, meant, counts-are, Re
 
 -- ## A text that is not too long
 sized : (text : Bytes) (t : Lent) → length text ≤ most → readOf text t ≡ from-filled text (filledOf text (empty t))
-unfolding readOf
-sized text t h = rw (le-ltb most (length text) h) refl
+unfolding readOf filledIn
+sized text t h = ap (from-filled text) (Size.not-too-long text (fault 0 1) (filledOf text (empty t)) h)
 
 found : (text : Bytes) (t : Lent) (w : Found Memory) → length text ≤ most → filledOf text (empty t) ≡ w → readOf text t ≡ from-filled text w
 found text t w h e = sized text t h ∙ ap (from-filled text) e
@@ -85,8 +85,8 @@ module _ (text : Bytes) (size : length text ≤ most) (t : Lent) (n : Network Fi
 
 -- ## The whole
 pub refuses-only : (text : Bytes) (t : Lent) (line number : ℕ) → RefusesRndf text t line number → readOf text t ≡ refused line number
-unfolding readOf
-refuses-only text t line number (too-long h) = rw (lt-ltb most (length text) h) refl
+unfolding readOf filledIn
+refuses-only text t line number (too-long h) = ap (from-filled text) (Size.too-long text (fault 0 1) (filledOf text (empty t)) h)
 refuses-only text t line number (bad-line size b) = found text t (fault line number) size (filled-faulty text (empty t) line number (rndf-bad-line-only text line number b))
 refuses-only text t line number (unended size u) = found text t (fault line 10) size (filled-short text (empty t) line (rndf-unended-only text line u))
 refuses-only text t line number (no-room n size h f) = let a = counted-spelled n text h (zeros t) in found text t (gathered (a .left)) size (a .rows) ∙ judged-full text size t n h (a .left) (a .rows) f

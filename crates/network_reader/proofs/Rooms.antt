@@ -8,9 +8,10 @@ use borrow.Author.Tests.{leb-true, le-leb}
 use Rattle.terms.specs.Words.{pick}
 use Rattle.terms.proofs.Tests.{clash}
 use Rattle.rows.specs.Lay.{rowsOf}
+use Rattle.room.specs.Room.{fits}
 use Rattle.fill.specs.Counts.{Counts}
 use Rattle.table_words.specs.Words.{Lent, HasRoom}
-use Rattle.network_reader.specs.Reading.{fits, all-four, partsFit, marksFit, room}
+use Rattle.network_reader.specs.Reading.{all-four, partsFit, marksFit, room}
 use Rattle.network_reader.specs.Replies.{rows-used}
 
 all-true : {R : Type 0} (a b c d : Bool) → all-four a b c d ≡ true → (a ≡ true → b ≡ true → c ≡ true → d ≡ true → R) → R

@@ -1,5 +1,6 @@
 -- THE THEOREM: what the reader of an RNDF answers is what document 01 says: line and number of a refusal in its order; or the rows, the file's row and the tables of the network that is spelled. Assumes nothing.
 use mathlib.Core.Path.{_≡_, refl, sym, ap, subst, _∙_}
+use mathlib.Core.List.{[]}
 use mathlib.Core.Option.{Option, none, some}
 use mathlib.Core.Bool.{Bool, true, false}
 use mathlib.Core.Logic.{⊎-elim}
@@ -21,7 +22,8 @@ use Rattle.text.specs.Spelling.{SpellsRndf}
 use Rattle.form_faults.proofs.FormFaults.{rndf-bad-line-right, rndf-unended-right}
 use Rattle.fill.specs.Counts.{sizes}
 use Rattle.fill.specs.FirstFaults.{Fault}
-use Rattle.rows.proofs.Forms.{kept}
+use Rattle.room.proofs.Fitted.{fitted-kept}
+use Rattle.find_line.proofs.Theorems.{rndf-line-sized}
 use Rattle.rows.specs.declared.FileRow.{FileRow}
 use Rattle.table_words.specs.Words.{Lent, HasRoom, zeros, network-filled}
 use Rattle.table_words.specs.FileRows.{network-file}
@@ -32,7 +34,7 @@ use Rattle.progress.specs.declared.Progress.{Progress}
 use Rattle.walk.specs.Walking.{Found, fault, gathered}
 use Rattle.walk.proofs.Cutting.{walk-keeps}
 use Rattle.network.specs.Storing.{Memory}
-use Rattle.network.specs.Reading.{put, filledOf}
+use Rattle.network.specs.Reading.{put, filledOf, filledIn}
 use Rattle.network.proofs.Steps.{Lengths, lengths, put-long}
 use Rattle.network.proofs.Answered.{found-fault}
 use Rattle.network.proofs.Holding.{CountsNetwork}
@@ -41,8 +43,10 @@ use Rattle.network_references.specs.ExitStarts.{exits-answer}
 use Rattle.references.specs.Repeats.{rowOf}
 use Rattle.fault_lines.specs.FaultLines.{FirstRndfFault}
 use Rattle.fault_lines.proofs.RndfFaults.{undeclared-in, repeated-in, exit-line, checkpoint-line, no-row-sound, only-undeclared, only-repeated, lines-differ, undeclared-first, repeated-first}
+use Rattle.refusal.specs.declared.References.the-variants as References
+use Rattle.refusal.specs.Shapes as Shape
 use Rattle.network_reader.specs.declared.Counts.{Counts}
-use Rattle.network_reader.specs.Reading.{most, partsFit, marksFit, room, countsOf, faultLine, Referred, right, wrong, joined, referOf, Read, refused, accepted, tables-of, from-referred, judgedOf, from-filled, empty, readOf}
+use Rattle.network_reader.specs.Reading.{most, partsFit, marksFit, room, countsOf, faultLine, Referred, right, wrong, referred, joined, referOf, Read, refused, accepted, tables-of, from-referred, judgedOf, from-filled, empty, readOf}
 use Rattle.network_reader.specs.Replies.{rows-used, AcceptsRndf, RefusesRndf, too-long, bad-line, unended, no-room, bad-reference}
 use Rattle.network_reader.proofs.Rooms.{has-room, room-there}
 use Rattle.network_reader.proofs.Referring.{refers}
@@ -64,7 +68,7 @@ pub counts-are : (n : Network Field) (text : Bytes) → SpellsRndf n text → le
 unfolding countsOf
 counts-are n text s h p c =
     let few : sizes (tables n) .points ≤ 4294967295 = let x = rows-at-most n text s .points in omega arith in
-    rw (c .segments, c .lanes, c .zones, c .spots, c .points, c .checkpoints, c .stops, c .exits, kept (sizes (tables n) .points) 4294967295 few) refl
+    rw (c .segments, c .lanes, c .zones, c .spots, c .points, c .checkpoints, c .stops, c .exits, fitted-kept (sizes (tables n) .points) few) refl
 
 -- ## Room, by the lengths of the tables
 room-by : Counts → Lengths → Bool
@@ -87,19 +91,20 @@ pub data Refers (text : Bytes) (t : Lent) (n : Network Field) (x : Referred) : T
   all-right : Sound n → x ≡ right (network-filled n t .exits) → Refers text t n x
   at-fault : (line number : ℕ) → FirstRndfFault n text line number → x ≡ wrong line number → Refers text t n x
 
-joined-so : (n : Network Field) (text : Bytes) → SpellsRndf n text → (t : Lent) (u r : Option Fault) → undeclared-in n ≡ u → repeated-in n ≡ r → Refers text t n (joined text (exits-answer n t u) (rowOf r))
+joined-so : (n : Network Field) (text : Bytes) → length text ≤ most → SpellsRndf n text → (t : Lent) (u r : Option Fault) → undeclared-in n ≡ u → repeated-in n ≡ r → Refers text t n (joined text (exits-answer n t u) (rowOf r))
 unfolding faultLine
-joined-so n text h t none none a b = all-right (no-row-sound n text h a b) refl
-joined-so n text h t (some f) none a b = at-fault (exit-line text (f .row)) 12 (only-undeclared n text h f a b) refl
-joined-so n text h t none (some g) a b = at-fault (checkpoint-line text (g .row)) 13 (only-repeated n text h g a b) refl
-joined-so n text h t (some f) (some g) a b = go (ltb (exit-line text (f .row)) (checkpoint-line text (g .row))) refl
+joined-so n text size h t none none a b = all-right (no-row-sound n text h a b) refl
+joined-so n text size h t (some f) none a b = rw (rndf-line-sized text 16 (f .row) size) (at-fault (exit-line text (f .row)) 12 (only-undeclared n text h f a b) refl)
+joined-so n text size h t none (some g) a b = rw (rndf-line-sized text 14 (g .row) size) (at-fault (checkpoint-line text (g .row)) 13 (only-repeated n text h g a b) refl)
+joined-so n text size h t (some f) (some g) a b = rw (rndf-line-sized text 16 (f .row) size, rndf-line-sized text 14 (g .row) size) (go (ltb (exit-line text (f .row)) (checkpoint-line text (g .row))) refl)
   where
-    go : (x : Bool) → ltb (exit-line text (f .row)) (checkpoint-line text (g .row)) ≡ x → Refers text t n (joined text (exits-answer n t (some f)) (rowOf (some g)))
-    go true q = rw q (at-fault (exit-line text (f .row)) 12 (undeclared-first n text h f g a b (ltb-true (exit-line text (f .row)) (checkpoint-line text (g .row)) q)) refl)
+    go : (x : Bool) → ltb (exit-line text (f .row)) (checkpoint-line text (g .row)) ≡ x
+        → Refers text t n (referred (pick x (References.Wrong (Shape.fault (exit-line text (f .row)) 12)) (References.Wrong (Shape.fault (checkpoint-line text (g .row)) 13))) [])
+    go true q = at-fault (exit-line text (f .row)) 12 (undeclared-first n text h f g a b (ltb-true (exit-line text (f .row)) (checkpoint-line text (g .row)) q)) refl
     go false q =
         let le = ltb-false (exit-line text (f .row)) (checkpoint-line text (g .row)) q in
         let less : checkpoint-line text (g .row) < exit-line text (f .row) = below (checkpoint-line text (g .row)) (exit-line text (f .row)) le (λ x. lines-differ n text h f g a b (sym x)) in
-        rw q (at-fault (checkpoint-line text (g .row)) 13 (repeated-first n text h f g a b less) refl)
+        at-fault (checkpoint-line text (g .row)) 13 (repeated-first n text h f g a b less) refl
       where
         below : (i j : ℕ) → i ≤ j → (i ≡ j → ⊥) → i < j
         below i j l d = omega (arith, l, d)
@@ -115,7 +120,7 @@ module _ (text : Bytes) (size : length text ≤ most) (t : Lent) (n : Network Fi
 
   -- .. and the references that are found are the network's
   pub references-are : HasRoom (sizes (tables n)) t → Refers text t n (referOf text (m .segments) (m .lanes) (m .zones) (m .checkpoints) (m .exits) (m .so-far))
-  references-are fits = rw (refers n text h size t fits m counted (left-filled n text h size t fits m e)) (joined-so n text h t (undeclared-in n) (repeated-in n) refl refl)
+  references-are fits = rw (refers n text h size t fits m counted (left-filled n text h size t fits m e)) (joined-so n text size h t (undeclared-in n) (repeated-in n) refl refl)
 
   refers-so : HasRoom (sizes (tables n)) t → (x : Referred) → Refers text t n x → Meant text t (from-referred m x)
   refers-so fits x (all-right s q) =
@@ -151,13 +156,13 @@ module _ (text : Bytes) (size : length text ≤ most) (t : Lent) (n : Network Fi
 
 -- ## The whole
 pub meant : (text : Bytes) (t : Lent) → Meant text t (readOf text t)
-unfolding readOf
+unfolding readOf filledIn
 meant text t = sized (ltb most (length text)) refl
   where
     found : length text ≤ most → (w : Found Memory) → filledOf text (empty t) ≡ w → Meant text t (from-filled text w)
     found size (fault i k) e = ⊎-elim (λ x. bad-line size (rndf-bad-line-right text i k x)) (λ x. subst (RefusesRndf text t i) (sym (x .1)) (unended size (rndf-unended-right text i (x .0)))) (found-fault text (empty t) i k e)
     found size (gathered m) e = let n = found-network text (empty t) m e in judged-so text size t (n .0) (n .1) m e
 
-    sized : (x : Bool) → ltb most (length text) ≡ x → Meant text t (pick x (refused 0 1) (from-filled text (filledOf text (empty t))))
+    sized : (x : Bool) → ltb most (length text) ≡ x → Meant text t (from-filled text (pick x (fault 0 1) (filledOf text (empty t))))
     sized true q = too-long (ltb-true most (length text) q)
     sized false q = found (ltb-false most (length text) q) (filledOf text (empty t)) refl

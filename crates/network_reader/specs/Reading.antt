@@ -3,44 +3,33 @@ use mathlib.Core.List.{List, []}
 use mathlib.Core.Bool.{Bool, true, false, _&&_}
 use Prim.Native.Nat.{ℕ, _+_}
 use lib.ListN.{length}
-use lib.Dec.{ltb, leb}
-use lib.IntN.{ℤ}
+use lib.Dec.{ltb}
 use Rattle.terms.specs.Ascii.{Bytes}
 use Rattle.terms.specs.Words.{pick}
-use Rattle.rows.specs.Lay.{rowsOf}
+use Rattle.room.specs.Room.{fits, fitted}
 use Rattle.rows.specs.Strides.{segmentStride, laneStride, zoneStride, spotStride, pointStride, checkpointStride, stopStride, exitStride}
 use Rattle.rows.specs.declared.FileRow.{FileRow}
-use Rattle.table_words.specs.Words.{Lent, zeros}
+use Rattle.law.specs.Tables.{Lent, lent, zeros}
 use Rattle.progress.specs.declared.Progress.{Progress}
 use Rattle.progress.specs.After.{noProgress}
-use Rattle.progress.specs.Given.{fitted}
 use Rattle.walk.specs.Walking.{Found, fault, gathered}
 use Rattle.network.specs.Storing.{Memory, memory}
-use Rattle.network.specs.Reading.{filledOf}
+use Rattle.network.specs.Reading.{filledIn}
 use Rattle.references.specs.declared.FirstRow as DR
 use Rattle.references.specs.declared.FirstRow.the-variants as R
 use Rattle.references.specs.Finding.{lookIn}
 use Rattle.references.specs.Exits.{Outcome, done, at, resolvedFrom}
 use Rattle.references.specs.Repeats.{firstRepeat}
-use Rattle.find_line.specs.FoundLines.{rndfLineOf}
+use Rattle.find_line.specs.FoundLines.{rndfLineIn}
 use Rattle.network_reader.specs.declared.Counts.{Counts}
 use Rattle.network_reader.specs.declared.NetworkReply as DP
 use Rattle.network_reader.specs.declared.NetworkReply.the-variants as Reply
-use Rattle.network_reader.specs.declared.Reference as DF
-use Rattle.network_reader.specs.declared.Reference.the-variants as Reference
-pub use Rattle.walk.specs.Standing.{most}
-
-abbrev pub lent : (segments lanes zones spots : List ℕ) → List ℤ → (checkpoints stops exits : List ℕ) → Lent
-lent sg ln zn sp pt ck st ex = record { segments = sg; lanes = ln; zones = zn; spots = sp; points = pt; checkpoints = ck; stops = st; exits = ex }
-
-abbrev pub replied : ℕ → ℕ → DP.NetworkReply
-replied line number = Reply.Refused line number
+use Rattle.refusal.specs.declared.References as DF
+use Rattle.refusal.specs.declared.References.the-variants as References
+use Rattle.refusal.specs.Shapes as Shape
+pub use Rattle.refusal.specs.Size.{most}
 
 -- ## Room
--- so many rows fit into a table of so many words
-abbrev pub fits : ℕ → ℕ → ℕ → Bool
-fits rows words stride = leb rows (rowsOf words stride)
-
 unfoldable pub countsOf : Progress → Counts
 countsOf p = record { segments = p .segments; lanes = p .lanes; zones = p .zones; spots = p .spots; points = fitted (p .first + p .within); checkpoints = p .checkpoints; stops = p .stops; exits = p .exits }
 
@@ -59,25 +48,25 @@ room c t = pick (partsFit c (length (t .segments)) (length (t .lanes)) (length (
 -- ## References
 -- 12 at the line of an exit, 13 at the line of a checkpoint: the earlier of the two
 abbrev pub exit-line : Bytes → ℕ → ℕ
-exit-line text row = rndfLineOf text 16 row
+exit-line text row = rndfLineIn text 16 row
 
 abbrev pub checkpoint-line : Bytes → ℕ → ℕ
-checkpoint-line text row = rndfLineOf text 14 row
+checkpoint-line text row = rndfLineIn text 14 row
 
-unfoldable pub faultLine : Bytes → DR.FirstRow → DR.FirstRow → DF.Reference
-faultLine text (R.At e) (R.At k) = pick (ltb (exit-line text e) (checkpoint-line text k)) (Reference.Wrong (exit-line text e) 12) (Reference.Wrong (checkpoint-line text k) 13)
-faultLine text (R.At e) R.Nothing = Reference.Wrong (exit-line text e) 12
-faultLine text R.Nothing (R.At k) = Reference.Wrong (checkpoint-line text k) 13
-faultLine text R.Nothing R.Nothing = Reference.Right
+unfoldable pub faultLine : Bytes → DR.FirstRow → DR.FirstRow → DF.References
+faultLine text (R.At e) (R.At k) = pick (ltb (exit-line text e) (checkpoint-line text k)) (References.Wrong (Shape.fault (exit-line text e) 12)) (References.Wrong (Shape.fault (checkpoint-line text k) 13))
+faultLine text (R.At e) R.Nothing = References.Wrong (Shape.fault (exit-line text e) 12)
+faultLine text R.Nothing (R.At k) = References.Wrong (Shape.fault (checkpoint-line text k) 13)
+faultLine text R.Nothing R.Nothing = References.Right
 
 -- the exits with their entries looked up; or line and number
 pub data Referred : Type 0 where
   right : List ℕ → Referred
   wrong : (line number : ℕ) → Referred
 
-abbrev pub referred : DF.Reference → List ℕ → Referred
-referred Reference.Right exits = right exits
-referred (Reference.Wrong line number) exits = wrong line number
+abbrev pub referred : DF.References → List ℕ → Referred
+referred References.Right exits = right exits
+referred (References.Wrong f) exits = wrong (f .line) (f .number)
 
 abbrev pub joined : Bytes → Outcome → DR.FirstRow → Referred
 joined text (done exits) repeated = referred (faultLine text R.Nothing repeated) exits
@@ -86,9 +75,9 @@ joined text (at row) repeated = referred (faultLine text (R.At row) repeated) []
 unfoldable pub referOf : Bytes → (segments lanes zones checkpoints exits : List ℕ) → Progress → Referred
 referOf text sg ln zn ck ex p = joined text (resolvedFrom text (lookIn sg ln zn) (p .segments) ex 0 (p .exits)) (firstRepeat ck (p .checkpoints))
 
-abbrev pub answeredOf : DF.Reference → Counts → FileRow → DP.NetworkReply
-answeredOf Reference.Right c file = Reply.Accepted c file
-answeredOf (Reference.Wrong line number) c file = replied line number
+abbrev pub answeredOf : DF.References → Counts → FileRow → DP.NetworkReply
+answeredOf References.Right c file = Reply.Accepted c file
+answeredOf (References.Wrong f) c file = Reply.Refused f
 
 -- ## The whole
 pub data Read : Type 0 where
@@ -97,7 +86,7 @@ pub data Read : Type 0 where
 
 abbrev pub outcome : DP.NetworkReply → Lent → Read
 outcome (Reply.Accepted c f) tables = accepted c f tables
-outcome (Reply.Refused line number) tables = refused line number
+outcome (Reply.Refused f) tables = refused (f .line) (f .number)
 
 abbrev pub tables-of : Memory → Lent
 tables-of m = lent (m .segments) (m .lanes) (m .zones) (m .spots) (m .points) (m .checkpoints) (m .stops) (m .exits)
@@ -118,4 +107,4 @@ abbrev pub empty : Lent → Memory
 empty t = memory noProgress (zeros t .segments) (zeros t .lanes) (zeros t .zones) (zeros t .spots) (zeros t .points) (zeros t .checkpoints) (zeros t .stops) (zeros t .exits)
 
 unfoldable pub readOf : Bytes → Lent → Read
-readOf text t = pick (ltb most (length text)) (refused 0 1) (from-filled text (filledOf text (empty t)))
+readOf text t = from-filled text (filledIn text (empty t))

@@ -10,52 +10,42 @@ use Rattle.network_reader.proofs.answered.Reads as answered-reads
 use Rattle.network_reader.proofs.marks_fit.Reads as marks-fit-reads
 use Rattle.network_reader.proofs.parts_fit.Reads as parts-fit-reads
 use Rattle.network_reader.proofs.refer.Reads as refer-reads
-use Rattle.network_reader.proofs.refused.Reads as refused-reads
 use Rattle.network_reader.proofs.rows_used.Reads as rows-used-reads
 
--- src/lib.rt:210:9
 rows-used-requires : tie.Need-rows-used-requires
 rows-used-requires c κs = search needs
 
--- src/lib.rt:211:8
 parts-fit-requires : tie.Need-parts-fit-requires
 parts-fit-requires c κs = search needs
 
--- src/lib.rt:212:12
 marks-fit-requires : tie.Need-marks-fit-requires
 marks-fit-requires c κs = search needs
 
--- src/lib.rt:213:17
 refer-requires : tie.Need-refer-requires
 refer-requires c κs = search needs
 
--- src/lib.rt:214:13
 answered-requires : tie.Need-answered-requires
 answered-requires c κs = search needs
 
--- src/lib.rt:216:13
-refused-requires : tie.Need-refused-requires
-refused-requires c κs = search needs
-
--- src/lib.rt:219:9
-refused-requires-2 : tie.Need-refused-requires-2
-refused-requires-2 c κs = search needs
-
--- src/lib.rt:206:1
 same-length : tie.Need-same-length
-same-length c = search needs
+same-length c = c .before .before .before .refer .kept .1 .1 .1 .1 .1 .0
 
--- src/lib.rt:206:1
 returns : tie.Need-returns
 returns c = let A = c .before .before .before .before .before .before .before .before .before .before .before .before .before .before .before .before .before .before .args in let m = memory (A .gained) (A .segments .now) (A .lanes .now) (A .zones .now) (A .spots .now) (A .points .now) (A .checkpoints .now) (A .stops .now) (A .exits .now) in judged (A .text .now) m (c .before .before .before .before .before .before .before .before .before .rows-used .result) (c .before .before .before .refer .result) _ (c .answered .result) (c .before .before .before .before .before .before .before .before .before .rows-used .ensures) (sym (c .before .before .before .before .before .before .before .before .parts-fit .ensures) ∙ c .before .before .before .before .before .before .before .if1 .taken) (sym (c .before .before .before .before .before .before .marks-fit .ensures) ∙ c .before .before .before .before .before .if2 .taken) (c .before .before .before .refer .ensures) (c .answered .ensures)
 
--- src/lib.rt:206:1
 returns-2 : tie.Need-returns-2
-returns-2 c = let A = c .before .before .before .before .before .before .before .before .before .before .before .before .before .before .args in let m = memory (A .gained) (A .segments .now) (A .lanes .now) (A .zones .now) (A .spots .now) (A .points .now) (A .checkpoints .now) (A .stops .now) (A .exits .now) in no-marks (A .text .now) m (c .before .before .before .before .before .rows-used .result) _ (c .refused .result) (c .before .before .before .before .before .rows-used .ensures) (sym (c .before .before .before .before .parts-fit .ensures) ∙ c .before .before .before .if1 .taken) (sym (c .before .before .marks-fit .ensures) ∙ c .before .if2 .left) (c .refused .ensures)
+returns-2 c =
+    let A = c .before .before .before .before .before .before .before .before .before .before .before .before .before .args in
+    let m = memory (A .gained) (A .segments .now) (A .lanes .now) (A .zones .now) (A .spots .now) (A .points .now) (A .checkpoints .now) (A .stops .now) (A .exits .now) in
+    let used = c .before .before .before .before .rows-used in
+    no-marks (A .text .now) m (used .result) (A .exits .now) (used .ensures) (sym (c .before .before .before .parts-fit .ensures) ∙ c .before .before .if1 .taken) (sym (c .before .marks-fit .ensures) ∙ c .if2 .left)
 
--- src/lib.rt:206:1
 returns-3 : tie.Need-returns-3
-returns-3 c = let A = c .before .before .before .before .before .before .before .before .before .before .before .before .args in let m = memory (A .gained) (A .segments .now) (A .lanes .now) (A .zones .now) (A .spots .now) (A .points .now) (A .checkpoints .now) (A .stops .now) (A .exits .now) in no-parts (A .text .now) m (c .before .before .before .rows-used .result) _ (c .refused2 .result) (c .before .before .before .rows-used .ensures) (sym (c .before .before .parts-fit .ensures) ∙ c .before .if1 .left) (c .refused2 .ensures)
+returns-3 c =
+    let A = c .before .before .before .before .before .before .before .before .before .before .before .args in
+    let m = memory (A .gained) (A .segments .now) (A .lanes .now) (A .zones .now) (A .spots .now) (A .points .now) (A .checkpoints .now) (A .stops .now) (A .exits .now) in
+    let used = c .before .before .rows-used in
+    no-parts (A .text .now) m (used .result) (A .exits .now) (used .ensures) (sym (c .before .parts-fit .ensures) ∙ c .if1 .left)
 
 pub judge-rows-spec : {M : Type 1} → statement M
 judge-rows-spec =
@@ -66,8 +56,6 @@ judge-rows-spec =
     marks-fit-requires
     refer-requires
     answered-requires
-    refused-requires
-    refused-requires-2
     same-length
     returns
     returns-2

@@ -5,40 +5,32 @@ use Rattle.network_reader.proofs.marks_fit.Statement.{statement}
 use Rattle.network_reader.proofs.marks_fit.Tie as tie
 use Rattle.network_reader.proofs.marks_fit.Reads as reads
 use Rattle.network_reader.proofs.marks_fit.Lts as lts
-use Rattle.network_reader.proofs.fits.Reads as fits-reads
+use Rattle.room.proofs.fits.Reads as fits-reads
 
--- src/lib.rt:156:8
 fits-requires : tie.Need-fits-requires
 fits-requires c κs = search needs
 
--- src/lib.rt:157:12
 fits-requires-2 : tie.Need-fits-requires-2
 fits-requires-2 c κs = search needs
 
--- src/lib.rt:158:16
 fits-requires-3 : tie.Need-fits-requires-3
 fits-requires-3 c κs = search needs
 
--- src/lib.rt:159:17
 fits-requires-4 : tie.Need-fits-requires-4
 fits-requires-4 c κs = search needs
 
--- src/lib.rt:159:17
 returns : tie.Need-returns
 unfolding marksFit
 returns c = rw (← (c .before .before .before .before .before .before .fits2 .ensures), c .before .before .before .before .before .if1 .taken, ← (c .before .before .before .before .fits3 .ensures), c .before .before .before .if2 .taken, ← (c .before .before .fits4 .ensures), c .before .if3 .taken) (c .fits5 .ensures)
 
--- src/lib.rt:153:1
 returns-2 : tie.Need-returns-2
 unfolding marksFit
 returns-2 c = rw (← (c .before .before .before .before .before .fits2 .ensures), c .before .before .before .before .if1 .taken, ← (c .before .before .before .fits3 .ensures), c .before .before .if2 .taken, ← (c .before .fits4 .ensures), c .if3 .left) refl
 
--- src/lib.rt:153:1
 returns-3 : tie.Need-returns-3
 unfolding marksFit
 returns-3 c = rw (← (c .before .before .before .fits2 .ensures), c .before .before .if1 .taken, ← (c .before .fits3 .ensures), c .if2 .left) refl
 
--- src/lib.rt:153:1
 returns-4 : tie.Need-returns-4
 unfolding marksFit
 returns-4 c = rw (← (c .before .fits2 .ensures), c .if1 .left) refl

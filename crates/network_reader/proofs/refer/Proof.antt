@@ -1,7 +1,7 @@
 use mathlib.Core.Path.{_≡_, refl, sym, ap, ap₂, _∙_}
 use Rattle.references.specs.declared.FirstRow as DR
 use Rattle.references.specs.Exits.{Outcome}
-use Rattle.network_reader.specs.declared.Reference as DF
+use Rattle.refusal.specs.declared.References as DF
 use Rattle.network_reader.specs.Reading.{referred, joined, referOf}
 use Rattle.network_reader.proofs.Steps.{joined-told}
 use borrow.Author.Needs.{needs}
@@ -13,29 +13,24 @@ use Rattle.network_reader.proofs.fault_line.Reads as fault-line-reads
 use Rattle.references.proofs.first_repeat.Reads as first-repeat-reads
 use Rattle.references.proofs.resolve_exits.Reads as resolve-exits-reads
 
--- src/lib.rt:128:9
 resolve-exits-requires : tie.Need-resolve-exits-requires
 resolve-exits-requires c κs = search needs
 
--- src/lib.rt:129:9
 first-repeat-requires : tie.Need-first-repeat-requires
 first-repeat-requires c κs = search needs
 
--- src/lib.rt:130:5
 fault-line-requires : tie.Need-fault-line-requires
 fault-line-requires c κs = search needs
 
--- src/lib.rt:124:1
 same-length : tie.Need-same-length
-same-length c = search needs
+same-length c = c .before .before .before .before .resolve-exits .kept .1 .1 .1 .1 .0
 
--- src/lib.rt:124:1
 returns : tie.Need-returns
 unfolding referOf
 returns c =
     let text = c .before .before .before .before .before .before .before .before .before .before .before .before .args .text .now in
     let u = c .before .before .before .before .resolve-exits in
-    ap (λ (x : DF.Reference). referred x (u .last .1 .1 .1 .1 .0)) (c .fault-line .ensures) ∙ joined-told text (u .result) (c .before .first-repeat .result) (u .last .1 .1 .1 .1 .0)
+    ap (λ (x : DF.References). referred x (u .last .1 .1 .1 .1 .0)) (c .fault-line .ensures) ∙ joined-told text (u .result) (c .before .first-repeat .result) (u .last .1 .1 .1 .1 .0)
     ∙ ap₂ (λ (x : Outcome) (y : DR.FirstRow). joined text x y) (u .ensures) (c .before .first-repeat .ensures)
 
 pub refer-spec : {M : Type 1} → statement M
