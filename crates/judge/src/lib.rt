@@ -21,6 +21,7 @@ use word::rndf_keyword;
 ghost use mathlib.Core.Path.{_≡_};
 ghost use Prim.Native.Nat.{_≤_, _<_, _+_};
 ghost use lib.ListN.{length};
+ghost use lib.Dec.{ltb};
 ghost use Rattle.line.specs.Forms.{FieldsWithin};
 ghost use Rattle.made_out.specs.Made.{made-from};
 ghost use Rattle.judge.specs.Judging.{taken, valued, ofKind, known, told, content};
@@ -32,6 +33,21 @@ pub enum Verdict {
     Blank,
     Said(Statement, Place),
     Bad(u8),
+}
+
+// Do 32 bits count the bytes before `base` and `size` more? Where a name starts is told in 32 bits.
+pub fn in_reach(base: usize, size: usize) -> bool
+    ensures { λ r. ⌜ r ≡ ltb (base + size) 4294967296 ⌝ }
+{
+    if base < 4294967296 {
+        if size < 4294967296 - base {
+            true
+        } else {
+            false
+        }
+    } else {
+        false
+    }
 }
 
 // The kind of a line by its first field: its column, of which a point's is the last; no kind for a word that is no keyword.
@@ -121,10 +137,14 @@ fn content_told(table: &[[u8; 30]; 27], s: &[u8], base: usize, p: Place) -> Verd
 }
 
 // A line, without its LF, that starts at `base` in the text. The table is `place_table::rndf_table()`, made once for the text.
+// 1 where it ends behind what 32 bits count: no text that is walked has such a line.
 pub fn judge_line(table: &[[u8; 30]; 27], s: &[u8], base: usize, p: Place) -> Verdict
-    requires { ⌜ base + length (now s) < 4294967296 ⌝ }
     ensures { λ r. ⌜ r ≡ lineBy (now (table .entry)) (now (s .entry)) base p ⌝ }
 {
-    let e = trimmed(s);
-    content_told(table, &s[..e], base, p)
+    if in_reach(base, s.len()) {
+        let e = trimmed(s);
+        content_told(table, &s[..e], base, p)
+    } else {
+        Verdict::Bad(1)
+    }
 }

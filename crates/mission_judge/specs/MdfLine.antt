@@ -1,7 +1,7 @@
 -- Executable: what a line of an MDF gets, over the program's types. Assumes nothing.
 use mathlib.Core.List.{List}
-use Prim.Native.Nat.{ℕ}
-use lib.ListN.{getD}
+use Prim.Native.Nat.{ℕ, _+_}
+use lib.ListN.{length, getD}
 use lib.Dec.{ltb}
 use Rattle.terms.specs.Ascii.{Bytes}
 use Rattle.terms.specs.Words.{pick}
@@ -37,5 +37,6 @@ verdict (bad n) = Verdict.Bad n
 verdict blank = Verdict.Blank
 verdict (said s q) = Verdict.Said s q
 
+-- a line that ends behind what 32 bits count gets 1, as a text that is too long does: no text that is walked has one
 unfoldable pub lineBy : List (List ℕ) → Bytes → ℕ → MissionPlace → MissionVerdict
-lineBy table s base p = verdict (line (judging table) s base p)
+lineBy table s base p = pick (ltb (base + length s) 4294967296) (verdict (line (judging table) s base p)) (Verdict.Bad 1)

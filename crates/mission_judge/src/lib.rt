@@ -4,6 +4,7 @@
 // specs/MdfLine: the same, executable, from what `judge` says for every file. proofs/: it is what `text` says of the line (MdfTies).
 //
 // Rests on `line`, `word`, `made_out`, `mission_place`, `judge`, `statement` and what they rest on.
+use judge::in_reach;
 use line::Fields;
 use line::Form;
 use line::fields_of;
@@ -121,15 +122,19 @@ fn content_told(table: &[[u8; 13]; 12], s: &[u8], base: usize, p: MissionPlace) 
 }
 
 // A line, without its LF, that starts at `base` in the text. The table is `place_table::mdf_table()`, made once for the text.
+// 1 where it ends behind what 32 bits count: no text that is walked has such a line.
 pub fn mission_judge_line(
     table: &[[u8; 13]; 12],
     s: &[u8],
     base: usize,
     p: MissionPlace,
 ) -> MissionVerdict
-    requires { ⌜ base + length (now s) < 4294967296 ⌝ }
     ensures { λ r. ⌜ r ≡ lineBy (now (table .entry)) (now (s .entry)) base p ⌝ }
 {
-    let e = trimmed(s);
-    content_told(table, &s[..e], base, p)
+    if in_reach(base, s.len()) {
+        let e = trimmed(s);
+        content_told(table, &s[..e], base, p)
+    } else {
+        MissionVerdict::Bad(1)
+    }
 }

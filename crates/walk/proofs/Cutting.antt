@@ -4,16 +4,24 @@ use mathlib.Core.List.{List, [], _∷_}
 use mathlib.Core.Bool.{Bool, true, false}
 use Prim.Native.Nat.{ℕ, suc, _+_, _-_, _≤_, _<_}
 use native.Mathlib.Omega.{arith}
-use lib.ListN.{length, take, drop}
+use lib.Seq.{length-take-le}
+use lib.ListN.{length, take, drop, length-drop}
 use Rattle.terms.specs.Ascii.{Bytes}
 use Rattle.terms.specs.Words.{pick}
 use Rattle.scan.specs.Reach.{reach, stopsBy}
 use Rattle.scan.specs.declared.Until.the-variants.{Byte}
+use Rattle.scan.proofs.Reach.{reach-le}
 use Rattle.line.specs.Lines.{linesOf}
 use Rattle.line.proofs.Cuts.{lines-at, next-start, lines-end}
 use Rattle.judge.specs.Judging.{Got, bad, blank, said, Judging, line}
 use Rattle.walk.specs.Standing.{Where, place}
 use Rattle.walk.specs.Walking.{Found, fault, gathered, onward, walked}
+
+-- a line ends within its text
+pub line-ends : (s : Bytes) (from e : ℕ) → length s < 4294967296 → from < length s → e ≡ reach (stopsBy (Byte 10)) s from → from + length (take (e - from) (drop from s)) < 4294967296
+line-ends s from e z h q =
+    let k : e ≤ length s = omega (arith, q, reach-le (stopsBy (Byte 10)) s from (omega arith)) in
+    omega (arith, length-take-le (e - from) (drop from s) (omega (arith, length-drop from s)), length-drop from s, z)
 
 module _ (J : Judging) {G : Type 0} (put : Where → J .St → G → G) (ended : J .Pl → Bool) where
   -- the lines from a place of the text on

@@ -3,6 +3,7 @@ use mathlib.Core.Path.{_≡_, refl, sym, ap, _∙_}
 use mathlib.Core.List.{List}
 use Prim.Native.Nat.{ℕ, _+_, _-_, _<_}
 use lib.ListN.{length, take, drop}
+use borrow.Author.Tests.{lt-ltb}
 use Rattle.terms.specs.Ascii.{Bytes}
 use Rattle.scan.specs.Reach.{reach, stopsBy}
 use Rattle.scan.specs.declared.Until.the-variants.{Byte}
@@ -16,7 +17,7 @@ use Rattle.judge.specs.Judging.{Got, bad, blank, said, line}
 use Rattle.mission_judge.specs.MdfLine.{mdf-judging, verdict, lineBy}
 use Rattle.walk.specs.Standing.{Where, place}
 use Rattle.walk.specs.Walking.{Found, fault, onward}
-use Rattle.walk.proofs.Cutting.{from-on, one-line}
+use Rattle.walk.proofs.Cutting.{from-on, one-line, line-ends}
 
 module _ {G : Type 0} (put : Where → Order → G → G) where
   abbrev pub after : Where → MissionPlace → G → (MissionPlace → G → Found G) → DV.MissionVerdict → Found G
@@ -33,11 +34,12 @@ module _ {G : Type 0} (put : Where → Order → G → G) where
   abbrev pub rest : Bytes → MissionPlace → G → ℕ → ℕ → Found G
   rest = from-on mdf-judging put overOf
 
-  -- judged with the right table
-  pub a-line : (table : List (List ℕ)) → table ≡ mdf-table → (s : Bytes) (from e : ℕ) → from < length s → e ≡ reach (stopsBy (Byte 10)) s from → (p : MissionPlace) (c : G) (i : ℕ) (v : DV.MissionVerdict) → v ≡ lineBy table (take (e - from) (drop from s)) from p
+  -- judged with the right table, in a text that 32 bits count
+  pub a-line : (table : List (List ℕ)) → table ≡ mdf-table → (s : Bytes) → length s < 4294967296 → (from e : ℕ) → from < length s → e ≡ reach (stopsBy (Byte 10)) s from
+      → (p : MissionPlace) (c : G) (i : ℕ) (v : DV.MissionVerdict) → v ≡ lineBy table (take (e - from) (drop from s)) from p
       → rest s p c from i ≡ after (place from i) p c (λ q d. rest s q d (e + 1) (i + 1)) v
   unfolding lineBy
-  a-line table t s from e h q p c i v w =
+  a-line table t s z from e h q p c i v w =
       one-line mdf-judging put overOf s from e h q p c i
       ∙ onward-is (place from i) p c (λ q d. rest s q d (e + 1) (i + 1)) (line mdf-judging (take (e - from) (drop from s)) from p)
-      ∙ ap (after (place from i) p c (λ q d. rest s q d (e + 1) (i + 1))) (ap (λ (t : List (List ℕ)). lineBy t (take (e - from) (drop from s)) from p) (sym t) ∙ sym w)
+      ∙ ap (after (place from i) p c (λ q d. rest s q d (e + 1) (i + 1))) (sym (w ∙ ap (λ (t : List (List ℕ)). lineBy t (take (e - from) (drop from s)) from p) t ∙ rw (lt-ltb _ _ (line-ends s from e z h q))))

@@ -1,35 +1,51 @@
-use Rattle.line.specs.Lines.{trimOf}
-use Rattle.line.proofs.Ends.{trim-le}
-use Rattle.judge.specs.RndfLine.{rndfKind, verdict, lineBy}
-use Rattle.judge.specs.Judging.{Got, taken, valued, ofKind, known, told, formed, content, line}
-use borrow.Author.Tests.{eq-eqb, ne-eqb, lt-ltb, le-ltb}
-use lib.Seq.{length-take-le}
-use lib.ListN.{length, take, drop}
+-- `judge::judge_line` meets its contract. Assumes nothing.
+use mathlib.Core.Path.{_≡_, sym, _∙_}
+use Prim.Native.Nat.{_+_, _≤_, _<_}
 use native.Mathlib.Omega.{arith}
-use Prim.Native.Nat.{ℕ, _+_, _-_, _≤_, _<_}
-use mathlib.Core.Path.{_≡_, refl, sym, ap, _∙_}
+use lib.Seq.{length-take-le}
+use lib.ListN.{length}
+use borrow.Author.Tests.{ltb-true}
 use borrow.Author.Needs.{needs}
+use Rattle.line.proofs.Ends.{trim-le}
+use Rattle.judge.specs.Judging.{line}
+use Rattle.judge.specs.RndfLine.{lineBy}
 use Rattle.judge.proofs.judge_line.Statement.{statement}
 use Rattle.judge.proofs.judge_line.Tie as tie
-use Rattle.judge.proofs.judge_line.Reads as reads
-use Rattle.judge.proofs.judge_line.Lts as lts
-use Rattle.judge.proofs.content_told.Reads as content-told-reads
-use Rattle.line.proofs.trimmed.Reads as trimmed-reads
+
+in-reach-requires : tie.Need-in-reach-requires
+in-reach-requires c κs = search needs
 
 trimmed-requires : tie.Need-trimmed-requires
 trimmed-requires c κs = search needs
 
 slice-aggregate-content-told : tie.Need-slice-aggregate-content-told
-slice-aggregate-content-told c = sym (length-take-le (c .before .trimmed .result) (c .before .before .before .args .s .now) (rw (c .before .trimmed .ensures) (trim-le (c .before .before .before .args .s .now))))
+slice-aggregate-content-told c =
+    let s = c .before .before .before .before .before .args .s .now in
+    sym (length-take-le (c .before .trimmed .result) s (rw (c .before .trimmed .ensures) (trim-le s)))
 
 content-told-requires : tie.Need-content-told-requires
-content-told-requires c κs = let p = c .before .before .before .pre in let h : c .before .trimmed .result ≤ length (c .before .before .before .args .s .now) = rw (c .before .trimmed .ensures) (trim-le (c .before .before .before .args .s .now)) in omega (arith, length-take-le (c .before .trimmed .result) (c .before .before .before .args .s .now) h)
+content-told-requires c κs =
+    let A = c .before .before .before .before .before .args in
+    let s = A .s .now in
+    let reached : A .base + length s < 4294967296 = ltb-true _ _ (sym (c .before .before .before .in-reach .ensures) ∙ c .before .before .if1 .taken) in
+    let h : c .before .trimmed .result ≤ length s = rw (c .before .trimmed .ensures) (trim-le s) in
+    omega (arith, length-take-le (c .before .trimmed .result) s h)
 
 returns : tie.Need-returns
 unfolding lineBy line
-returns c = rw (← (c .before .before .trimmed .ensures)) (c .content-told .ensures)
+returns c = rw (← (c .before .before .before .before .in-reach .ensures), c .before .before .before .if1 .taken, ← (c .before .before .trimmed .ensures)) (c .content-told .ensures)
+
+returns-2 : tie.Need-returns-2
+unfolding lineBy
+returns-2 c = rw (← (c .before .in-reach .ensures), c .if1 .left)
 
 pub judge-line-spec : {M : Type 1} → statement M
 judge-line-spec =
     tie.close
-    (tie.spec trimmed-requires slice-aggregate-content-told content-told-requires returns)
+    (tie.spec
+    in-reach-requires
+    trimmed-requires
+    slice-aggregate-content-told
+    content-told-requires
+    returns
+    returns-2)
