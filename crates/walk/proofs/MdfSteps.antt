@@ -40,6 +40,8 @@ module _ {G : Type 0} (put : Where → Order → G → G) where
       → rest s p c from i ≡ after (place from i) p c (λ q d. rest s q d (e + 1) (i + 1)) v
   unfolding lineBy
   a-line table t s z from e h q p c i v w =
+      let l = take (e - from) (drop from s) in
+      let right : lineBy mdf-table l from p ≡ verdict (line mdf-judging l from p) = rw (lt-ltb (from + length l) 4294967296 (line-ends s from e z h q)) refl in
       one-line mdf-judging put overOf s from e h q p c i
-      ∙ onward-is (place from i) p c (λ q d. rest s q d (e + 1) (i + 1)) (line mdf-judging (take (e - from) (drop from s)) from p)
-      ∙ ap (after (place from i) p c (λ q d. rest s q d (e + 1) (i + 1))) (sym (w ∙ ap (λ (t : List (List ℕ)). lineBy t (take (e - from) (drop from s)) from p) t ∙ rw (lt-ltb _ _ (line-ends s from e z h q))))
+      ∙ onward-is (place from i) p c (λ q d. rest s q d (e + 1) (i + 1)) (line mdf-judging l from p)
+      ∙ ap (after (place from i) p c (λ q d. rest s q d (e + 1) (i + 1))) (sym (w ∙ ap (λ (t : List (List ℕ)). lineBy t l from p) t ∙ right))

@@ -4,8 +4,7 @@ use mathlib.Core.Logic.{⊎-elim}
 use mathlib.Core.Bool.{Bool}
 use Prim.Native.Nat.{ℕ, _+_, _-_, _≤_, _<_}
 use native.Mathlib.Omega.{arith}
-use lib.Seq.{length-take-le}
-use lib.ListN.{length, take, drop, length-drop}
+use lib.ListN.{length}
 use Rattle.scan.proofs.Reach.{reach-le}
 use Rattle.scan.specs.declared.Until.the-variants.{Byte}
 use Rattle.scan.specs.Reach.{reach, stopsBy}
@@ -66,7 +65,7 @@ part-judge-line-end : tie.Need-part-judge-line-end Inv-loop μ-loop
 part-judge-line-end c = let s = c .before .before .before .before .before .before .before .before .before .args .text .now in let l = c .before .before .before .loop .from in omega (arith, c .before .far-byte-from .ensures, reach-le (stopsBy (Byte 10)) s l (omega arith))
 
 judge-line-requires : tie.Need-judge-line-requires Inv-loop μ-loop
-judge-line-requires c κs = let s = c .before .before .before .before .before .before .before .before .before .before .args .text .now in let l = c .before .before .before .before .loop .from in let e = c .before .before .far-byte-from .result in let h : e ≤ length s = omega (arith, c .before .before .far-byte-from .ensures, reach-le (stopsBy (Byte 10)) s l (omega arith)) in omega (arith, length-take-le (e - l) (drop l s) (omega (arith, length-drop l s)))
+judge-line-requires c κs = search needs
 
 enum-told : tie.Need-enum-told Inv-loop μ-loop
 enum-told c = search needs
@@ -84,7 +83,7 @@ enum-told-2 : tie.Need-enum-told-2 Inv-loop μ-loop
 enum-told-2 c = search needs
 
 returns-2 : tie.Need-returns-2 Inv-loop μ-loop
-returns-2 c = let A = c .before .before .before .before .before .before .before .before .before .before .before .before .before .args in let s = A .text .now in let l = c .before .before .before .before .before .before .before .loop in sym (ap line-seen (rw (c .enum-told2 .given .1) at (a-line (see kindOf (A .kind) (A .row)) (c .before .before .before .before .before .before .before .before .before .before .rndf-table .result) (c .before .before .before .before .before .before .before .before .before .before .rndf-table .ensures) s (l .from) (c .before .before .before .before .before .far-byte-from .result) (omega arith) (c .before .before .before .before .before .far-byte-from .ensures) (l .place) (l .seen) (l .line) (c .before .before .judge-line .result) (c .before .before .judge-line .ensures)))) ∙ l .inv .3
+returns-2 c = let A = c .before .before .before .before .before .before .before .before .before .before .before .before .before .args in let s = A .text .now in let l = c .before .before .before .before .before .before .before .loop in sym (ap line-seen (rw (c .enum-told2 .given .1) at (a-line (see kindOf (A .kind) (A .row)) (c .before .before .before .before .before .before .before .before .before .before .rndf-table .result) (c .before .before .before .before .before .before .before .before .before .before .rndf-table .ensures) s (omega (arith, l .inv .4)) (l .from) (c .before .before .before .before .before .far-byte-from .result) (omega arith) (c .before .before .before .before .before .far-byte-from .ensures) (l .place) (l .seen) (l .line) (c .before .before .judge-line .result) (c .before .before .judge-line .ensures)))) ∙ l .inv .3
 
 add-from : tie.Need-add-from Inv-loop μ-loop
 add-from c = let s = c .before .before .before .before .before .before .before .before .before .before .before .before .args .text .now in let l = c .before .before .before .before .before .before .loop .from in omega (arith, c .before .before .before .before .far-byte-from .ensures, reach-le (stopsBy (Byte 10)) s l (omega arith))
@@ -96,7 +95,7 @@ loop-less : tie.Need-loop-less Inv-loop μ-loop
 loop-less c = search needs
 
 loop-again : tie.Need-loop-again Inv-loop μ-loop
-loop-again c = let A = c .before .before .before .before .before .before .before .before .before .before .before .before .args in let s = A .text .now in let l = c .before .before .before .before .before .before .loop in let k = reach-le (stopsBy (Byte 10)) s (l .from) (omega arith) in let e = c .before .before .before .before .far-byte-from .ensures in let o = a-line (see kindOf (A .kind) (A .row)) (c .before .before .before .before .before .before .before .before .before .rndf-table .result) (c .before .before .before .before .before .before .before .before .before .rndf-table .ensures) s (l .from) (c .before .before .before .before .far-byte-from .result) (omega arith) (c .before .before .before .before .far-byte-from .ensures) (l .place) (l .seen) (l .line) (c .before .judge-line .result) (c .before .judge-line .ensures) in ⊎-elim (λ w. (omega arith, omega arith, rw (w .3) (omega (arith, l .inv .2)), rw (w .2, w .3) (sym (ap line-seen (rw (w .1 .given .1) at o)) ∙ l .inv .3), l .inv .4)) (λ w. let room = counts _ (A .row) (l .line) (l .seen) (omega (arith, l .inv .0, l .inv .1, l .inv .2, l .inv .4)) in (omega arith, omega arith, grows _ _ _ _ _ (l .line) (w .6 ∙ w .4 .ensures ∙ room) (l .inv .2), rw (w .5, w .6, w .4 .ensures ∙ room, w .3 .ensures .0) (sym (ap line-seen (rw (w .1 .given .1) at o)) ∙ l .inv .3), l .inv .4)) (c .match .came)
+loop-again c = let A = c .before .before .before .before .before .before .before .before .before .before .before .before .args in let s = A .text .now in let l = c .before .before .before .before .before .before .loop in let k = reach-le (stopsBy (Byte 10)) s (l .from) (omega arith) in let e = c .before .before .before .before .far-byte-from .ensures in let o = a-line (see kindOf (A .kind) (A .row)) (c .before .before .before .before .before .before .before .before .before .rndf-table .result) (c .before .before .before .before .before .before .before .before .before .rndf-table .ensures) s (omega (arith, l .inv .4)) (l .from) (c .before .before .before .before .far-byte-from .result) (omega arith) (c .before .before .before .before .far-byte-from .ensures) (l .place) (l .seen) (l .line) (c .before .judge-line .result) (c .before .judge-line .ensures) in ⊎-elim (λ w. (omega arith, omega arith, rw (w .3) (omega (arith, l .inv .2)), rw (w .2, w .3) (sym (ap line-seen (rw (w .1 .given .1) at o)) ∙ l .inv .3), l .inv .4)) (λ w. let room = counts _ (A .row) (l .line) (l .seen) (omega (arith, l .inv .0, l .inv .1, l .inv .2, l .inv .4)) in (omega arith, omega arith, grows _ _ _ _ _ (l .line) (w .6 ∙ w .4 .ensures ∙ room) (l .inv .2), rw (w .5, w .6, w .4 .ensures ∙ room, w .3 .ensures .0) (sym (ap line-seen (rw (w .1 .given .1) at o)) ∙ l .inv .3), l .inv .4)) (c .match .came)
 
 is-over-requires : tie.Need-is-over-requires Inv-loop μ-loop
 is-over-requires c κs = search needs

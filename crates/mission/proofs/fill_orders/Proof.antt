@@ -4,8 +4,7 @@ use mathlib.Core.Path.{_≡_, refl, sym, ap, _∙_}
 use mathlib.Core.Logic.{⊎-elim}
 use Prim.Native.Nat.{_+_, _-_, _≤_}
 use native.Mathlib.Omega.{arith}
-use lib.Seq.{length-take-le}
-use lib.ListN.{length, drop, length-drop}
+use lib.ListN.{length}
 use Rattle.scan.proofs.Reach.{reach-le}
 use Rattle.scan.specs.declared.Until.the-variants.{Byte}
 use Rattle.scan.specs.Reach.{stopsBy}
@@ -68,12 +67,7 @@ part-mission-judge-line-end c =
     omega (arith, c .before .far-byte-from .ensures, reach-le (stopsBy (Byte 10)) s l (omega arith))
 
 mission-judge-line-requires : tie.Need-mission-judge-line-requires Inv-loop μ-loop
-mission-judge-line-requires c κs =
-    let s = c .before .before .before .before .before .before .before .before .before .before .before .before .args .text .now in
-    let l = c .before .before .before .before .loop .from in
-    let e = c .before .before .far-byte-from .result in
-    let h : e ≤ length s = omega (arith, c .before .before .far-byte-from .ensures, reach-le (stopsBy (Byte 10)) s l (omega arith)) in
-    omega (arith, length-take-le (e - l) (drop l s) (omega (arith, length-drop l s)))
+mission-judge-line-requires c κs = search needs
 
 enum-told : tie.Need-enum-told Inv-loop μ-loop
 enum-told c = search needs
@@ -106,7 +100,7 @@ returns-2 c =
     let s = c .before .before .before .before .before .before .before .before .before .before .before .before .before .before .before .before .args .text .now in
     let scanned = c .before .before .before .before .before .before .far-byte-from in
     let judged = c .before .before .before .mission-judge-line in
-    let o = a-line put (made .result) (made .ensures) s (l .from) (scanned .result) (omega arith) (scanned .ensures) (l .place) (memory (l .gained) (l .goals) (l .limits)) (l .line) (judged .result) (judged .ensures) in
+    let o = a-line put (made .result) (made .ensures) s (omega (arith, l .inv .6)) (l .from) (scanned .result) (omega arith) (scanned .ensures) (l .place) (memory (l .gained) (l .goals) (l .limits)) (l .line) (judged .result) (judged .ensures) in
     sym (rw (c .before .v2 .given .1) at o) ∙ l .inv .3
 
 add-from : tie.Need-add-from Inv-loop μ-loop
@@ -130,7 +124,7 @@ loop-again c =
     let e = scanned .ensures in
     let k = reach-le (stopsBy (Byte 10)) s (l .from) (omega arith) in
     let judged = c .before .mission-judge-line in
-    let o = a-line put (made .result) (made .ensures) s (l .from) (scanned .result) (omega arith) (scanned .ensures) (l .place) (memory (l .gained) (l .goals) (l .limits)) (l .line) (judged .result) (judged .ensures) in
+    let o = a-line put (made .result) (made .ensures) s (omega (arith, l .inv .6)) (l .from) (scanned .result) (omega arith) (scanned .ensures) (l .place) (memory (l .gained) (l .goals) (l .limits)) (l .line) (judged .result) (judged .ensures) in
     ⊎-elim
     (λ w. (omega arith, omega arith, rw (w .5) (omega (arith, l .inv .2)), rw (w .2, w .3, w .4, w .5) (sym (rw (w .1 .given .1) at o) ∙ l .inv .3), rw (w .2) (l .inv .4), rw (w .3) (l .inv .5), l .inv .6))
     (λ w. (

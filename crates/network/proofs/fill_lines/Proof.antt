@@ -3,8 +3,7 @@ use mathlib.Core.Path.{_≡_, refl, sym, ap, ap₂, _∙_}
 use mathlib.Core.Logic.{⊎-elim}
 use Prim.Native.Nat.{ℕ, _+_, _-_, _≤_, _<_}
 use native.Mathlib.Omega.{arith}
-use lib.Seq.{length-take-le}
-use lib.ListN.{length, take, drop, length-drop}
+use lib.ListN.{length}
 use Rattle.scan.proofs.Reach.{reach-le}
 use Rattle.scan.specs.declared.Until.the-variants.{Byte}
 use Rattle.scan.specs.Reach.{reach, stopsBy}
@@ -70,7 +69,7 @@ part-judge-line-end : tie.Need-part-judge-line-end Inv-loop μ-loop
 part-judge-line-end c = let A = c .before .before .before .before .before .before .before .before .before .before .before .before .before .before .before .before .args in let s = A .text .now in let l = c .before .before .before .loop in let pre = l .inv .5 in omega (arith, c .before .far-byte-from .ensures, reach-le (stopsBy (Byte 10)) s (l .from) (omega arith))
 
 judge-line-requires : tie.Need-judge-line-requires Inv-loop μ-loop
-judge-line-requires c κs = let A = c .before .before .before .before .before .before .before .before .before .before .before .before .before .before .before .before .before .args in let s = A .text .now in let l = c .before .before .before .before .loop in let pre = l .inv .5 in let e = c .before .before .far-byte-from .result in let h : e ≤ length s = omega (arith, c .before .before .far-byte-from .ensures, reach-le (stopsBy (Byte 10)) s (l .from) (omega arith)) in omega (arith, length-take-le (e - l .from) (drop (l .from) s) (omega (arith, length-drop (l .from) s)))
+judge-line-requires c κs = search needs
 
 enum-told : tie.Need-enum-told Inv-loop μ-loop
 enum-told c = search needs
@@ -118,7 +117,7 @@ same-length-8 : tie.Need-same-length-8 Inv-loop μ-loop
 same-length-8 c = ap (λ (x : Lengths). x .exits) (c .before .before .before .before .before .before .before .before .loop .inv .3)
 
 returns-2 : tie.Need-returns-2 Inv-loop μ-loop
-returns-2 c = let A = c .before .before .before .before .before .before .before .before .before .before .before .before .before .before .before .before .before .before .before .before .before .args in let s = A .text .now in let l = c .before .before .before .before .before .before .before .before .loop in let pre = l .inv .5 in sym (rw (c .before .v2 .given .1) at (a-line put (c .before .before .before .before .before .before .before .before .before .before .before .rndf-table .result) (c .before .before .before .before .before .before .before .before .before .before .before .rndf-table .ensures) s (l .from) (c .before .before .before .before .before .before .far-byte-from .result) (omega arith) (c .before .before .before .before .before .before .far-byte-from .ensures) (l .place) (memory (l .gained) (l .segments) (l .lanes) (l .zones) (l .spots) (l .points) (l .checkpoints) (l .stops) (l .exits)) (l .line) (c .before .before .before .judge-line .result) (c .before .before .before .judge-line .ensures))) ∙ l .inv .4
+returns-2 c = let A = c .before .before .before .before .before .before .before .before .before .before .before .before .before .before .before .before .before .before .before .before .before .args in let s = A .text .now in let l = c .before .before .before .before .before .before .before .before .loop in let pre = l .inv .5 in sym (rw (c .before .v2 .given .1) at (a-line put (c .before .before .before .before .before .before .before .before .before .before .before .rndf-table .result) (c .before .before .before .before .before .before .before .before .before .before .before .rndf-table .ensures) s (omega (arith, l .inv .5)) (l .from) (c .before .before .before .before .before .before .far-byte-from .result) (omega arith) (c .before .before .before .before .before .before .far-byte-from .ensures) (l .place) (memory (l .gained) (l .segments) (l .lanes) (l .zones) (l .spots) (l .points) (l .checkpoints) (l .stops) (l .exits)) (l .line) (c .before .before .before .judge-line .result) (c .before .before .before .judge-line .ensures))) ∙ l .inv .4
 
 add-from : tie.Need-add-from Inv-loop μ-loop
 add-from c = let A = c .before .before .before .before .before .before .before .before .before .before .before .before .before .before .before .before .before .before .before .args in let s = A .text .now in let l = c .before .before .before .before .before .before .loop in let pre = l .inv .5 in omega (arith, c .before .before .before .before .far-byte-from .ensures, reach-le (stopsBy (Byte 10)) s (l .from) (omega arith))
@@ -130,7 +129,7 @@ loop-less : tie.Need-loop-less Inv-loop μ-loop
 loop-less c = search needs
 
 loop-again : tie.Need-loop-again Inv-loop μ-loop
-loop-again c = let A = c .before .before .before .before .before .before .before .before .before .before .before .before .before .before .before .before .before .before .before .args in let s = A .text .now in let l = c .before .before .before .before .before .before .loop in let pre = l .inv .5 in let k = reach-le (stopsBy (Byte 10)) s (l .from) (omega arith) in let e = c .before .before .before .before .far-byte-from .ensures in let o = a-line put (c .before .before .before .before .before .before .before .before .before .rndf-table .result) (c .before .before .before .before .before .before .before .before .before .rndf-table .ensures) s (l .from) (c .before .before .before .before .far-byte-from .result) (omega arith) (c .before .before .before .before .far-byte-from .ensures) (l .place) (memory (l .gained) (l .segments) (l .lanes) (l .zones) (l .spots) (l .points) (l .checkpoints) (l .stops) (l .exits)) (l .line) (c .before .judge-line .result) (c .before .judge-line .ensures) in ⊎-elim
+loop-again c = let A = c .before .before .before .before .before .before .before .before .before .before .before .before .before .before .before .before .before .before .before .args in let s = A .text .now in let l = c .before .before .before .before .before .before .loop in let pre = l .inv .5 in let k = reach-le (stopsBy (Byte 10)) s (l .from) (omega arith) in let e = c .before .before .before .before .far-byte-from .ensures in let o = a-line put (c .before .before .before .before .before .before .before .before .before .rndf-table .result) (c .before .before .before .before .before .before .before .before .before .rndf-table .ensures) s (omega (arith, l .inv .5)) (l .from) (c .before .before .before .before .far-byte-from .result) (omega arith) (c .before .before .before .before .far-byte-from .ensures) (l .place) (memory (l .gained) (l .segments) (l .lanes) (l .zones) (l .spots) (l .points) (l .checkpoints) (l .stops) (l .exits)) (l .line) (c .before .judge-line .result) (c .before .judge-line .ensures) in ⊎-elim
     (λ w. let same : (memory (c .match .gained) (c .match .segments) (c .match .lanes) (c .match .zones) (c .match .spots) (c .match .points) (c .match .checkpoints) (c .match .stops) (c .match .exits)) ≡ (memory (l .gained) (l .segments) (l .lanes) (l .zones) (l .spots) (l .points) (l .checkpoints) (l .stops) (l .exits)) = λ i. memory (w .11 i) (w .2 i) (w .3 i) (w .4 i) (w .5 i) (w .6 i) (w .7 i) (w .8 i) (w .9 i) in (
       omega arith,
       omega arith,
