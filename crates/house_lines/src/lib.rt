@@ -15,9 +15,9 @@ use line::trimmed;
 use output::put_bytes;
 use output::put_line_end;
 use output::put_tab;
-use scan::Until;
+use scan::far_byte_from;
 use scan::same;
-use scan::scan;
+use scan::two_from;
 use word::begins_with_digit;
 ghost use mathlib.Core.Path.{_≡_};
 ghost use mathlib.Core.List.{[]};
@@ -89,7 +89,7 @@ fn body_end(line: &[u8]) -> usize
     ensures { λ r. ⌜ r ≡ bodyEnd (now (line .entry)) ⌝ }
 {
     let e = trimmed(line);
-    scan(&line[..e], 0, Until::Two(b'/', b'*'))
+    two_from(&line[..e], 0, b'/', b'*')
 }
 
 // The rank of a line without fields.
@@ -194,7 +194,7 @@ fn put_pass(text: &[u8], from: usize, rank: u8, out: &mut [u8], at: usize) -> us
     let mut to = at;
     let mut start = from;
     while start < text.len() {
-        let e = scan(text, start, Until::Byte(10));
+        let e = far_byte_from(text, start, 10);
         let s = said_on(&text[start..e]);
         if s.rank == 0 {
             return to;
@@ -260,7 +260,7 @@ pub fn put_house(text: &[u8], out: &mut [u8], at: usize) -> usize
     let mut from: usize = 0;
     let mut fresh = true;
     while from < text.len() {
-        let e = scan(text, from, Until::Byte(10));
+        let e = far_byte_from(text, from, 10);
         let s = said_on(&text[from..e]);
         to = put_ranked(&text[from..e], s, 0, out, to);
         to = put_run(text, from, is_due(s.rank, fresh), out, to);

@@ -1,3 +1,4 @@
 -- What is made of fields is what they say.
 pub mod Ties
 pub mod MissionTies
+pub mod Whole

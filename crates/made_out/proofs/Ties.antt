@@ -1,17 +1,13 @@
 -- What is made of fields is what `text` reads of them, kind by kind; names are then known by start and length. Assumes nothing.
-use mathlib.Core.Path.{_≡_, refl, sym, ap, _∙_}
-use mathlib.Core.List.{List, [], _∷_}
+use mathlib.Core.Path.{_≡_, refl}
 use mathlib.Core.Option.{Option, none, some}
 use mathlib.Core.Bool.{Bool, true, false}
-use Prim.Native.Nat.{ℕ, zero, suc, _+_, _-_, _≤_}
+use Prim.Native.Nat.{ℕ, zero, suc, _+_, _≤_}
 use native.Mathlib.Omega.{arith}
-use lib.ListN.{length, take, drop, getD, length-drop}
-use lib.Seq.{length-take-le}
-use lib.Dec.{eqb}
+use lib.ListN.{length, getD}
 use Rattle.terms.specs.Ascii.{Bytes}
 use Rattle.terms.specs.Words.{pick}
-use Rattle.line.specs.Content.{Field}
-use Rattle.line.specs.Forms.{part, fieldIn, listed, SpanWithin, FieldsWithin}
+use Rattle.line.specs.Forms.{part, fieldIn, listed}
 use Rattle.line.specs.declared.Span.{Span}
 use Rattle.line.specs.declared.Fields.{Fields}
 use Rattle.number.specs.Executable.{integerOf, pairOf, tripleOf, isNameLength}
@@ -38,20 +34,14 @@ use Rattle.made_out.specs.declared.Made.the-variants.{Is, No}
 use Rattle.made_out.specs.Names.{stretch-of, behind, told-as}
 use Rattle.made_out.specs.Made.{shapes, needs-of, bareOf, namedOf, numberedOf, pairedOf, sidedOf, nameMade, numberMade, pairMade, sideMade, checkpointMade, stopMade, exitMade, pointMade, madeOf, made-from}
 
-pub part-length : (s : Bytes) (f : Span) → SpanWithin s f → length (part s f) ≡ f .stop - f .start
-part-length s f w =
-    let a = w .order in
-    let b = w .inside in
-    length-take-le (f .stop - f .start) (drop (f .start) s) (rw (length-drop (f .start) s) (omega arith))
-
 -- ## By shape
-names : (mk : ℕ → ℕ → Statement) (base : ℕ) (s : Bytes) (f : Span) → SpanWithin s f
-    → made-from (pick (isNameLength (f .stop - f .start)) (Is (mk (base + f .start) (f .stop - f .start))) No) ≡ told-as (λ v. mk (v .0 .start) (length (v .0 .bytes))) (both (read a-name (fieldIn base s f)) (some (tt {0})))
+names : (mk : ℕ → ℕ → Statement) (base : ℕ) (s : Bytes) (f : Span)
+    → made-from (pick (isNameLength (length (part s f))) (Is (mk (base + f .start) (length (part s f)))) No) ≡ told-as (λ v. mk (v .0 .start) (length (v .0 .bytes))) (both (read a-name (fieldIn base s f)) (some (tt {0})))
 unfolding read
-names mk base s f w = rw (part-length s f w) (go (isNameLength (f .stop - f .start)))
+names mk base s f = go (isNameLength (length (part s f)))
   where
-    go : (b : Bool) → made-from (pick b (Is (mk (base + f .start) (f .stop - f .start))) No) ≡ told-as (λ v. mk (v .0 .start) (length (v .0 .bytes))) (both (pick b (some (fieldIn base s f)) none) (some (tt {0})))
-    go true = ap (λ (n : ℕ). some (mk (base + f .start) n)) (sym (part-length s f w))
+    go : (b : Bool) → made-from (pick b (Is (mk (base + f .start) (length (part s f)))) No) ≡ told-as (λ v. mk (v .0 .start) (length (v .0 .bytes))) (both (pick b (some (fieldIn base s f)) none) (some (tt {0})))
+    go true = refl
     go false = refl
 
 numbers : (k : ℕ) (n : DN.Number) → made-from (numberMade k n) ≡ told-as (λ v. numberedOf k (v .0)) (both (number n) (some (tt {0})))
@@ -92,21 +82,21 @@ points (Triple.Is i) Degrees.No o = refl
 points Triple.No a o = refl
 
 -- ## Every kind
-module _ (base : ℕ) (s : Bytes) (f : Fields) (w : FieldsWithin s f) where
+module _ (base : ℕ) (s : Bytes) (f : Fields) where
   -- the statement of the values that `text` reads
   abbrev pub as-read : (k : Kind) → Option Statement
   as-read k = told-as (λ v. ofKind k (says-named stretch-of k (rndf-make k v))) (readAll (rndf-sorts k) (behind (word-at (kind-row k)) (listed base s f (needs-of (getD shapes (kind-row k) 0)))))
 
   pub made-is : (k : Kind) → made-from (madeOf s base f (kind-row k)) ≡ as-read k
   unfolding madeOf bareOf nameMade namedOf numberedOf pairedOf sidedOf read
-  made-is RNDF-name = names st.RndfName base s (f .b) (w .second)
+  made-is RNDF-name = names st.RndfName base s (f .b)
   made-is num-segments = numbers 1 (integerOf (part s (f .b)))
   made-is num-zones = numbers 2 (integerOf (part s (f .b)))
-  made-is format-version = names st.FormatVersion base s (f .b) (w .second)
-  made-is creation-date = names st.CreationDate base s (f .b) (w .second)
+  made-is format-version = names st.FormatVersion base s (f .b)
+  made-is creation-date = names st.CreationDate base s (f .b)
   made-is segment = numbers 5 (integerOf (part s (f .b)))
   made-is num-lanes = numbers 6 (integerOf (part s (f .b)))
-  made-is segment-name = names st.SegmentName base s (f .b) (w .second)
+  made-is segment-name = names st.SegmentName base s (f .b)
   made-is end-segment = refl
   made-is lane = pairs 9 (pairOf (part s (f .b)))
   made-is num-waypoints = numbers 10 (integerOf (part s (f .b)))
@@ -119,7 +109,7 @@ module _ (base : ℕ) (s : Bytes) (f : Fields) (w : FieldsWithin s f) where
   made-is end-lane = refl
   made-is zone = numbers 18 (integerOf (part s (f .b)))
   made-is num-spots = numbers 19 (integerOf (part s (f .b)))
-  made-is zone-name = names st.ZoneName base s (f .b) (w .second)
+  made-is zone-name = names st.ZoneName base s (f .b)
   made-is end-zone = refl
   made-is perimeter = pairs 22 (pairOf (part s (f .b)))
   made-is num-perimeterpoints = numbers 23 (integerOf (part s (f .b)))

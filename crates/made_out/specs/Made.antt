@@ -3,9 +3,9 @@ use mathlib.Core.Path.{_≡_}
 use mathlib.Core.List.{List, [], _∷_}
 use mathlib.Core.Option.{Option, none, some}
 use mathlib.Core.Bool.{Bool, true, false}
-use Prim.Native.Nat.{ℕ, _+_, _-_}
+use Prim.Native.Nat.{ℕ, _+_}
 use lib.ListN.{length, getD}
-use lib.Dec.{eqb}
+use lib.Dec.{eqb, ltb}
 use lib.IntN.{ℤ}
 use Rattle.terms.specs.Ascii.{Bytes}
 use Rattle.terms.specs.Words.{pick}
@@ -59,8 +59,8 @@ sidedOf k b = pick (eqb k 12) (st.LeftBoundary b) (st.RightBoundary b)
 abbrev pub id-of : NId.Id → Id
 id-of i = record { x = i .x; y = i .y; z = i .z }
 
-unfoldable pub nameMade : ℕ → ℕ → Span → Made
-nameMade k base f = pick (isNameLength (f .stop - f .start)) (Is (namedOf k (base + f .start) (f .stop - f .start))) No
+unfoldable pub nameMade : ℕ → ℕ → Bytes → Span → Made
+nameMade k base s f = pick (isNameLength (length (part s f))) (Is (namedOf k (base + f .start) (length (part s f)))) No
 
 abbrev pub numberMade : ℕ → DN.Number → Made
 numberMade k (Number.Is v) = Is (numberedOf k v)
@@ -97,7 +97,7 @@ pointMade Triple.No a o = No
 abbrev pub byShape : ℕ → Bytes → ℕ → Fields → ℕ → Made
 byShape shape s base f k =
     pick (eqb shape 0) (Is (bareOf k))
-    (pick (eqb shape 1) (nameMade k base (f .b))
+    (pick (eqb shape 1) (nameMade k base s (f .b))
     (pick (eqb shape 2) (numberMade k (integerOf (part s (f .b))))
     (pick (eqb shape 3) (pairMade k (pairOf (part s (f .b))))
     (pick (eqb shape 4) (sideMade k (boundary-number (part s (f .b))))
@@ -108,6 +108,14 @@ byShape shape s base f k =
 
 unfoldable pub madeOf : Bytes → ℕ → Fields → ℕ → Made
 madeOf s base f k = byShape (getD shapes k 0) s base f k
+
+-- ## As the program answers, which has an answer for every number: a row that is no kind has no fields, and nothing is made of it,
+-- nor of a line whose end does not fit into 32 bits (proofs/Whole: else it is the same)
+abbrev pub fieldsNeeded : ℕ → ℕ
+fieldsNeeded k = pick (ltb k 30) (needs-of (getD shapes k 0)) 0
+
+unfoldable pub madeWithin : Bytes → ℕ → Fields → ℕ → Made
+madeWithin s base f k = pick (ltb k 30) (pick (ltb (base + length s) 4294967296) (madeOf s base f k) No) No
 
 abbrev pub made-from : Made → Option Statement
 made-from (Is s) = some s

@@ -1,9 +1,9 @@
 -- Executable: the order that fields make, by the shape of its kind. Assumes nothing.
 use mathlib.Core.List.{List, [], _∷_}
 use mathlib.Core.Option.{Option, none, some}
-use Prim.Native.Nat.{ℕ, _+_, _-_}
-use lib.ListN.{getD}
-use lib.Dec.{eqb}
+use Prim.Native.Nat.{ℕ, _+_}
+use lib.ListN.{length, getD}
+use lib.Dec.{eqb, ltb}
 use Rattle.terms.specs.Ascii.{Bytes}
 use Rattle.terms.specs.Words.{pick}
 use Rattle.line.specs.Forms.{part}
@@ -32,8 +32,8 @@ namedOrder k a l = pick (eqb k 0) (or.MdfName a l) (pick (eqb k 1) (or.Rndf a l)
 unfoldable pub numberedOrder : ℕ → ℕ → Order
 numberedOrder k n = pick (eqb k 5) (or.NumCheckpoints n) (pick (eqb k 8) (or.NumSpeedLimits n) (or.Goal n))
 
-unfoldable pub nameOrdered : ℕ → ℕ → Span → MadeOrder
-nameOrdered k base f = pick (isNameLength (f .stop - f .start)) (Is (namedOrder k (base + f .start) (f .stop - f .start))) No
+unfoldable pub nameOrdered : ℕ → ℕ → Bytes → Span → MadeOrder
+nameOrdered k base s f = pick (isNameLength (length (part s f))) (Is (namedOrder k (base + f .start) (length (part s f)))) No
 
 abbrev pub numberOrdered : ℕ → DN.Number → MadeOrder
 numberOrdered k (Number.Is v) = Is (numberedOrder k v)
@@ -48,13 +48,20 @@ limitOrdered Number.No a b = No
 abbrev pub orderByShape : ℕ → Bytes → ℕ → Fields → ℕ → MadeOrder
 orderByShape shape s base f k =
     pick (eqb shape 0) (Is (bareOrder k))
-    (pick (eqb shape 1) (nameOrdered k base (f .b))
+    (pick (eqb shape 1) (nameOrdered k base s (f .b))
     (pick (eqb shape 2) (numberOrdered k (integerOf (part s (f .b))))
     (pick (eqb shape 3) (numberOrdered k (integerOf (part s (f .a))))
     (limitOrdered (integerOf (part s (f .a))) (integerOf (part s (f .b))) (integerOf (part s (f .c)))))))
 
 unfoldable pub orderMadeOf : Bytes → ℕ → Fields → ℕ → MadeOrder
 orderMadeOf s base f k = orderByShape (getD order-shapes k 0) s base f k
+
+-- as the program answers (see Made)
+abbrev pub orderFieldsNeeded : ℕ → ℕ
+orderFieldsNeeded k = pick (ltb k 13) (order-needs (getD order-shapes k 0)) 0
+
+unfoldable pub orderMadeWithin : Bytes → ℕ → Fields → ℕ → MadeOrder
+orderMadeWithin s base f k = pick (ltb k 13) (pick (ltb (base + length s) 4294967296) (orderMadeOf s base f k) No) No
 
 abbrev pub order-from : MadeOrder → Option Order
 order-from (Is s) = some s

@@ -1,5 +1,6 @@
 // The fields behind a keyword, made out as one statement of its kind; or a field is not of its kind (refusal 8).
 // A kind is its row in the table of places by statements. The fields are stretches of the line, which starts at `base` in the text.
+// Every input has an answer: nothing is made of a row that is no kind, nor of a line whose end does not fit into 32 bits; of a stretch, what the line has of it counts.
 //
 // specs/Made: what is made of the fields, by the shape of the kind. proofs/Ties: it is what `text` reads of the same fields.
 //
@@ -20,14 +21,15 @@ use statement::Order;
 use statement::Statement;
 use word::boundary_word;
 ghost use mathlib.Core.Path.{_≡_};
-ghost use Prim.Native.Nat.{_≤_, _<_, _+_};
+ghost use Prim.Native.Nat.{_<_, _+_};
 ghost use lib.ListN.{length, getD};
-ghost use Rattle.line.specs.Forms.{part, SpanWithin, FieldsWithin};
+ghost use lib.Dec.{ltb};
+ghost use Rattle.line.specs.Forms.{part};
 ghost use Rattle.number.specs.Executable.{integerOf, pairOf, tripleOf};
 ghost use Rattle.coordinate.specs.Executable.{coordinateOf};
 ghost use Rattle.word.specs.Number.{boundary-number};
-ghost use Rattle.made_out.specs.Made.{shapes, needs-of, bareOf, namedOf, numberedOf, pairedOf, sidedOf, nameMade, numberMade, pairMade, sideMade, checkpointMade, stopMade, exitMade, pointMade, madeOf};
-ghost use Rattle.made_out.specs.MadeOrders.{order-shapes, order-needs, bareOrder, namedOrder, numberedOrder, nameOrdered, numberOrdered, limitOrdered, orderMadeOf};
+ghost use Rattle.made_out.specs.Made.{shapes, fieldsNeeded, bareOf, namedOf, numberedOf, pairedOf, sidedOf, nameMade, numberMade, pairMade, sideMade, checkpointMade, stopMade, exitMade, pointMade, madeOf, madeWithin};
+ghost use Rattle.made_out.specs.MadeOrders.{order-shapes, orderFieldsNeeded, bareOrder, namedOrder, numberedOrder, nameOrdered, numberOrdered, limitOrdered, orderMadeOf, orderMadeWithin};
 
 // What the fields are, as one statement.
 pub enum Made {
@@ -139,62 +141,43 @@ fn sided(kind: u8, b: u8) -> Statement
     }
 }
 
-// A field's value, by its stretch of the line.
-fn integer_in(s: &[u8], f: Span) -> Number
-    requires { ⌜ SpanWithin (now s) f ⌝ }
-    ensures { λ r. ⌜ r ≡ integerOf (part (now (s .entry)) f) ⌝ }
+// A field, by its stretch: what the line has of it.
+fn field(s: &[u8], f: Span) -> &[u8]
+    ensures { λ r. ⌜ now r ≡ part (now (s .entry)) f ⌝ }
 {
     let a = f.start;
     let e = f.stop;
-    integer_of(&s[a..e])
+    if a < e {
+        if e <= s.len() {
+            return &s[a..e];
+        }
+        if a < s.len() {
+            return &s[a..];
+        }
+    }
+    &s[..0]
 }
 
-fn pair_in(s: &[u8], f: Span) -> Pair
-    requires { ⌜ SpanWithin (now s) f ⌝ }
-    ensures { λ r. ⌜ r ≡ pairOf (part (now (s .entry)) f) ⌝ }
+// A line's end fits into 32 bits.
+fn line_fits(base: usize, length: usize) -> bool
+    ensures { λ r. ⌜ r ≡ ltb (base + length) 4294967296 ⌝ }
 {
-    let a = f.start;
-    let e = f.stop;
-    pair_of(&s[a..e])
-}
-
-fn triple_in(s: &[u8], f: Span) -> Triple
-    requires { ⌜ SpanWithin (now s) f ⌝ }
-    ensures { λ r. ⌜ r ≡ tripleOf (part (now (s .entry)) f) ⌝ }
-{
-    let a = f.start;
-    let e = f.stop;
-    triple_of(&s[a..e])
-}
-
-fn coordinate_in(s: &[u8], f: Span) -> Degrees
-    requires { ⌜ SpanWithin (now s) f ⌝ }
-    ensures { λ r. ⌜ r ≡ coordinateOf (part (now (s .entry)) f) ⌝ }
-{
-    let a = f.start;
-    let e = f.stop;
-    coordinate_of(&s[a..e])
-}
-
-fn boundary_in(s: &[u8], f: Span) -> u8
-    requires { ⌜ SpanWithin (now s) f ⌝ }
-    ensures { λ r. ⌜ r ≡ boundary-number (part (now (s .entry)) f) ⌝ }
-{
-    let a = f.start;
-    let e = f.stop;
-    boundary_word(&s[a..e])
+    if length < 4294967296 {
+        base < 4294967296 - length
+    } else {
+        false
+    }
 }
 
 // The statement of each shape.
-fn name_made(kind: u8, base: usize, f: Span) -> Made
-    requires { ⌜ (f .start ≤ f .stop) × (base + f .stop < 4294967296) ⌝ }
-    ensures { λ r. ⌜ r ≡ nameMade kind base f ⌝ }
+fn name_made(kind: u8, base: usize, s: &[u8], f: Span) -> Made
+    requires { ⌜ base + length (now s) < 4294967296 ⌝ }
+    ensures { λ r. ⌜ r ≡ nameMade kind base (now (s .entry)) f ⌝ }
 {
-    let a = f.start;
-    let e = f.stop;
-    let n = e - a;
+    let name = field(s, f);
+    let n = name.len();
     if is_name_length(n) {
-        Made::Is(named(kind, (base + a) as u32, n as u32))
+        Made::Is(named(kind, (base + f.start) as u32, n as u32))
     } else {
         Made::No
     }
@@ -306,24 +289,26 @@ fn point_made(i: Triple, a: Degrees, o: Degrees) -> Made
     ))
 }
 
-// How many fields a line of the kind has, its keyword among them.
+// How many fields a line of the kind has, its keyword among them; none for a row that is no kind.
 pub fn fields_needed(kind: u8) -> u8
-    requires { ⌜ kind < 30 ⌝ }
-    ensures { λ r. ⌜ r ≡ needs-of (getD shapes kind 0) ⌝ }
+    ensures { λ r. ⌜ r ≡ fieldsNeeded kind ⌝ }
 {
-    let shape = shape_of(kind as usize);
-    match shape {
-        0 => 1,
-        5 => 3,
-        7 => 3,
-        8 => 3,
-        _ => 2,
+    if kind < 30 {
+        let shape = shape_of(kind as usize);
+        match shape {
+            0 => 1,
+            5 => 3,
+            7 => 3,
+            8 => 3,
+            _ => 2,
+        }
+    } else {
+        0
     }
 }
 
-// The statement that the fields of a line make, given that there are as many as its kind needs.
-pub fn made_out(s: &[u8], base: usize, f: Fields, kind: u8) -> Made
-    requires { ⌜ FieldsWithin (now s) f × (base + length (now s) < 4294967296) × (kind < 30) ⌝ }
+fn made_of_kind(s: &[u8], base: usize, f: Fields, kind: u8) -> Made
+    requires { ⌜ (base + length (now s) < 4294967296) × (kind < 30) ⌝ }
     ensures { λ r. ⌜ r ≡ madeOf (now (s .entry)) base f kind ⌝ }
 {
     let a = f.a;
@@ -332,15 +317,31 @@ pub fn made_out(s: &[u8], base: usize, f: Fields, kind: u8) -> Made
     let shape = shape_of(kind as usize);
     match shape {
         0 => Made::Is(bare(kind)),
-        1 => name_made(kind, base, b),
-        2 => number_made(kind, integer_in(s, b)),
-        3 => pair_made(kind, pair_in(s, b)),
-        4 => side_made(kind, boundary_in(s, b)),
-        5 => checkpoint_made(triple_in(s, b), integer_in(s, c)),
-        6 => stop_made(triple_in(s, b)),
-        7 => exit_made(triple_in(s, b), triple_in(s, c)),
-        _ => point_made(triple_in(s, a), coordinate_in(s, b), coordinate_in(s, c)),
+        1 => name_made(kind, base, s, b),
+        2 => number_made(kind, integer_of(field(s, b))),
+        3 => pair_made(kind, pair_of(field(s, b))),
+        4 => side_made(kind, boundary_word(field(s, b))),
+        5 => checkpoint_made(triple_of(field(s, b)), integer_of(field(s, c))),
+        6 => stop_made(triple_of(field(s, b))),
+        7 => exit_made(triple_of(field(s, b)), triple_of(field(s, c))),
+        _ => point_made(
+            triple_of(field(s, a)),
+            coordinate_of(field(s, b)),
+            coordinate_of(field(s, c)),
+        ),
     }
+}
+
+// The statement that the fields of a line make, given that there are as many as its kind needs.
+pub fn made_out(s: &[u8], base: usize, f: Fields, kind: u8) -> Made
+    ensures { λ r. ⌜ r ≡ madeWithin (now (s .entry)) base f kind ⌝ }
+{
+    if kind < 30 {
+        if line_fits(base, s.len()) {
+            return made_of_kind(s, base, f, kind);
+        }
+    }
+    Made::No
 }
 
 // ## Orders of an MDF
@@ -392,15 +393,14 @@ fn numbered_order(kind: u8, n: u32) -> Order
     }
 }
 
-fn name_ordered(kind: u8, base: usize, f: Span) -> MadeOrder
-    requires { ⌜ (f .start ≤ f .stop) × (base + f .stop < 4294967296) ⌝ }
-    ensures { λ r. ⌜ r ≡ nameOrdered kind base f ⌝ }
+fn name_ordered(kind: u8, base: usize, s: &[u8], f: Span) -> MadeOrder
+    requires { ⌜ base + length (now s) < 4294967296 ⌝ }
+    ensures { λ r. ⌜ r ≡ nameOrdered kind base (now (s .entry)) f ⌝ }
 {
-    let a = f.start;
-    let e = f.stop;
-    let n = e - a;
+    let name = field(s, f);
+    let n = name.len();
     if is_name_length(n) {
-        MadeOrder::Is(named_order(kind, (base + a) as u32, n as u32))
+        MadeOrder::Is(named_order(kind, (base + f.start) as u32, n as u32))
     } else {
         MadeOrder::No
     }
@@ -431,21 +431,23 @@ fn limit_ordered(i: Number, a: Number, b: Number) -> MadeOrder
 }
 
 pub fn order_fields_needed(kind: u8) -> u8
-    requires { ⌜ kind < 13 ⌝ }
-    ensures { λ r. ⌜ r ≡ order-needs (getD order-shapes kind 0) ⌝ }
+    ensures { λ r. ⌜ r ≡ orderFieldsNeeded kind ⌝ }
 {
-    let shape = order_shape(kind as usize);
-    match shape {
-        0 => 1,
-        3 => 1,
-        4 => 3,
-        _ => 2,
+    if kind < 13 {
+        let shape = order_shape(kind as usize);
+        match shape {
+            0 => 1,
+            3 => 1,
+            4 => 3,
+            _ => 2,
+        }
+    } else {
+        0
     }
 }
 
-// The order that the fields of a line make, given that there are as many as its kind needs.
-pub fn order_made_out(s: &[u8], base: usize, f: Fields, kind: u8) -> MadeOrder
-    requires { ⌜ FieldsWithin (now s) f × (base + length (now s) < 4294967296) × (kind < 13) ⌝ }
+fn order_of_kind(s: &[u8], base: usize, f: Fields, kind: u8) -> MadeOrder
+    requires { ⌜ (base + length (now s) < 4294967296) × (kind < 13) ⌝ }
     ensures { λ r. ⌜ r ≡ orderMadeOf (now (s .entry)) base f kind ⌝ }
 {
     let a = f.a;
@@ -454,9 +456,25 @@ pub fn order_made_out(s: &[u8], base: usize, f: Fields, kind: u8) -> MadeOrder
     let shape = order_shape(kind as usize);
     match shape {
         0 => MadeOrder::Is(bare_order(kind)),
-        1 => name_ordered(kind, base, b),
-        2 => number_ordered(kind, integer_in(s, b)),
-        3 => number_ordered(kind, integer_in(s, a)),
-        _ => limit_ordered(integer_in(s, a), integer_in(s, b), integer_in(s, c)),
+        1 => name_ordered(kind, base, s, b),
+        2 => number_ordered(kind, integer_of(field(s, b))),
+        3 => number_ordered(kind, integer_of(field(s, a))),
+        _ => limit_ordered(
+            integer_of(field(s, a)),
+            integer_of(field(s, b)),
+            integer_of(field(s, c)),
+        ),
     }
+}
+
+// The order that the fields of a line make, given that there are as many as its kind needs.
+pub fn order_made_out(s: &[u8], base: usize, f: Fields, kind: u8) -> MadeOrder
+    ensures { λ r. ⌜ r ≡ orderMadeWithin (now (s .entry)) base f kind ⌝ }
+{
+    if kind < 13 {
+        if line_fits(base, s.len()) {
+            return order_of_kind(s, base, f, kind);
+        }
+    }
+    MadeOrder::No
 }

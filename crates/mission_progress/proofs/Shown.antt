@@ -2,8 +2,9 @@
 -- Names are shown by their stretches, missing ones as 0, 0; numbers by the kinds, and every number in its kind's range is kept. Assumes nothing.
 use mathlib.Core.Path.{_≡_, refl}
 use mathlib.Core.Option.{Option, none, some}
-use Prim.Native.Nat.{ℕ, suc, _+_, _≤_}
+use Prim.Native.Nat.{ℕ, suc, _+_, _≤_, _<_}
 use native.Mathlib.Omega.{arith}
+use borrow.Author.Tests.{lt-leb}
 use Rattle.units.specs.Range.{Speed, Numbered, Identified}
 use Rattle.units.specs.Made.{mph, checkpointNumber, segmentId}
 use Rattle.units.proofs.Ranges.{mph-is, checkpoint-number-is, segment-id-is}
@@ -22,7 +23,7 @@ use Rattle.statement.specs.declared.Order.the-variants as o
 use Rattle.mission_progress.specs.declared.MissionProgress.{MissionProgress}
 use Rattle.mission_progress.specs.declared.MissionRow.{MissionRow}
 use Rattle.mission_progress.specs.declared.MissionRow.the-variants as M
-use Rattle.mission_progress.specs.Progress.{missingName, noneRead, total, fileAfterOf, goalRow, limitRow, missionRowOf, missionAfterOf}
+use Rattle.mission_progress.specs.Progress.{missingName, noneRead, total, fileAfterOf, goalRow, limitRow, missionRowOf, missionAfterOf, missionAfterWithin}
 
 -- ## What is shown
 abbrev pub shown-name : Stretch → Rows.Stretch
@@ -94,7 +95,13 @@ goal-kept b = rw (checkpoint-number-is b)
 pub limit-kept : (l : Limit) → Identified (l .id) → Speed (l .minimum) → Speed (l .maximum) → shown-limit l ≡ record { id = segmentId (l .id); minimum = mph (l .minimum); maximum = mph (l .maximum) }
 limit-kept l i a b = rw (segment-id-is i, mph-is a, mph-is b)
 
--- ## For a loop: one statement counts at most one row
+-- ## For a loop
+-- the program counts on as long as there is room for one row more
+pub counts : (s : Order) (p : MissionProgress) → total p < 4294967295 → missionAfterWithin s p ≡ missionAfterOf s p
+unfolding missionAfterWithin
+counts s p h = rw (lt-leb 4294967295 (total p) h)
+
+-- one statement counts at most one row
 pub grows : (s : Order) (p : MissionProgress) → total (missionAfterOf s p) ≤ total p + 1
 unfolding missionAfterOf missionRowOf
 grows (o.MdfName a l) p = omega arith

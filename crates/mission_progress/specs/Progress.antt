@@ -1,6 +1,8 @@
 -- Executable: what is known behind a statement of an MDF, and the row that it gives, over the program's types.
 -- That this is what `fill` says is a law (proofs/Shown.antt). Assumes nothing.
 use Prim.Native.Nat.{ℕ, _+_}
+use lib.Dec.{leb}
+use Rattle.terms.specs.Words.{pick}
 use Rattle.rows.specs.Read.{stretchOf}
 use Rattle.rows.specs.declared.Stretch.{Stretch}
 use Rattle.rows.specs.declared.MissionFileRow.{MissionFileRow}
@@ -70,3 +72,7 @@ counted (Row.Limit l) f p = record { file = f; goals = p .goals; limits = p .lim
 
 unfoldable pub missionAfterOf : Order → MissionProgress → MissionProgress
 missionAfterOf s p = counted (missionRowOf s) (fileAfterOf s (p .file)) p
+
+-- as the program counts: where one row more might not fit into 32 bits, nothing more is counted. No text that is read has so many rows (proofs/Shown.counts)
+unfoldable pub missionAfterWithin : Order → MissionProgress → MissionProgress
+missionAfterWithin s p = pick (leb 4294967295 (total p)) p (missionAfterOf s p)

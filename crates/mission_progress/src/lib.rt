@@ -18,9 +18,13 @@ use units::SegmentId;
 use units::SegmentIdRead;
 ghost use mathlib.Core.Path.{_≡_};
 ghost use Prim.Native.Nat.{_<_};
+ghost use lib.Dec.{leb};
 ghost use Rattle.rows.specs.Read.{stretchOf};
 ghost use Rattle.mission_progress.specs.Kinds.{goalNumber, limitId, limitSpeed};
-ghost use Rattle.mission_progress.specs.Progress.{noneRead, total, fileAfterOf, missionAfterOf, missionRowOf};
+ghost use Rattle.mission_progress.specs.Progress.{noneRead, total, fileAfterOf, missionAfterOf, missionAfterWithin, missionRowOf};
+
+// The number of rows from which on nothing more is counted. No text that is read has so many.
+const FULL: u32 = 4294967295;
 
 pub struct MissionProgress {
     pub file: MissionFileRow,
@@ -131,8 +135,21 @@ impl MissionProgress {
         }
     }
 
-    // Behind one more statement.
+    // Behind one more statement; the same as before it where one row more might not fit.
     pub fn after(self, o: Order) -> MissionProgress
+        ensures { λ r. ⌜ r ≡ missionAfterWithin o self ⌝ }
+    {
+        if self.is_full() { self } else { self.onward(o) }
+    }
+
+    // All rows together are as many as 32 bits hold.
+    fn is_full(self) -> bool
+        ensures { λ r. ⌜ r ≡ leb 4294967295 (total self) ⌝ }
+    {
+        FULL as usize <= self.goals as usize + self.limits as usize
+    }
+
+    fn onward(self, o: Order) -> MissionProgress
         requires { ⌜ total self < 4294967295 ⌝ }
         ensures { λ r. ⌜ r ≡ missionAfterOf o self ⌝ }
     {

@@ -1,7 +1,8 @@
 -- The running form agrees with the theory: a statement changes what is shown of a state, and gives what is shown of a row, as `fill` says; it adds at most one row. Assumes nothing.
 use mathlib.Core.Path.{_≡_, refl, ap}
-use Prim.Native.Nat.{ℕ, suc, _+_, _≤_}
+use Prim.Native.Nat.{ℕ, suc, _+_, _≤_, _<_}
 use native.Mathlib.Omega.{arith}
+use borrow.Author.Tests.{lt-leb}
 use Rattle.units.specs.Made.{feetOf, missingFeet, feet}
 use Rattle.grammar.specs.Statements.{Boundary, double-yellow, solid-yellow, solid-white, broken-white, Kind, Says, RNDF-name, num-segments, num-zones, format-version, creation-date, segment, num-lanes, segment-name, end-segment, lane, num-waypoints, lane-width, left-boundary, right-boundary, checkpoint, stop, exit, end-lane, zone, num-spots, zone-name, end-zone, perimeter, num-perimeterpoints, end-perimeter, spot, spot-width, end-spot, end-file, point}
 use Rattle.grammar.specs.Tables.{colour}
@@ -13,7 +14,7 @@ use Rattle.statement.specs.declared.Statement.the-variants as st
 use Rattle.statement.specs.Meaning.{Stretch, stretch, boundary}
 use Rattle.statement.specs.Kinds.{boundaryRow, ofKind}
 use Rattle.progress.specs.declared.Progress.{Progress}
-use Rattle.progress.specs.After.{widthOf, noProgress, total, afterOf, sideOf}
+use Rattle.progress.specs.After.{widthOf, noProgress, total, afterOf, afterWithin, sideOf}
 use Rattle.progress.specs.Given.{rowOf}
 use Rattle.progress.specs.Shown.{shown, shown-row, first-after, within-after}
 
@@ -205,6 +206,11 @@ row-shown end-file v s c f w start e = refl
 row-shown point v s c f w start e = refl
 
 -- ## Rows so far
+-- the program counts on as long as there is room for one row more
+pub counts : (s : Statement) (p : Progress) → total p < 4294967295 → afterWithin s p ≡ afterOf s p
+unfolding afterWithin
+counts s p h = rw (lt-leb 4294967295 (total p) h)
+
 -- no statement adds more than one row
 pub grows : (s : Statement) (p : Progress) → total (afterOf s p) ≤ total p + 1
 unfolding afterOf

@@ -1,6 +1,6 @@
 -- Executable: what a reader of an RNDF has so far, and what a statement changes in it, over the program's types. Assumes nothing.
 use Prim.Native.Nat.{ℕ, suc, _+_}
-use lib.Dec.{eqb}
+use lib.Dec.{eqb, leb}
 use Rattle.terms.specs.Words.{pick}
 use Rattle.grammar.specs.Tables.{first-spot}
 use Rattle.units.specs.Made.{feet, checkpointNumber, feetOf, checkpointNumberOf, missingFeet}
@@ -175,3 +175,7 @@ afterOf (st.SpotWidth n) p = with-spot (spotRow (p .spot .«first_point») (widt
 afterOf st.EndSpot p = with-spot noSpot (one-spot p)
 afterOf st.EndFile p = p
 afterOf (st.Point i a o) p = points-at (p .first) (suc (p .within)) p
+
+-- as the program counts: where one row more might not fit into 32 bits, nothing more is counted. No text that is read has so many rows (proofs/Shown.counts)
+unfoldable pub afterWithin : Statement → Progress → Progress
+afterWithin s p = pick (leb 4294967295 (total p)) p (afterOf s p)

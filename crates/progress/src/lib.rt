@@ -22,8 +22,9 @@ use units::Feet;
 use units::FeetRead;
 ghost use mathlib.Core.Path.{_≡_};
 ghost use Prim.Native.Nat.{pred, _<_};
+ghost use lib.Dec.{leb};
 ghost use Rattle.grammar.specs.Tables.{first-spot};
-ghost use Rattle.progress.specs.After.{named, noName, segmentRow, laneRow, zoneRow, spotRow, noSegment, noLane, noZone, noSpot, noProgress, total, widthOf, numberOf, sideOf, counted, afterOf};
+ghost use Rattle.progress.specs.After.{named, noName, segmentRow, laneRow, zoneRow, spotRow, noSegment, noLane, noZone, noSpot, noProgress, total, widthOf, numberOf, sideOf, counted, afterOf, afterWithin};
 ghost use Rattle.progress.specs.Given.{pointOf, rowOf};
 
 // The columns of the kinds that give a row to a table, as `Statement::kind` tells them.
@@ -41,7 +42,7 @@ const END_ZONE: u8 = 21;
 
 const END_SPOT: u8 = 27;
 
-// What stands for a row of the points that does not fit into 32 bits. No text that is accepted has one.
+// What stands for a row of the points that does not fit into 32 bits, and the number of rows from which on nothing more is counted. No text that is accepted has so many.
 const LAST_ROW: u32 = 4294967295;
 
 pub struct Progress {
@@ -79,7 +80,7 @@ pub enum Row {
 }
 
 // The width that a number is; a number that is none counts as missing.
-pub fn feet(n: u32) -> Feet
+fn feet(n: u32) -> Feet
     ensures { λ r. ⌜ r ≡ widthOf n ⌝ }
 {
     match Feet::new(n) {
@@ -89,7 +90,7 @@ pub fn feet(n: u32) -> Feet
 }
 
 // The checkpoint number that a number is; one that is none counts as 0, which no checkpoint has.
-pub fn checkpoint_number(n: u32) -> CheckpointNumber
+fn checkpoint_number(n: u32) -> CheckpointNumber
     ensures { λ r. ⌜ r ≡ numberOf n ⌝ }
 {
     match CheckpointNumber::new(n) {
@@ -244,8 +245,26 @@ impl Progress {
         }
     }
 
-    // What there is behind a statement.
+    // What there is behind a statement; the same as before it where one row more might not fit.
     pub fn after(self, s: Statement) -> Progress
+        ensures { λ r. ⌜ r ≡ afterWithin s self ⌝ }
+    {
+        if self.is_full() { self } else { self.onward(s) }
+    }
+
+    // All rows together are as many as 32 bits hold.
+    fn is_full(self) -> bool
+        ensures { λ r. ⌜ r ≡ leb 4294967295 (total self) ⌝ }
+    {
+        let parts = self.segments as usize
+            + self.lanes as usize
+            + self.zones as usize
+            + self.spots as usize;
+        let lines = parts + self.checkpoints as usize + self.stops as usize + self.exits as usize;
+        LAST_ROW as usize <= lines + self.first as usize + self.within as usize
+    }
+
+    fn onward(self, s: Statement) -> Progress
         requires { ⌜ total self < 4294967295 ⌝ }
         ensures { λ r. ⌜ r ≡ afterOf s self ⌝ }
     {

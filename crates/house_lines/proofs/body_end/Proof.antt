@@ -12,19 +12,19 @@ use Rattle.house_lines.proofs.body_end.Tie as tie
 trimmed-requires : tie.Need-trimmed-requires
 trimmed-requires c κs = tt
 
-slice-aggregate-scan : tie.Need-slice-aggregate-scan
-slice-aggregate-scan c =
+slice-aggregate-two-from : tie.Need-slice-aggregate-two-from
+slice-aggregate-two-from c =
     let s = c .before .before .before .args .line .now in
     sym (length-take-le (c .before .trimmed .result) s (rw (c .before .trimmed .ensures) (trim-le s)))
 
-scan-requires : tie.Need-scan-requires
-scan-requires c κs = tt
+two-from-requires : tie.Need-two-from-requires
+two-from-requires c κs = tt
 
 returns : tie.Need-returns
 unfolding bodyEnd
 returns c =
     let s = c .before .before .before .before .args .line .now in
-    rw (← (c .before .before .trimmed .ensures)) (c .scan .ensures ∙ from-start opens (take (c .before .before .trimmed .result) s))
+    rw (← (c .before .before .trimmed .ensures)) (c .two-from .ensures ∙ from-start opens (take (c .before .before .trimmed .result) s))
 
 pub body-end-spec : {M : Type 1} → statement M
-body-end-spec = tie.close (tie.spec trimmed-requires slice-aggregate-scan scan-requires returns)
+body-end-spec = tie.close (tie.spec trimmed-requires slice-aggregate-two-from two-from-requires returns)

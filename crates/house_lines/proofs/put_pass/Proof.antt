@@ -26,21 +26,21 @@ abbrev μ-loop : tie.MeasureT-loop
 loop-holds : tie.Need-loop-holds Inv-loop μ-loop
 loop-holds c = (refl, refl)
 
-scan-requires : tie.Need-scan-requires Inv-loop μ-loop
-scan-requires c κs = tt
+far-byte-from-requires : tie.Need-far-byte-from-requires Inv-loop μ-loop
+far-byte-from-requires c κs = tt
 
 sub-said-on : tie.Need-sub-said-on Inv-loop μ-loop
-sub-said-on c = omega (arith, c .scan .ensures)
+sub-said-on c = omega (arith, c .far-byte-from .ensures)
 
 part-said-on-start : tie.Need-part-said-on-start Inv-loop μ-loop
-part-said-on-start c = omega (arith, c .scan .ensures)
+part-said-on-start c = omega (arith, c .far-byte-from .ensures)
 
 part-said-on-end : tie.Need-part-said-on-end Inv-loop μ-loop
 part-said-on-end c =
     let s = c .before .before .before .before .before .args .text .now in
     let l = c .before .before .loop in
     let k = reach-le (stopsBy (Byte 10)) s (l .start) (omega arith) in
-    omega (arith, c .scan .ensures, k)
+    omega (arith, c .far-byte-from .ensures, k)
 
 said-on-requires : tie.Need-said-on-requires Inv-loop μ-loop
 said-on-requires c κs = tt
@@ -52,47 +52,47 @@ returns : tie.Need-returns Inv-loop μ-loop
 returns c =
     let s = c .before .before .before .before .before .before .before .before .before .args .text .now in
     let l = c .before .before .before .before .before .before .loop in
-    let e = c .before .before .before .before .scan in
+    let e = c .before .before .before .before .far-byte-from in
     is-over (l .inv .1) (pass-ends s (l .start) (e .result) (omega arith) (e .ensures) (c .before .before .before .before .before .before .before .before .before .args .rank) (sym (ap (λ (r : Said). r .rank) (c .before .before .said-on .ensures)) ∙ c .if1 .taken))
 
 sub-put-ranked : tie.Need-sub-put-ranked Inv-loop μ-loop
-sub-put-ranked c = omega (arith, c .before .before .before .before .scan .ensures)
+sub-put-ranked c = omega (arith, c .before .before .before .before .far-byte-from .ensures)
 
 part-put-ranked-start : tie.Need-part-put-ranked-start Inv-loop μ-loop
-part-put-ranked-start c = omega (arith, c .before .before .before .before .scan .ensures)
+part-put-ranked-start c = omega (arith, c .before .before .before .before .far-byte-from .ensures)
 
 part-put-ranked-end : tie.Need-part-put-ranked-end Inv-loop μ-loop
 part-put-ranked-end c =
     let s = c .before .before .before .before .before .before .before .before .before .args .text .now in
     let l = c .before .before .before .before .before .before .loop in
     let k = reach-le (stopsBy (Byte 10)) s (l .start) (omega arith) in
-    omega (arith, c .before .before .before .before .scan .ensures, k)
+    omega (arith, c .before .before .before .before .far-byte-from .ensures, k)
 
 put-ranked-requires : tie.Need-put-ranked-requires Inv-loop μ-loop
 put-ranked-requires c κs =
     let s = c .before .before .before .before .before .before .before .before .before .before .before .args .text .now in
     let f = c .before .before .before .before .before .before .before .before .loop .start in
-    rw (c .before .before .before .before .said-on .ensures) (said-within (take (c .before .before .before .before .before .before .scan .result - f) (drop f s)))
+    rw (c .before .before .before .before .said-on .ensures) (said-within (take (c .before .before .before .before .before .before .far-byte-from .result - f) (drop f s)))
 
 add-start : tie.Need-add-start Inv-loop μ-loop
 add-start c =
     let s = c .before .before .before .before .before .before .before .before .before .before .before .before .before .before .args .text .now in
     let l = c .before .before .before .before .before .before .before .before .before .before .before .loop in
     let k = reach-le (stopsBy (Byte 10)) s (l .start) (omega arith) in
-    omega (arith, c .before .before .before .before .before .before .before .before .before .scan .ensures, k)
+    omega (arith, c .before .before .before .before .before .before .before .before .before .far-byte-from .ensures, k)
 
 loop-less : tie.Need-loop-less Inv-loop μ-loop
 loop-less c =
     let s = c .before .before .before .before .before .before .before .before .before .before .before .before .before .before .args .text .now in
     let l = c .before .before .before .before .before .before .before .before .before .before .before .loop in
     let k = reach-le (stopsBy (Byte 10)) s (l .start) (omega arith) in
-    omega (arith, c .before .before .before .before .before .before .before .before .before .scan .ensures, k)
+    omega (arith, c .before .before .before .before .before .before .before .before .before .far-byte-from .ensures, k)
 
 loop-again : tie.Need-loop-again Inv-loop μ-loop
 loop-again c =
     let a = c .before .before .before .before .before .before .before .before .before .before .before .before .before .before .args in
     let l = c .before .before .before .before .before .before .before .before .before .before .before .loop in
-    let e = c .before .before .before .before .before .before .before .before .before .scan in
+    let e = c .before .before .before .before .before .before .before .before .before .far-byte-from in
     let said = c .before .before .before .before .before .before .before .said-on in
     let put-it = c .before .before .put-ranked in
     let more = pass-step (a .text .now) (l .start) (e .result) (c .before .before .before .before .before .before .before .before .before .before .loop-test .taken) (e .ensures) (a .rank) (c .before .before .before .before .before .before .before .before .before .before .before .before .before .before .pre) (said .result) (said .ensures) (c .before .before .before .before .before .if1 .left) in
@@ -112,7 +112,7 @@ put-pass-spec =
     Inv-loop
     μ-loop
     loop-holds
-    scan-requires
+    far-byte-from-requires
     sub-said-on
     part-said-on-start
     part-said-on-end

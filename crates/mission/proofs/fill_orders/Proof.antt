@@ -11,6 +11,7 @@ use Rattle.scan.specs.Reach.{stopsBy}
 use Rattle.mission_place.specs.Step.{overOf}
 use Rattle.mission_judge.specs.MdfLine.{mdf-judging}
 use Rattle.mission_progress.specs.Progress.{noneRead, total}
+use Rattle.mission_progress.proofs.Shown.{counts}
 use Rattle.walk.specs.Standing.{place}
 use Rattle.refusal.proofs.Sized.{too-long, not-too-long}
 use Rattle.walk.proofs.Cutting.{at-end}
@@ -127,12 +128,12 @@ loop-again c =
     let o = a-line put (made .result) (made .ensures) s (omega (arith, l .inv .6)) (l .from) (scanned .result) (omega arith) (scanned .ensures) (l .place) (memory (l .gained) (l .goals) (l .limits)) (l .line) (judged .result) (judged .ensures) in
     ⊎-elim
     (λ w. (omega arith, omega arith, rw (w .5) (omega (arith, l .inv .2)), rw (w .2, w .3, w .4, w .5) (sym (rw (w .1 .given .1) at o) ∙ l .inv .3), rw (w .2) (l .inv .4), rw (w .3) (l .inv .5), l .inv .6))
-    (λ w. (
+    (λ w. let room = counts (w .1 .given .0 .0) (l .gained) (omega (arith, l .inv .0, l .inv .1, l .inv .2, l .inv .6)) in (
       omega arith,
       omega arith,
-      one-more _ (l .gained) _ (l .line) (w .15 ∙ w .11 .ensures) (l .inv .2),
+      one-more _ (l .gained) _ (l .line) (w .15 ∙ w .11 .ensures ∙ room) (l .inv .2),
       ap (λ (m : MissionMemory). rest put s (c .match .place) m (scanned .result + 1) (l .line + 1))
-          (put-so (place (l .from) (l .line)) _ (l .gained) (c .match .gained) (w .5 .result) (l .goals) (l .limits) (c .match .goals) (c .match .limits) (w .5 .ensures) (rw (w .12, w .13) (w .6 .ensures)) (w .15 ∙ w .11 .ensures))
+          (put-so (place (l .from) (l .line)) _ (l .gained) (c .match .gained) (w .5 .result) (l .goals) (l .limits) (c .match .goals) (c .match .limits) (w .5 .ensures) (rw (w .12, w .13) (w .6 .ensures)) (w .15 ∙ w .11 .ensures ∙ room))
           ∙ rw (w .14) (sym (rw (w .1 .given .1) at o) ∙ l .inv .3),
       rw (w .12) (w .6 .kept .0 ∙ l .inv .4),
       rw (w .13) (w .6 .kept .1 .0 ∙ l .inv .5),

@@ -11,6 +11,7 @@ use Rattle.place.specs.declared.Place.{Place}
 use Rattle.place.specs.Step.{overOf}
 use Rattle.judge.specs.RndfLine.{rndf-judging}
 use Rattle.progress.specs.After.{total, noProgress}
+use Rattle.progress.proofs.Shown.{counts}
 use Rattle.walk.specs.Standing.{place}
 use Rattle.refusal.proofs.Sized.{too-long, not-too-long}
 use Rattle.walk.proofs.Cutting.{at-end}
@@ -87,7 +88,7 @@ store-requires : tie.Need-store-requires Inv-loop μ-loop
 store-requires c κs = search needs
 
 after-requires : tie.Need-after-requires Inv-loop μ-loop
-after-requires c κs = let A = c .before .before .before .before .before .before .before .before .before .before .before .before .before .before .before .before .before .before .before .before .before .before .before .before .before .before .before .before .before .before .before .before .before .before .before .before .before .before .before .before .before .before .before .before .before .before .args in let s = A .text .now in let l = c .before .before .before .before .before .before .before .before .before .before .before .before .before .before .before .before .before .before .before .before .before .before .before .before .before .before .before .before .before .before .before .before .before .loop in let pre = l .inv .5 in omega (arith, pre, l .inv .0, l .inv .1, l .inv .2)
+after-requires c κs = tt
 
 enum-known-v-2 : tie.Need-enum-known-v-2 Inv-loop μ-loop
 enum-known-v-2 c = search needs
@@ -138,10 +139,10 @@ loop-again c = let A = c .before .before .before .before .before .before .before
       ap₂ (λ (q : Place) (m : Memory). rest put s q m (c .before .before .before .before .far-byte-from .result + 1) (l .line + 1)) (w .10) same ∙ sym (rw (w .1 .given .1) at o) ∙ l .inv .4,
       l .inv .5,
     ))
-    (λ w. let same : (memory (c .match .gained) (c .match .segments) (c .match .lanes) (c .match .zones) (c .match .spots) (c .match .points) (c .match .checkpoints) (c .match .stops) (c .match .exits)) ≡ put (place (l .from) (l .line)) (w .1 .given .0 .0) (memory (l .gained) (l .segments) (l .lanes) (l .zones) (l .spots) (l .points) (l .checkpoints) (l .stops) (l .exits)) = (λ i. memory (w .38 i) (w .29 i) (w .30 i) (w .31 i) (w .32 i) (w .33 i) (w .34 i) (w .35 i) (w .36 i)) ∙ stepped (w .1 .given .0 .0) (w .11 .result) (l .from) (l .line) (w .28 .result) (memory (l .gained) (l .segments) (l .lanes) (l .zones) (l .spots) (l .points) (l .checkpoints) (l .stops) (l .exits)) _ (w .12 .ensures) (w .11 .ensures) (w .28 .ensures) in (
+    (λ w. let room = counts (w .1 .given .0 .0) (l .gained) (omega (arith, pre, l .inv .0, l .inv .1, l .inv .2)) in let same : (memory (c .match .gained) (c .match .segments) (c .match .lanes) (c .match .zones) (c .match .spots) (c .match .points) (c .match .checkpoints) (c .match .stops) (c .match .exits)) ≡ put (place (l .from) (l .line)) (w .1 .given .0 .0) (memory (l .gained) (l .segments) (l .lanes) (l .zones) (l .spots) (l .points) (l .checkpoints) (l .stops) (l .exits)) = (λ i. memory (w .38 i) (w .29 i) (w .30 i) (w .31 i) (w .32 i) (w .33 i) (w .34 i) (w .35 i) (w .36 i)) ∙ stepped (w .1 .given .0 .0) (w .11 .result) (l .from) (l .line) (w .28 .result) (memory (l .gained) (l .segments) (l .lanes) (l .zones) (l .spots) (l .points) (l .checkpoints) (l .stops) (l .exits)) _ (w .12 .ensures) (w .11 .ensures) (w .28 .ensures ∙ room) in (
       omega arith,
       omega arith,
-      grown _ _ _ (l .line) (w .38 ∙ w .28 .ensures) (l .inv .2),
+      grown _ _ _ (l .line) (w .38 ∙ w .28 .ensures ∙ room) (l .inv .2),
       ap lengths same ∙ put-long _ _ _ ∙ l .inv .3,
       ap₂ (λ (q : Place) (m : Memory). rest put s q m (c .before .before .before .before .far-byte-from .result + 1) (l .line + 1)) (w .37) same ∙ sym (rw (w .1 .given .1) at o) ∙ l .inv .4,
       l .inv .5,

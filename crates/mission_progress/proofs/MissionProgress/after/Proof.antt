@@ -1,38 +1,30 @@
 -- `mission_progress::MissionProgress::after` meets its contract. Assumes nothing.
-use Rattle.mission_progress.specs.Progress.{missionRowOf, missionAfterOf}
-use Rattle.mission_progress.proofs.Rest.{no-row}
+use mathlib.Core.Path.{_≡_, sym, _∙_}
+use mathlib.Core.Bool.{true, false}
+use lib.Dec.{leb}
 use borrow.Author.Needs.{needs}
+use borrow.Author.Tests.{leb-false}
+use Rattle.mission_progress.specs.Progress.{total, missionAfterWithin}
 use Rattle.mission_progress.proofs.MissionProgress.after.Statement.{statement}
 use Rattle.mission_progress.proofs.MissionProgress.after.Tie as tie
 
-file-after-requires : tie.Need-file-after-requires
-file-after-requires c κs = search needs
+is-full-requires : tie.Need-is-full-requires
+is-full-requires c κs = search needs
 
-enum-told : tie.Need-enum-told
-enum-told c = search needs
-
-add-t6 : tie.Need-add-t6
-add-t6 c = search needs
-
-enum-told-2 : tie.Need-enum-told-2
-enum-told-2 c = search needs
-
-add-t7 : tie.Need-add-t7
-add-t7 c = search needs
+onward-requires : tie.Need-onward-requires
+onward-requires c κs = leb-false 4294967295 (total (c .before .before .args .self)) (sym (c .before .is-full .ensures) ∙ c .if1 .left)
 
 returns : tie.Need-returns
-unfolding missionAfterOf missionRowOf
-returns c = rw (c .before .before .before .file-after .ensures, c .before .enum-told .given .1)
+unfolding missionAfterWithin
+returns c =
+    let e : leb 4294967295 (total (c .before .before .args .self)) ≡ true = sym (c .before .is-full .ensures) ∙ c .if1 .taken in
+    rw e
 
 returns-2 : tie.Need-returns-2
-unfolding missionAfterOf missionRowOf
-returns-2 c = rw (c .before .before .before .file-after .ensures, c .before .enum-told2 .given .1)
-
-returns-3 : tie.Need-returns-3
-unfolding missionAfterOf missionRowOf
-returns-3 c = rw (c .before .file-after .ensures, no-row (c .before .before .before .args .o) (c .match .keys3))
+unfolding missionAfterWithin
+returns-2 c =
+    let e : leb 4294967295 (total (c .before .before .before .args .self)) ≡ false = sym (c .before .before .is-full .ensures) ∙ c .before .if1 .left in
+    rw e (c .onward .ensures)
 
 pub after-spec : {M : Type 1} → statement M
-after-spec =
-    tie.close
-    (tie.spec file-after-requires enum-told add-t6 enum-told-2 add-t7 returns returns-2 returns-3)
+after-spec = tie.close (tie.spec is-full-requires onward-requires returns returns-2)
