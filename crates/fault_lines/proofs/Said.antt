@@ -16,7 +16,8 @@ use Rattle.text.specs.Said.{Said}
 use Rattle.text.specs.Spelling.{SpellsLine, SpellsLines, done, blank-line, statement}
 use Rattle.walk.specs.Standing.{standing, places-in}
 use Rattle.walk.proofs.SeenLaws.{line-at}
-use Rattle.fault_lines.specs.FaultLines.{taken-by, SaysAt}
+use Rattle.form_faults.specs.FormFaults.{behind}
+use Rattle.fault_lines.specs.FaultLines.{SaysAt}
 use Rattle.fault_lines.proofs.LineOne.{Clear}
 
 pub some-is : {A : Type 0} {a b : A} → some a ≡ some b → a ≡ b
@@ -61,16 +62,16 @@ module _ {L : Lang} {line-of : (k : L .Kind) → L .Pay k → List Said} (C : Cl
     is : ls ≡ before ++ (this ∷ rest)
     number : w ≡ i + length before
     said : SpellsLines line-of start before front
-    says : SpellsLine line-of (start + taken-by before) this (some x)
+    says : SpellsLine line-of (start + behind before) this (some x)
 
   there : {start : ℕ} {ls : List Bytes} {ss : List (S L)} → SpellsLines line-of start ls ss → (i : ℕ) (front : List (S L)) (x : S L) (r : List (S L)) → ss ≡ front ++ (x ∷ r)
       → There start i ls front x (line-at (standing start i ls) (length front))
-  unfolding standing taken-by
+  unfolding standing behind
   there done i [] x r e = absurd (nil≢cons e)
   there done i (f ∷ front) x r e = absurd (nil≢cons e)
   there (blank-line {start = a} {line = l} {lines = ls} h s) i front x r e =
       let t = there s (suc i) front x r e in
-      let z : a + suc (length l) + taken-by (t .before) ≡ a + (suc (length l) + taken-by (t .before)) = omega arith in
+      let z : a + suc (length l) + behind (t .before) ≡ a + (suc (length l) + behind (t .before)) = omega arith in
       let n = t .number in
       record {
         before = l ∷ t .before;
@@ -92,7 +93,7 @@ module _ {L : Lang} {line-of : (k : L .Kind) → L .Pay k → List Said} (C : Cl
   }
   there (statement {start = a} {line = l} {lines = ls} {s = y} h s) i (f ∷ front) x r e =
       let t = there s (suc i) front x r (tail-eq-of-cons-eq e) in
-      let z : a + suc (length l) + taken-by (t .before) ≡ a + (suc (length l) + taken-by (t .before)) = omega arith in
+      let z : a + suc (length l) + behind (t .before) ≡ a + (suc (length l) + behind (t .before)) = omega arith in
       let n = t .number in
       record {
         before = l ∷ t .before;
@@ -107,22 +108,22 @@ module _ {L : Lang} {line-of : (k : L .Kind) → L .Pay k → List Said} (C : Cl
   Behind : (start i : ℕ) (before : List Bytes) (this : Bytes) (rest : List Bytes) (ss front : List (S L)) (x : S L) → Type 0
   Behind start i before this rest ss front x = (r : List (S L)) × (ss ≡ front ++ (x ∷ r)) × (i + length before ≡ line-at (standing start i (before ++ (this ∷ rest))) (length front))
 
-  only : {start : ℕ} {before : List Bytes} {front : List (S L)} → SpellsLines line-of start before front → (this : Bytes) (rest : List Bytes) (i : ℕ) (x : S L) → SpellsLine line-of (start + taken-by before) this (some x)
+  only : {start : ℕ} {before : List Bytes} {front : List (S L)} → SpellsLines line-of start before front → (this : Bytes) (rest : List Bytes) (i : ℕ) (x : S L) → SpellsLine line-of (start + behind before) this (some x)
       → {ss : List (S L)} → SpellsLines line-of start (before ++ (this ∷ rest)) ss → Behind start i before this rest ss front x
-  unfolding standing taken-by Behind
+  unfolding standing behind Behind
   only {start} done this rest i x g (blank-line h s) = not-blank h (rw add-zero at g)
   only {start} done this rest i x g (statement {s = y} {said = us} h s) =
       let e : y ≡ x = same h (rw add-zero at g) in
       (us, ap (λ (y : S L). y ∷ us) e, rw (C .speaking start this (some y) h) (add-zero i))
   only (blank-line {start = a} {line = l} {lines = ls} h s) this rest i x g (blank-line h′ t) =
-      let z : a + (suc (length l) + taken-by ls) ≡ a + suc (length l) + taken-by ls = omega arith in
+      let z : a + (suc (length l) + behind ls) ≡ a + suc (length l) + behind ls = omega arith in
       let o = only s this rest (suc i) x (subst (λ (n : ℕ). SpellsLine line-of n this (some x)) z g) t in
       let n = o .2 in
       (o .0, o .1, rw (C .speaking a l none h) (omega arith))
   only (blank-line h s) this rest i x g (statement h′ t) = not-blank h h′
   only (statement h s) this rest i x g (blank-line h′ t) = not-blank h′ h
   only (statement {start = a} {line = l} {lines = ls} {s = y} {said = front} h s) this rest i x g (statement {s = y′} {said = us} h′ t) =
-      let z : a + (suc (length l) + taken-by ls) ≡ a + suc (length l) + taken-by ls = omega arith in
+      let z : a + (suc (length l) + behind ls) ≡ a + suc (length l) + behind ls = omega arith in
       let o = only s this rest (suc i) x (subst (λ (n : ℕ). SpellsLine line-of n this (some x)) z g) t in
       let n = o .2 in
       let e : y′ ≡ y = same h′ h in
@@ -141,7 +142,7 @@ module _ {L : Lang} {line-of : (k : L .Kind) → L .Pay k → List Said} (C : Cl
     pub says-at : (front : List (S L)) (x : S L) (r : List (S L)) → ss ≡ front ++ (x ∷ r) → SaysAt line-of text (line-at (places-in text) (length front)) front x
     says-at front x r e =
         let t = there all 1 front x r e in
-        let z : 0 + taken-by (t .before) ≡ taken-by (t .before) = omega arith in
+        let z : 0 + behind (t .before) ≡ behind (t .before) = omega arith in
         let n = t .number in
         record {
           before = t .before;
@@ -157,7 +158,7 @@ module _ {L : Lang} {line-of : (k : L .Kind) → L .Pay k → List Said} (C : Cl
     pub says-only : (i : ℕ) (front : List (S L)) (x : S L) → SaysAt line-of text i front x → (r : List (S L)) × (ss ≡ front ++ (x ∷ r)) × (i ≡ line-at (places-in text) (length front))
     unfolding Behind
     says-only i front x s =
-        let z : taken-by (s .before) ≡ 0 + taken-by (s .before) = omega arith in
+        let z : behind (s .before) ≡ 0 + behind (s .before) = omega arith in
         let same-lines = cut-is (s .cut) in
         let o = only (s .said) (s .this) (s .rest) 1 x (subst (λ (n : ℕ). SpellsLine line-of n (s .this) (some x)) z (s .says)) (subst (λ (ls : List Bytes). SpellsLines line-of 0 ls ss) same-lines all) in
         let n = s .number in
@@ -173,5 +174,5 @@ module _ {L : Lang} {line-of : (k : L .Kind) → L .Pay k → List Said} (C : Cl
       let p = o .0 in
       let q = o .1 in (
         lines-one (subst (λ (b : List Bytes). SpellsLines line-of 0 b front) p (s .said)) (t .said),
-        same (subst (λ (l : Bytes). SpellsLine line-of (taken-by (t .before)) l (some x)) q (subst (λ (b : List Bytes). SpellsLine line-of (taken-by b) (s .this) (some x)) p (s .says))) (t .says),
+        same (subst (λ (l : Bytes). SpellsLine line-of (behind (t .before)) l (some x)) q (subst (λ (b : List Bytes). SpellsLine line-of (behind b) (s .this) (some x)) p (s .says))) (t .says),
       )

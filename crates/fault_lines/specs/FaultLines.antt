@@ -1,8 +1,8 @@
 -- Which line of a text is the first at fault with a number of 12 to 18. Document 01, "Refusal numbers": "then the first line with 12 or 13. Then the MDF likewise, 14 to 18 by first line, 16 before 17". Assumes nothing.
 use mathlib.Core.Path.{_≡_}
-use mathlib.Core.List.{List, [], _∷_, _++_}
+use mathlib.Core.List.{List, _∷_, _++_}
 use mathlib.Core.Option.{some}
-use Prim.Native.Nat.{ℕ, suc, _+_, _<_}
+use Prim.Native.Nat.{ℕ, suc, _<_}
 use lib.ListN.{length}
 use Rattle.terms.specs.Ascii.{Bytes}
 use Rattle.line.specs.Text.{Cut}
@@ -16,11 +16,7 @@ use Rattle.text.specs.Spelling.{SpellsLine, SpellsLines}
 use Rattle.text.specs.RndfLines.{rndf-line}
 use Rattle.text.specs.MdfLines.{mdf-line}
 use Rattle.fill.specs.Faults.{ReferenceFault, MissionFault}
-
--- how many bytes of a text lines take, each with the LF behind it: where the next one starts
-unfoldable pub taken-by : List Bytes → ℕ
-taken-by [] = 0
-taken-by (line ∷ lines) = suc (length line) + taken-by lines
+use Rattle.form_faults.specs.FormFaults.{behind}
 
 -- for a file whose statements have these fields
 module _ {Kind : Type 0} {Pay : Kind → Type 0} (line-of : (k : Kind) → Pay k → List Said) where
@@ -32,7 +28,7 @@ module _ {Kind : Type 0} {Pay : Kind → Type 0} (line-of : (k : Kind) → Pay k
     pub cut : Cut text (before ++ (this ∷ rest))
     pub number : i ≡ suc (length before)
     pub said : SpellsLines line-of 0 before front
-    pub says : SpellsLine line-of (taken-by before) this (some x)
+    pub says : SpellsLine line-of (behind before) this (some x)
 
   -- `F front x k`: the statement x, behind the statements `front`, is at fault with number k (fill/specs/Faults: ReferenceFault, MissionFault)
   module _ (F : List (Stmt Kind Pay) → Stmt Kind Pay → ℕ → Type 0) where

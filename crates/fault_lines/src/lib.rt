@@ -7,4 +7,4 @@
 //   Ties: the first line at fault is that of the first statement at fault (`fill`); it is one; no line is at fault where no statement is.
 //   RndfFaults: 12 and 13 by the first rows at fault, on the lines that `find_line` finds. MdfFaults: 14 to 18 likewise; it rests on Places, MissionOrder, MissionFaults.
 //
-// Rests on `find_line`, `walk`, `fill`, `text` and what they rest on.
+// Rests on `find_line`, `walk`, `fill`, `form_faults` (where a line starts), `text` and what they rest on.

@@ -14,7 +14,8 @@ use Rattle.law.specs.Faults as Law
 use Rattle.grammar.specs.Language.{Lang, S}
 use Rattle.text.specs.Said.{Said}
 use Rattle.text.specs.Spelling.{SpellsLine, SpellsLines, done, blank-line, statement}
-use Rattle.fault_lines.specs.FaultLines.{taken-by, SaysAt, FirstLine}
+use Rattle.form_faults.specs.FormFaults.{behind}
+use Rattle.fault_lines.specs.FaultLines.{SaysAt, FirstLine}
 use Rattle.fault_lines.proofs.LineOne.{Clear}
 use Rattle.fault_lines.proofs.Said.{says-only}
 use Rattle.law_spelling.specs.LineOf.{law-line}
@@ -23,18 +24,18 @@ use Rattle.law_tables.proofs.Among.{Parted, parted}
 
 module _ {L : Lang} {line-of : (k : L .Kind) → L .Pay k → List Said} (C : Clear L line-of) (begin : (k : L .Kind) (v : L .Pay k) → Begins (line-of k v)) where
   -- ## Lines, and one more
-  behind : (a : ℕ) (line : Bytes) (lines : List Bytes) → a + (suc (length line) + taken-by lines) ≡ a + suc (length line) + taken-by lines
-  behind a line lines = omega arith
+  further : (a : ℕ) (line : Bytes) (lines : List Bytes) → a + (suc (length line) + behind lines) ≡ a + suc (length line) + behind lines
+  further a line lines = omega arith
 
   moved : {a b : ℕ} {line : Bytes} {x : S L} → a ≡ b → SpellsLine line-of a line (some x) → SpellsLine line-of b line (some x)
   moved {line = line} {x = x} e h = subst (λ (n : ℕ). SpellsLine line-of n line (some x)) e h
 
-  one-more : {start : ℕ} {before : List Bytes} {front : List (S L)} → SpellsLines line-of start before front → (this : Bytes) (x : S L) → SpellsLine line-of (start + taken-by before) this (some x)
+  one-more : {start : ℕ} {before : List Bytes} {front : List (S L)} → SpellsLines line-of start before front → (this : Bytes) (x : S L) → SpellsLine line-of (start + behind before) this (some x)
       → SpellsLines line-of start (before ++ (this ∷ [])) (front ++ (x ∷ []))
-  unfolding taken-by
+  unfolding behind
   one-more {start} done this x h = statement (moved (add-zero start) h) done
-  one-more (blank-line {start = a} {line = l} {lines = ls} g s) this x h = blank-line g (one-more s this x (moved (behind a l ls) h))
-  one-more (statement {start = a} {line = l} {lines = ls} g s) this x h = statement g (one-more s this x (moved (behind a l ls) h))
+  one-more (blank-line {start = a} {line = l} {lines = ls} g s) this x h = blank-line g (one-more s this x (moved (further a l ls) h))
+  one-more (statement {start = a} {line = l} {lines = ls} g s) this x h = statement g (one-more s this x (moved (further a l ls) h))
 
   not-blank : {Y : Type 0} {start : ℕ} {line : Bytes} {x : S L} → SpellsLine line-of start line none → SpellsLine line-of start line (some x) → Y
   not-blank {start = start} {line = line} {x = x} h g = nothing (C .line-one start line none (some x) h g)
@@ -45,14 +46,14 @@ module _ {L : Lang} {line-of : (k : L .Kind) → L .Pay k → List Said} (C : Cl
   no-line x (statement g s) e d = absurd (cons≢nil e)
 
   last-one : {start : ℕ} {before : List Bytes} {front : List (S L)} → SpellsLines line-of start before front → (this : Bytes) (x : S L) {ss : List (S L)} → ss ≡ front ++ (x ∷ [])
-      → SpellsLines line-of start (before ++ (this ∷ [])) ss → SpellsLine line-of (start + taken-by before) this (some x)
-  unfolding taken-by
+      → SpellsLines line-of start (before ++ (this ∷ [])) ss → SpellsLine line-of (start + behind before) this (some x)
+  unfolding behind
   last-one {start} done this x e (blank-line h t) = no-line x t refl e
   last-one {start} done this x e (statement h t) = moved (sym (add-zero start)) (subst (λ (y : S L). SpellsLine line-of start this (some y)) (head-eq-of-cons-eq e) h)
-  last-one (blank-line {start = a} {line = l} {lines = ls} g s) this x e (blank-line h t) = moved (sym (behind a l ls)) (last-one s this x e t)
+  last-one (blank-line {start = a} {line = l} {lines = ls} g s) this x e (blank-line h t) = moved (sym (further a l ls)) (last-one s this x e t)
   last-one (blank-line g s) this x e (statement h t) = not-blank g h
   last-one (statement g s) this x e (blank-line h t) = not-blank h g
-  last-one (statement {start = a} {line = l} {lines = ls} g s) this x e (statement h t) = moved (sym (behind a l ls)) (last-one s this x (tail-eq-of-cons-eq e) t)
+  last-one (statement {start = a} {line = l} {lines = ls} g s) this x e (statement h t) = moved (sym (further a l ls)) (last-one s this x (tail-eq-of-cons-eq e) t)
 
   -- ## A line of a text
   -- the line of the law that a statement is
@@ -81,7 +82,7 @@ module _ {L : Lang} {line-of : (k : L .Kind) → L .Pay k → List Said} (C : Cl
             let before = lines-back line-of (p .before) (subst (SayLines 0 (s .at .before)) (p .fronted) (s .at .said)) in
             let same : front ++ (line ∷ []) ≡ map ll (p .before ++ (p .this ∷ [])) = ap₂ (λ (f : List Line) (l : Line). f ++ (l ∷ [])) (p .fronted) (p .told) ∙ sym (map-append ll (p .before) (p .this ∷ [])) in
             let all = lines-back line-of (p .before ++ (p .this ∷ [])) (subst (SayLines 0 (s .at .before ++ (s .this ∷ []))) same (s .says)) in
-            let z : 0 + taken-by (s .at .before) ≡ taken-by (s .at .before) = omega arith in
+            let z : 0 + behind (s .at .before) ≡ behind (s .at .before) = omega arith in
             record {
               before = p .before;
               this = p .this;
@@ -95,7 +96,7 @@ module _ {L : Lang} {line-of : (k : L .Kind) → L .Pay k → List Said} (C : Cl
       law-at : (i : ℕ) (front : List (S L)) (x : S L) → SaysAt line-of text i front x → Law.SaysAt Spells text i (map ll front) (ll x)
       law-at i front x s =
           let o = says-only C text said all i front x s in
-          let z : taken-by (s .before) ≡ 0 + taken-by (s .before) = omega arith in
+          let z : behind (s .before) ≡ 0 + behind (s .before) = omega arith in
           let whole : map ll said ≡ (map ll front ++ (ll x ∷ [])) ++ map ll (o .0) = ap (map ll) (o .1) ∙ map-append ll front (x ∷ o .0) ∙ sym (append-assoc (map ll front) (ll x ∷ []) (map ll (o .0))) in
           record {
             this = s .this;
