@@ -1,4 +1,4 @@
--- `mission_references::first_unmarked_goal` meets its contract. Assumes nothing.
+-- `marks::first_unmarked_goal` meets its contract. Assumes nothing.
 use mathlib.Core.Path.{_≡_, sym, ap, _∙_}
 use mathlib.Core.List.{[]}
 use mathlib.Core.Bool.{true, false}
@@ -7,12 +7,12 @@ use native.Mathlib.Omega.{arith}
 use borrow.Author.Needs.{needs}
 use borrow.Author.Tests.{not-true, not-false}
 use Rattle.fill.specs.FirstFaults.{first-fault}
-use Rattle.mission_references.specs.Rows.{goalSays, said}
-use Rattle.mission_references.specs.Tests.{firstRow}
-use Rattle.mission_references.specs.Marks.{isMarked, unmarked}
-use Rattle.mission_references.proofs.Walked.{from-row, whole, at-end, hit, passed}
-use Rattle.mission_references.proofs.first_unmarked_goal.Statement.{statement}
-use Rattle.mission_references.proofs.first_unmarked_goal.Tie as tie
+use Rattle.marks.specs.Rows.{goalSays, said}
+use Rattle.marks.specs.Tests.{rowOf}
+use Rattle.marks.specs.Marks.{isMarked, unmarked}
+use Rattle.marks.proofs.Walked.{from-row, whole, at-end, hit, passed}
+use Rattle.marks.proofs.first_unmarked_goal.Statement.{statement}
+use Rattle.marks.proofs.first_unmarked_goal.Tie as tie
 
 abbrev Inv-loop : tie.InvT-loop
 Inv-loop marks goals count row₀ row = (row ≤ count) × (from-row (unmarked marks) (goalSays goals) count row ≡ first-fault (unmarked marks) [] (said (goalSays goals) count))
@@ -22,7 +22,7 @@ abbrev μ-loop : tie.MeasureT-loop
 
 loop-holds : tie.Need-loop-holds Inv-loop μ-loop
 loop-holds c =
-    let a = c .before .before .args in
+    let a = c .before .args in
     (zero-le, whole (unmarked (a .marks .now)) (goalSays (a .goals .now)) (a .count))
 
 cast-goal-at : tie.Need-cast-goal-at Inv-loop μ-loop
@@ -37,9 +37,9 @@ is-marked-requires c κs = search needs
 returns : tie.Need-returns Inv-loop μ-loop
 returns c =
     let l = c .before .before .before .before in
-    let a = l .before .before .before .args in
+    let a = l .before .before .args in
     let e : isMarked (a .marks .now) (goalSays (a .goals .now) (l .loop .row)) ≡ false = sym (rw (c .before .before .goal-at .ensures) at (c .before .is-marked .ensures)) ∙ not-true (c .before .is-marked .result) (c .if1 .taken) in
-    sym (ap firstRow (sym (l .loop .inv .1) ∙ hit (unmarked (a .marks .now)) (goalSays (a .goals .now)) (a .count) (l .loop .row) 15 (omega arith) (rw e)))
+    sym (ap rowOf (sym (l .loop .inv .1) ∙ hit (unmarked (a .marks .now)) (goalSays (a .goals .now)) (a .count) (l .loop .row) 15 (omega arith) (rw e)))
 
 add-row : tie.Need-add-row Inv-loop μ-loop
 add-row c = search needs
@@ -50,15 +50,15 @@ loop-less c = search needs
 loop-again : tie.Need-loop-again Inv-loop μ-loop
 loop-again c =
     let l = c .before .before .before .before in
-    let a = l .before .before .before .args in
+    let a = l .before .before .args in
     let e : isMarked (a .marks .now) (goalSays (a .goals .now) (l .loop .row)) ≡ true = sym (rw (c .before .before .goal-at .ensures) at (c .before .is-marked .ensures)) ∙ not-false (c .before .is-marked .result) (c .if1 .left) in
     (omega arith, sym (passed (unmarked (a .marks .now)) (goalSays (a .goals .now)) (a .count) (l .loop .row) (omega arith) (rw e)) ∙ l .loop .inv .1)
 
 returns-2 : tie.Need-returns-2 Inv-loop μ-loop
 returns-2 c =
     let l = c .before in
-    let a = l .before .before .before .args in
-    sym (ap firstRow (sym (l .loop .inv .1) ∙ at-end (unmarked (a .marks .now)) (goalSays (a .goals .now)) (a .count) (l .loop .row) (omega arith)))
+    let a = l .before .before .args in
+    sym (ap rowOf (sym (l .loop .inv .1) ∙ at-end (unmarked (a .marks .now)) (goalSays (a .goals .now)) (a .count) (l .loop .row) (omega arith)))
 
 pub first-unmarked-goal-spec : {M : Type 1} → statement M
 first-unmarked-goal-spec =

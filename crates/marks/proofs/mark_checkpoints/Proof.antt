@@ -1,15 +1,14 @@
--- `mission_references::mark_checkpoints` meets its contract. Assumes nothing.
-use mathlib.Core.Path.{_≡_, refl, sym, ap, _∙_}
+-- `marks::mark_checkpoints` meets its contract. Assumes nothing.
+use mathlib.Core.Path.{_≡_, refl, sym}
 use Prim.Native.Nat.{_-_, _≤_, zero-le}
 use native.Mathlib.Numerals.{add-one}
 use native.Mathlib.Omega.{arith}
-use lib.ListN.{length}
 use borrow.Author.Needs.{needs}
-use Rattle.mission_references.specs.Rows.{checkpointSays, said}
-use Rattle.mission_references.specs.Marks.{markAll}
-use Rattle.mission_references.proofs.Marked.{length-marks, mark-more}
-use Rattle.mission_references.proofs.mark_checkpoints.Statement.{statement}
-use Rattle.mission_references.proofs.mark_checkpoints.Tie as tie
+use Rattle.marks.specs.Rows.{checkpointSays, said}
+use Rattle.marks.specs.Marks.{markAll}
+use Rattle.marks.proofs.Seen.{mark-more}
+use Rattle.marks.proofs.mark_checkpoints.Statement.{statement}
+use Rattle.marks.proofs.mark_checkpoints.Tie as tie
 
 abbrev Inv-loop : tie.InvT-loop
 Inv-loop marks₀ checkpoints count row₀ marks row = (row ≤ count) × (marks ≡ markAll marks₀ (said (checkpointSays checkpoints) row))
@@ -39,18 +38,13 @@ loop-less c = search needs
 loop-again : tie.Need-loop-again Inv-loop μ-loop
 unfolding said
 loop-again c =
-    let l = c .before .before .before .before .before .before in
-    let a = l .before .before .before .args in
-    (omega arith, rw (c .before .before .mark .ensures, c .before .before .before .before .checkpoint-at .ensures, l .loop .inv .1, add-one) (sym (mark-more (a .marks .now) (said (checkpointSays (a .checkpoints .now)) (l .loop .row)) (checkpointSays (a .checkpoints .now) (l .loop .row)))))
-
-same-length : tie.Need-same-length Inv-loop μ-loop
-same-length c =
-    let a = c .before .before .before .before .args in
-    ap length (c .before .loop .inv .1) ∙ length-marks (a .marks .now) (said (checkpointSays (a .checkpoints .now)) (c .before .loop .row))
+    let l = c .before .before .before .before in
+    let a = l .before .before .args in
+    (omega arith, rw (c .mark .ensures, c .before .before .checkpoint-at .ensures, l .loop .inv .1, add-one) (sym (mark-more (a .marks .now) (said (checkpointSays (a .checkpoints .now)) (l .loop .row)) (checkpointSays (a .checkpoints .now) (l .loop .row)))))
 
 returns : tie.Need-returns Inv-loop μ-loop
 returns c =
-    let a = c .before .before .before .before .args in
+    let a = c .before .before .before .args in
     let e : c .before .loop .row ≡ a .count = omega arith in
     rw (← e) (c .before .loop .inv .1)
 
@@ -67,5 +61,4 @@ mark-checkpoints-spec =
     add-row
     loop-less
     loop-again
-    same-length
     returns)

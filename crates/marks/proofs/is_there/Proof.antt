@@ -1,11 +1,11 @@
--- `mission_references::is_there` meets its contract. Assumes nothing.
+-- `marks::is_there` meets its contract. Assumes nothing.
 use mathlib.Core.Path.{sym}
 use borrow.Author.Needs.{needs}
 use Rattle.units.specs.Range.{largest}
-use Rattle.mission_references.specs.Tests.{idsTo}
-use Rattle.mission_references.proofs.Walked.{never-there, there-by-most, above-parts}
-use Rattle.mission_references.proofs.is_there.Statement.{statement}
-use Rattle.mission_references.proofs.is_there.Tie as tie
+use Rattle.marks.specs.Tests.{idsTo}
+use Rattle.marks.proofs.Walked.{never-there, there-by-most, above-parts}
+use Rattle.marks.proofs.is_there.Statement.{statement}
+use Rattle.marks.proofs.is_there.Tie as tie
 
 returns : tie.Need-returns
 returns c = let a = c .before .before .args in sym (never-there (idsTo (a .parts)) (a .id .0) (c .if1 .taken))

@@ -13,7 +13,7 @@ use borrow.Author.Tests.{ltb-true, ltb-false, leb-true, leb-false, le-leb, lt-le
 use Rattle.terms.specs.Words.{pick}
 use Rattle.fill.specs.FirstFaults.{Fault, fault, or-behind, first-fault, in-parts}
 use Rattle.fill.proofs.FaultLaws.{first-end, first-hit, first-step}
-use Rattle.mission_references.specs.Rows.{said}
+use Rattle.marks.specs.Rows.{said}
 
 -- ## What rows say, by the row
 pub length-said : (says : ℕ → ℕ) (n : ℕ) → length (said says n) ≡ n
@@ -94,11 +94,3 @@ module _ (parts most id : ℕ) (low : 1 ≤ id) where
 
   pub above-parts : parts < id → in-parts (min parts most) id ≡ false
   above-parts h = rw (le-leb 1 id low) (lt-leb id (min parts most) (omega arith))
-  -- an id that is there has a mark
-
-pub there-has-mark : (parts most id : ℕ) → in-parts (min parts most) id ≡ true → in-parts most id ≡ true
-there-has-mark parts most id h = go (leb 1 id) refl h
-  where
-    go : (t : Bool) → leb 1 id ≡ t → pick t (leb id (min parts most)) false ≡ true → pick t (leb id most) false ≡ true
-    go true q h = let l = leb-true id (min parts most) h in le-leb id most (omega arith)
-    go false q h = h
