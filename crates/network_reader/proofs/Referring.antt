@@ -29,10 +29,10 @@ use Rattle.network.proofs.Holding.{CountsNetwork, HoldsNetwork}
 use Rattle.network.proofs.Spelled.{exit-line-starts, statements-read}
 use Rattle.network_references.specs.ExitStarts.{if-exit, exit-starts, at-starts, exits-answer}
 use Rattle.network_references.proofs.Theorems.{exits-told-counted, repeats-told}
-use Rattle.references.specs.declared.FirstRow as DR
+use Rattle.marks.specs.declared.FirstRow as DR
 use Rattle.references.specs.Exits.{Outcome, resolvedFrom}
 use Rattle.references.specs.Finding.{lookIn}
-use Rattle.references.specs.Repeats.{firstRepeat, rowOf}
+use Rattle.marks.specs.Tests.{firstRepeat, rowOf}
 use Rattle.fault_lines.proofs.RndfFaults.{undeclared-in, repeated-in}
 use Rattle.network_reader.specs.Reading.{Referred, joined, referOf}
 

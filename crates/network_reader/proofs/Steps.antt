@@ -9,8 +9,8 @@ use Rattle.table_words.specs.Words.{Lent}
 use Rattle.network.specs.Storing.{Memory}
 use Rattle.terms.specs.Ascii.{Bytes}
 use Rattle.terms.specs.Words.{pick}
-use Rattle.references.specs.declared.FirstRow as DR
-use Rattle.references.specs.declared.FirstRow.the-variants as R
+use Rattle.marks.specs.declared.FirstRow as DR
+use Rattle.marks.specs.declared.FirstRow.the-variants as R
 use Rattle.references.specs.Exits.{told}
 use Rattle.network_reader.specs.declared.Reference as DF
 use Rattle.network_reader.specs.declared.Reference.the-variants as Reference
