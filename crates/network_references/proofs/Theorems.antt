@@ -52,7 +52,8 @@ use Rattle.references.specs.Exits.{inWord, done, at, resolvedFrom, entryOfRow, 
 use Rattle.marks.specs.Tests.{rowOf, firstRepeat}
 use Rattle.references.proofs.Exits as Exits
 use Rattle.references.proofs.Repeats as Repeats
-use Rattle.network_references.specs.ExitStarts.{exit-starts, at-starts, exit-rows, exits-answer}
+use Rattle.network.proofs.ExitLines.{exit-starts}
+use Rattle.network_references.specs.ExitStarts.{at-starts, exit-rows, exits-answer}
 use Rattle.network_references.proofs.Entries.{entry-at, entries-told}
 use Rattle.network_references.proofs.Looks.{shown-fit, filled-looked}
 
