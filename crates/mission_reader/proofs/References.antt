@@ -35,12 +35,12 @@ use Rattle.table_words.specs.Shown.{shown-checkpoint, shown-goal, shown-limit}
 use Rattle.table_words.proofs.Shown.{checkpoint-shown, goal-shown, limit-shown, table-shown}
 use Rattle.table_words.proofs.Filled.{rows-fit}
 use Rattle.table_words.proofs.Bounds.{CheckpointBounds, spelled-bounded}
-use Rattle.mission_references.specs.declared.FirstRow.{FirstRow}
-use Rattle.mission_references.specs.declared.FirstRow.the-variants as Goal
-use Rattle.mission_references.specs.declared.BadLimit.{BadLimit}
-use Rattle.mission_references.specs.declared.BadLimit.the-variants as Bad
+use Rattle.marks.specs.declared.FirstRow.{FirstRow}
+use Rattle.marks.specs.declared.FirstRow.the-variants as Goal
+use Rattle.marks.specs.declared.BadLimit.{BadLimit}
+use Rattle.marks.specs.declared.BadLimit.the-variants as Bad
 use Rattle.mission_references.specs.Numbers.{goalRefusal, limitRefusal}
-use Rattle.mission_references.specs.Tests.{firstForeignGoal, firstBadLimit}
+use Rattle.marks.specs.Tests.{firstForeignGoal, firstBadLimit}
 use Rattle.mission_references.proofs.Laws.{goals-refused, limits-refused}
 use Rattle.find_line.proofs.Theorems.{mdf-line-sized}
 use Rattle.fault_lines.specs.FaultLines.{FirstMdfFault, NoMdfFault}

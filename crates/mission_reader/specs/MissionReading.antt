@@ -16,11 +16,11 @@ use Rattle.mission_progress.specs.Progress.{noneRead}
 use Rattle.walk.specs.Walking.{Found, fault, gathered}
 use Rattle.mission.specs.Storing.{MissionMemory, memory}
 use Rattle.mission.specs.Reading.{filledIn}
-use Rattle.mission_references.specs.declared.FirstRow as DG
-use Rattle.mission_references.specs.declared.FirstRow.the-variants as Goal
-use Rattle.mission_references.specs.declared.BadLimit as DL
-use Rattle.mission_references.specs.declared.BadLimit.the-variants as Limit
-use Rattle.mission_references.specs.Tests.{firstForeignGoal, firstBadLimit}
+use Rattle.marks.specs.declared.FirstRow as DG
+use Rattle.marks.specs.declared.FirstRow.the-variants as Goal
+use Rattle.marks.specs.declared.BadLimit as DL
+use Rattle.marks.specs.declared.BadLimit.the-variants as Limit
+use Rattle.marks.specs.Tests.{firstForeignGoal, firstBadLimit}
 use Rattle.find_line.specs.FoundLines.{mdfLineIn}
 use Rattle.room.specs.Room.{fits}
 use Rattle.refusal.specs.declared.References as DF

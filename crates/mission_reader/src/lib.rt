@@ -1,24 +1,24 @@
 // The reader of an MDF, given the RNDF that was accepted before it: an MDF read into lent goals and limits.
 //
 // The tables are cleared; the MDF is walked once, line by line, each row stored where there is room (`mission`); then it is seen whether there was room for all (11), the RNDF's name is compared (14),
-// goals and limits are looked up (`mission_references`; 15 to 17) and the limits counted (18). The line of a fault is found again by `find_line`.
+// goals and limits are looked up (`marks`; 15 to 17) and the limits counted (18). The line of a fault is found again by `find_line`.
 // A refusal leaves the tables as they are then: the caller clears them.
 //
 // specs/MissionReplies: what an MDF gets, over statements (reader/specs/Replies says it over lines). specs/MissionReading: the same, executable; the contracts cite it. proofs/Theorems: the one is the other.
 // proofs/Found: what the walk found. proofs/References: 14 to 18 over filled tables are the first line at fault. proofs/Standing: a name stands in its text where it says.
 // proofs/OneReply: no second reply. proofs/Steps: the parts of `read_mission` together.
 //
-// Rests on `refusal`, `room`, `mission`, `mission_references`, `find_line`, `rows` and `scan`, for its theorem on `fault_lines`, `form_faults` and `table_words`, and on what they rest on.
+// Rests on `refusal`, `room`, `mission`, `marks`, `mission_references`, `find_line`, `rows` and `scan`, for its theorem on `fault_lines`, `form_faults` and `table_words`, and on what they rest on.
 //
 // Settled: the contract of `read_mission` gives its reply, and where it accepts both tables, by a function of what is lent (proofs/OneReply).
 use find_line::mdf_line;
+use marks::BadLimit;
+use marks::FirstRow;
+use marks::first_bad_limit;
+use marks::first_foreign_goal;
 use mission::MissionFilled;
 use mission::fill_orders;
 use mission_progress::MissionProgress;
-use mission_references::BadLimit;
-use mission_references::FirstRow;
-use mission_references::first_bad_limit;
-use mission_references::first_foreign_goal;
 use refusal::Fault;
 use refusal::References;
 use room::fits;

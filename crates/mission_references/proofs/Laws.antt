@@ -1,76 +1,30 @@
 -- THE LAWS of 15, 16 and 17: over the tables that hold these rows, and have room for them, the answers are the first faults of `fill`, row and number. Assumes nothing.
 use mathlib.Core.Path.{_≡_, refl, sym, ap, _∙_}
-use mathlib.Core.List.{List, [], _∷_, _++_, map, map-append, map-map}
+use mathlib.Core.List.{List, [], _∷_, _++_, map, map-append}
 use mathlib.Core.Option.{Option, none, some}
 use mathlib.Core.Bool.{Bool, true, false, not}
-use Prim.Native.Nat.{ℕ, _*_, _<_, _≤_}
+use Prim.Native.Nat.{ℕ, _*_, _≤_}
 use native.Mathlib.Omega.{arith}
-use lib.Dec.{eqb, leb, lit<}
-use lib.ListN.{length, getD, length-map, List·getD-map}
-use lib.Seq.{ext-getD}
+use lib.Dec.{eqb, leb}
+use lib.ListN.{length, length-map}
 use borrow.Author.Tests.{eqb-true, eqb-false, eq-eqb, ne-eqb, leb-true, leb-false, le-leb, lt-leb}
 use Rattle.terms.specs.Words.{pick, Each}
 use Rattle.units.specs.Range.{largest, Numbered}
-use Rattle.units.specs.Made.{mph, checkpointNumber, segmentId}
-use Rattle.units.proofs.Ranges.{inside}
+use Rattle.units.specs.Made.{within}
+use Rattle.units.proofs.Ranges.{only-inside}
 use Rattle.rows.specs.Strides.{checkpointStride, goalStride, limitStride}
 use Rattle.rows.specs.Columns.{checkpointWords, goalWords, limitWords}
-use Rattle.rows.specs.Read.{saturated, shortWord}
 use Rattle.rows.specs.Table.{tableOf}
 use Rattle.rows.specs.declared.CheckpointRow.{CheckpointRow}
 use Rattle.rows.specs.declared.GoalRow.{GoalRow}
 use Rattle.rows.specs.declared.LimitRow.{LimitRow}
-use Rattle.rows.proofs.Tables.{row-of-table}
 use Rattle.fill.specs.Faults.{LimitFault, not-there, given-again}
 use Rattle.fill.specs.FirstFaults.{Fault, fault, or-behind, fault-if, or-else, first-fault, is-among, in-parts, goal-fault, first-foreign-goal, limit-fault, first-bad-limit}
 use Rattle.fill.proofs.AmongLaws.{not-among, each-among}
 use Rattle.fill.proofs.MissionLaws.{first-goal-right, first-limit-right}
-use Rattle.mission_references.specs.Rows.{checkpointSays, goalSays, limitSays, said}
+use Rattle.marks.specs.Tests.{seen, rowOf, foreign, firstForeignGoal, idsTo, unfitting, badLimit, firstBadLimit}
+use Rattle.marks.proofs.Rows.{read, checkpoint-numbers, goal-numbers, limit-ids, checkpoints-say, goals-say, limits-say, seen-all}
 use Rattle.mission_references.specs.Numbers.{goalRefusal, limitRefusal}
-use Rattle.mission_references.specs.Tests.{declared, firstRow, firstForeignGoal, idsTo, badLimit, firstBadLimit}
-use Rattle.mission_references.proofs.Walked.{length-said, said-at}
-
--- ## What the rows of a table say
--- a word as it is read in a field of 16 bits
-abbrev read : ℕ → ℕ
-read = saturated 65535
-
-said-all : {R : Type 0} (says : ℕ → ℕ) (f : R → ℕ) (rs : List R) (d : R) → ((i : ℕ) → i < length rs → says i ≡ f (getD rs i d)) → said says (length rs) ≡ map f rs
-said-all says f rs d h =
-    let k = length-said says (length rs) in
-    ext-getD (f d) (said says (length rs)) (map f rs) (k ∙ sym (length-map rs f))
-    (λ i l. let m : i < length rs = omega arith in said-at says (length rs) i (f d) m ∙ h i m ∙ sym (List·getD-map f rs i d))
-
-numbers-read : {R : Type 0} (says : ℕ → ℕ) (f : R → ℕ) (rs : List R) (d : R) → ((i : ℕ) → i < length rs → says i ≡ read (f (getD rs i d))) → said says (length rs) ≡ map read (map f rs)
-numbers-read says f rs d h = said-all says (λ v. read (f v)) rs d h ∙ sym (map-map read f rs)
-
--- the numbers of checkpoints and of goals, the ids of limits
-abbrev pub checkpoint-numbers : List CheckpointRow → List ℕ
-checkpoint-numbers = map (λ c. c .number .0)
-
-abbrev pub goal-numbers : List GoalRow → List ℕ
-goal-numbers = map (λ g. g .number .0)
-
-abbrev pub limit-ids : List LimitRow → List ℕ
-limit-ids = map (λ l. l .id .0)
-
-checkpoints-say : (n : ℕ) (cs : List CheckpointRow) → length cs * checkpointStride ≤ n → said (checkpointSays (tableOf 0 checkpointWords n cs)) (length cs) ≡ map read (checkpoint-numbers cs)
-checkpoints-say n cs h =
-    let d : CheckpointRow = record { number = checkpointNumber 0; point = 0 } in
-    numbers-read (checkpointSays (tableOf 0 checkpointWords n cs)) (λ c. c .number .0) cs d
-    (λ i l. ap (λ (w : List ℕ). shortWord w 0) (row-of-table checkpointStride checkpointWords (lit< tt) (λ v. refl) 0 n cs i d h l))
-
-goals-say : (n : ℕ) (gs : List GoalRow) → length gs * goalStride ≤ n → said (goalSays (tableOf 0 goalWords n gs)) (length gs) ≡ map read (goal-numbers gs)
-goals-say n gs h =
-    let d : GoalRow = record { number = checkpointNumber 0 } in
-    numbers-read (goalSays (tableOf 0 goalWords n gs)) (λ g. g .number .0) gs d
-    (λ i l. ap (λ (w : List ℕ). shortWord w 0) (row-of-table goalStride goalWords (lit< tt) (λ v. refl) 0 n gs i d h l))
-
-limits-say : (n : ℕ) (ls : List LimitRow) → length ls * limitStride ≤ n → said (limitSays (tableOf 0 limitWords n ls)) (length ls) ≡ map read (limit-ids ls)
-limits-say n ls h =
-    let d : LimitRow = record { id = segmentId 0; minimum = mph 0; maximum = mph 0 } in
-    numbers-read (limitSays (tableOf 0 limitWords n ls)) (λ l. l .id .0) ls d
-    (λ i l. ap (λ (w : List ℕ). shortWord w 0) (row-of-table limitStride limitWords (lit< tt) (λ v. refl) 0 n ls i d h l))
 
 -- ## Reading changes no answer
 read-first : (f g : List ℕ → ℕ → Option ℕ) → ((front : List ℕ) (a : ℕ) → f (map read front) (read a) ≡ g front a) → (front l : List ℕ) → first-fault f (map read front) (map read l) ≡ first-fault g front l
@@ -93,15 +47,6 @@ read-among a [] h = refl
 read-among a (b ∷ l) h = rw (read-eqb a b h) (ap (pick (eqb a b) true) (read-among a l h))
 
 -- ## 15
-all-declared : (numbers : List ℕ) → Each Numbered numbers → declared numbers ≡ numbers
-unfolding declared
-all-declared [] e = refl
-all-declared (a ∷ l) e = rw (inside (e .0)) (ap (_∷_ a) (all-declared l (e .1)))
-
-all-read : (numbers : List ℕ) → Each Numbered numbers → map read numbers ≡ numbers
-all-read [] e = refl
-all-read (a ∷ l) e = let h = e .0 .high in let r : read a ≡ a = omega arith in rw r (ap (_∷_ a) (all-read l (e .1)))
-
 goal-read : (numbers : List ℕ) → Each Numbered numbers → (a : ℕ) → is-among (read a) numbers ≡ is-among a numbers
 goal-read numbers e a = go (leb a 65535) refl
   where
@@ -113,20 +58,19 @@ goal-read numbers e a = go (leb a 65535) refl
     go false q = let l = leb-false a 65535 q in none-above (read a) (omega arith) ∙ sym (none-above a (omega arith))
 
 -- the answer by its number again
-goal-number : (numbers goals : List ℕ) → goalRefusal (firstRow (first-foreign-goal numbers goals)) ≡ first-foreign-goal numbers goals
+goal-number : (numbers goals : List ℕ) → goalRefusal (rowOf (first-foreign-goal numbers goals)) ≡ first-foreign-goal numbers goals
 goal-number numbers goals = go (first-foreign-goal numbers goals) refl
   where
-    go : (o : Option Fault) → first-foreign-goal numbers goals ≡ o → goalRefusal (firstRow o) ≡ o
+    go : (o : Option Fault) → first-foreign-goal numbers goals ≡ o → goalRefusal (rowOf o) ≡ o
     go none q = refl
     go (some x) q = ap (λ (k : ℕ). some (fault (x .row) k)) (sym (first-goal-right numbers goals x q .fault .number))
 
 module _ (n m : ℕ) (cs : List CheckpointRow) (gs : List GoalRow) (room : length cs * checkpointStride ≤ n) (room′ : length gs * goalStride ≤ m) (in-range : Each Numbered (checkpoint-numbers cs)) where
-  pub goals-of-tables : firstForeignGoal (tableOf 0 checkpointWords n cs) (length cs) (tableOf 0 goalWords m gs) (length gs) ≡ firstRow (first-foreign-goal (checkpoint-numbers cs) (goal-numbers gs))
+  pub goals-of-tables : firstForeignGoal (tableOf 0 checkpointWords n cs) (length cs) (tableOf 0 goalWords m gs) (length gs) ≡ rowOf (first-foreign-goal (checkpoint-numbers cs) (goal-numbers gs))
   unfolding firstForeignGoal
   goals-of-tables =
       let numbers = checkpoint-numbers cs in
-      let c : declared (said (checkpointSays (tableOf 0 checkpointWords n cs)) (length cs)) ≡ numbers = ap declared (checkpoints-say n cs room ∙ all-read numbers in-range) ∙ all-declared numbers in-range in
-      rw (c, goals-say m gs room′) (ap firstRow (read-first (goal-fault numbers) (goal-fault numbers) (λ front a. ap (λ (t : Bool). fault-if (not t) 15) (goal-read numbers in-range a)) [] (goal-numbers gs)))
+      rw (checkpoints-say n cs room in-range, goals-say m gs room′) (ap rowOf (read-first (foreign numbers) (goal-fault numbers) (λ front a. ap (λ (t : Bool). fault-if (not t) 15) (seen-all numbers in-range (read a) ∙ goal-read numbers in-range a)) [] (goal-numbers gs)))
 
   -- THE LAW: the refusal is `fill`'s
   pub goals-refused : goalRefusal (firstForeignGoal (tableOf 0 checkpointWords n cs) (length cs) (tableOf 0 goalWords m gs) (length gs)) ≡ first-foreign-goal (checkpoint-numbers cs) (goal-numbers gs)
@@ -144,21 +88,22 @@ module _ (parts : ℕ) (few : parts ≤ largest) where
       go true q = let l = leb-true i 65535 q in ap (in-parts parts) (let r : read i ≡ i = omega arith in r)
       go false q = let l = leb-false i 65535 q in far (read i) (omega arith) ∙ sym (far i (omega arith))
 
-  below : (i : ℕ) → in-parts parts i ≡ true → i ≤ largest
-  below i h = go (leb 1 i) h
+  -- an id that is there is a number of a part
+  numbered : (i : ℕ) → in-parts parts i ≡ true → within 1 i ≡ true
+  numbered i h = go (leb 1 i) h
     where
-      go : (t : Bool) → pick t (leb i parts) false ≡ true → i ≤ largest
-      go true h = let l = leb-true i parts h in omega arith
-      go false h = absurd (let z : _≡_ {A = ℕ} 0 1 = cc in omega arith)
+      go : (t : Bool) → pick t (leb i parts) false ≡ true → pick t (leb i largest) false ≡ true
+      go true h = let l = leb-true i parts h in le-leb i largest (omega arith)
+      go false h = h
 
-  limit-read : (front : List ℕ) (i : ℕ) → limit-fault parts (map read front) (read i) ≡ limit-fault parts front i
-  limit-read front i = rw (in-parts-read i) (go (in-parts parts i) refl)
+  limit-read : (front : List ℕ) (i : ℕ) → unfitting parts (map read front) (read i) ≡ limit-fault parts front i
+  limit-read front i = let p : idsTo parts ≡ parts = omega arith in rw (p, in-parts-read i) (go (in-parts parts i) refl)
     where
-      go : (t : Bool) → in-parts parts i ≡ t → or-else (fault-if (not t) 16) (fault-if (is-among (read i) (map read front)) 17) ≡ or-else (fault-if (not t) 16) (fault-if (is-among i front) 17)
+      go : (t : Bool) → in-parts parts i ≡ t → or-else (fault-if (not t) 16) (fault-if (seen (map read front) (read i)) 17) ≡ or-else (fault-if (not t) 16) (fault-if (is-among i front) 17)
       go true q =
-          let b = below i q in
+          let b = only-inside 1 i (numbered i q) .high in
           let r : read i ≡ i = omega arith in
-          ap (λ (t : Bool). fault-if t 17) (ap (λ (j : ℕ). is-among j (map read front)) r ∙ read-among i front b)
+          rw (r, numbered i q) (ap (λ (t : Bool). fault-if t 17) (read-among i front b))
       go false q = refl
 
 -- the answer by its number again
@@ -176,9 +121,7 @@ limit-number parts ids = go (first-bad-limit parts ids) refl
 module _ (n : ℕ) (ls : List LimitRow) (parts : ℕ) (room : length ls * limitStride ≤ n) (few : parts ≤ largest) where
   pub limits-of-table : firstBadLimit (tableOf 0 limitWords n ls) (length ls) parts ≡ badLimit (first-bad-limit parts (limit-ids ls))
   unfolding firstBadLimit
-  limits-of-table =
-      let p : idsTo parts ≡ parts = omega arith in
-      rw (p, limits-say n ls room) (ap badLimit (read-first (limit-fault parts) (limit-fault parts) (limit-read parts few) [] (limit-ids ls)))
+  limits-of-table = rw (limits-say n ls room) (ap badLimit (read-first (unfitting parts) (limit-fault parts) (limit-read parts few) [] (limit-ids ls)))
 
   -- THE LAW: the refusal is `fill`'s, its row and its number
   pub limits-refused : limitRefusal (firstBadLimit (tableOf 0 limitWords n ls) (length ls) parts) ≡ first-bad-limit parts (limit-ids ls)

@@ -1,4 +1,2 @@
--- The marks say what is among the rows before; over filled tables the answers are those of `fill`.
-pub mod Walked
-pub mod Marked
+-- Over filled tables the answers are those of `fill`.
 pub mod Laws

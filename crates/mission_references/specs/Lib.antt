@@ -1,5 +1,2 @@
--- The first goal and the first limit at fault, over the filled tables.
-pub mod Rows
+-- The refusal that each answer stands for.
 pub mod Numbers
-pub mod Tests
-pub mod Marks

@@ -1,10 +1,10 @@
 -- The refusal that each answer stands for. Document 01, "Refusal numbers". Assumes nothing.
 use mathlib.Core.Option.{Option, none, some}
 use Rattle.fill.specs.FirstFaults.{Fault, fault}
-use Rattle.mission_references.specs.declared.FirstRow.{FirstRow}
-use Rattle.mission_references.specs.declared.FirstRow.the-variants as Goal
-use Rattle.mission_references.specs.declared.BadLimit.{BadLimit}
-use Rattle.mission_references.specs.declared.BadLimit.the-variants as Limit
+use Rattle.marks.specs.declared.FirstRow.{FirstRow}
+use Rattle.marks.specs.declared.FirstRow.the-variants as Goal
+use Rattle.marks.specs.declared.BadLimit.{BadLimit}
+use Rattle.marks.specs.declared.BadLimit.the-variants as Limit
 
 -- 01, 15: "goal not a checkpoint of the RNDF"
 abbrev pub goalRefusal : FirstRow → Option Fault

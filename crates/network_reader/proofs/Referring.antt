@@ -1,53 +1,36 @@
 -- What the references of an RNDF's filled tables are found to be: as `fill` says of the network. Assumes nothing.
-use mathlib.Core.Path.{_≡_, refl, sym, ap, ap₂, _∙_}
-use mathlib.Core.List.{List, [], _∷_, _++_, map}
-use mathlib.Core.Option.{Option, none, some}
+use mathlib.Core.Path.{_≡_, refl, ap, ap₂, _∙_}
+use mathlib.Core.List.{List, [], _∷_, map}
 use Prim.Native.Nat.{ℕ, _≤_}
 use lib.ListN.{length}
 use Rattle.terms.specs.Ascii.{Bytes}
 use Rattle.line.specs.Content.{Field}
-use Rattle.grammar.specs.Language.{asKind}
-use Rattle.grammar.specs.Statements.{ExitLine, Statement, PointId, lines, exit}
 use Rattle.grammar.specs.Network.{Network}
-use Rattle.grammar.specs.Tables.{ExitRow, Tables, segment-row, tables, tables-with, tables-unresolved}
+use Rattle.grammar.specs.Tables.{ExitRow, segment-row, tables, tables-with, tables-unresolved}
 use Rattle.text.specs.Spelling.{SpellsRndf}
-use Rattle.text.specs.Answers.{read}
-use Rattle.text.proofs.Theorems.{read-rndf}
 use Rattle.fill.specs.Counts.{sizes}
-use Rattle.fill.specs.FirstFaults.{Fault, first-repeat, numbers-of}
+use Rattle.fill.specs.FirstFaults.{first-repeat, numbers-of}
 use Rattle.fill.proofs.RowLaws.{one-each}
 use Rattle.rows.specs.Columns.{exitWords}
 use Rattle.rows.specs.Table.{tableOf}
 use Rattle.rows.specs.declared.ExitRow as DE
 use Rattle.table_words.specs.Words.{Lent, HasRoom, network-filled}
-use Rattle.progress.specs.declared.Progress.{Progress}
-use Rattle.walk.specs.Standing.{Where, places-in}
+use Rattle.walk.specs.Standing.{places-in}
 use Rattle.network.specs.Storing.{Memory}
 use Rattle.network.specs.Reading.{most}
 use Rattle.network.proofs.ExitLines as N
 use Rattle.network.proofs.Holding.{CountsNetwork, HoldsNetwork}
 use Rattle.network.proofs.Spelled.{exit-line-starts, statements-read}
-use Rattle.network_references.specs.ExitStarts.{if-exit, exit-starts, at-starts, exits-answer}
+use Rattle.network_references.specs.ExitStarts.{at-starts, exits-answer}
 use Rattle.network_references.proofs.Theorems.{exits-told-counted, repeats-told}
-use Rattle.references.specs.declared.FirstRow as DR
+use Rattle.marks.specs.declared.FirstRow as DR
 use Rattle.references.specs.Exits.{Outcome, resolvedFrom}
 use Rattle.references.specs.Finding.{lookIn}
-use Rattle.references.specs.Repeats.{firstRepeat, rowOf}
+use Rattle.marks.specs.Tests.{firstRepeat, rowOf}
 use Rattle.fault_lines.proofs.RndfFaults.{undeclared-in, repeated-in}
-use Rattle.network_reader.specs.Reading.{Referred, joined, referOf}
+use Rattle.network_reader.specs.Reading.{joined, referOf}
 
--- ## One list of starts
-same-starts : (ws : List Where) (ts : List (Statement Field)) → N.exit-starts ws ts ≡ exit-starts ws ts
-unfolding N.exit-starts exit-starts
-same-starts [] [] = refl
-same-starts [] (t ∷ ts) = refl
-same-starts (w ∷ ws) [] = refl
-same-starts (w ∷ ws) (t ∷ ts) = go (asKind (lines Field) exit t) (same-starts ws ts)
-  where
-    go : (o : Option ExitLine) → N.exit-starts ws ts ≡ exit-starts ws ts → N.if-there o (w .start) ++ N.exit-starts ws ts ≡ if-exit o (w .start) (exit-starts ws ts)
-    go none e = e
-    go (some v) e = ap (λ (l : List ℕ). w .start ∷ l) e
-
+-- ## The exits' rows, by their points and by the network's exits
 same-rows : {E : Type 0} (xs : List (ExitRow E)) (starts : List ℕ) → N.exits-at (map (λ r. r .point) xs) starts ≡ at-starts xs starts
 unfolding N.exits-at at-starts
 same-rows [] [] = refl
@@ -74,8 +57,8 @@ pub refers : (n : Network Field) (text : Bytes) (h : SpellsRndf n text) → leng
     → referOf text (m .segments) (m .lanes) (m .zones) (m .checkpoints) (m .exits) (m .so-far) ≡ joined text (exits-answer n t (undeclared-in n)) (rowOf (repeated-in n))
 refers n text h size t room m c k =
     refer-as text m (length (n .segments)) (length (tables n .exits)) (length (tables n .checkpoints)) (network-filled n t .segments) (network-filled n t .lanes) (network-filled n t .zones) (network-filled n t .checkpoints)
-    (tableOf 0 exitWords (length (t .exits)) (at-starts (tables n .exits) (exit-starts (places-in text) (h .said)))) (k .segments) (k .lanes) (k .zones) (k .checkpoints)
-    (k .exits ∙ ap (λ (rs : List DE.ExitRow). tableOf 0 exitWords (length (t .exits)) rs) (same-rows (tables n .exits) (exit-line-starts n text h) ∙ ap (at-starts (tables n .exits)) (same-starts (places-in text) (h .said))))
+    (tableOf 0 exitWords (length (t .exits)) (at-starts (tables n .exits) (N.exit-starts (places-in text) (h .said)))) (k .segments) (k .lanes) (k .zones) (k .checkpoints)
+    (k .exits ∙ ap (λ (rs : List DE.ExitRow). tableOf 0 exitWords (length (t .exits)) rs) (same-rows (tables n .exits) (exit-line-starts n text h)))
     (c .segments ∙ segments-in n) (c .exits) (c .checkpoints)
     ∙ ap₂ (λ (x : Outcome) (y : DR.FirstRow). joined text x y) (exits-told-counted n text h (h .said) (statements-read n text h) size t room)
     (repeats-told n text h t room ∙ ap (λ (l : List ℕ). rowOf (first-repeat l)) (same-numbers n))

@@ -12,8 +12,8 @@ use Rattle.network.specs.Storing.{Memory, memory}
 use Rattle.network.specs.Reading.{filledIn}
 use Rattle.terms.specs.Ascii.{Bytes}
 use Rattle.terms.specs.Words.{pick}
-use Rattle.references.specs.declared.FirstRow as DR
-use Rattle.references.specs.declared.FirstRow.the-variants as R
+use Rattle.marks.specs.declared.FirstRow as DR
+use Rattle.marks.specs.declared.FirstRow.the-variants as R
 use Rattle.references.specs.Exits.{told}
 use Rattle.refusal.specs.declared.References as DF
 use Rattle.refusal.specs.declared.References.the-variants as References

@@ -40,7 +40,7 @@ use Rattle.network.proofs.Answered.{found-fault}
 use Rattle.network.proofs.Holding.{CountsNetwork}
 use Rattle.network.proofs.Spelled.{left-counted, left-filled, found-network}
 use Rattle.network_references.specs.ExitStarts.{exits-answer}
-use Rattle.references.specs.Repeats.{rowOf}
+use Rattle.marks.specs.Tests.{rowOf}
 use Rattle.fault_lines.specs.FaultLines.{FirstRndfFault}
 use Rattle.fault_lines.proofs.RndfFaults.{undeclared-in, repeated-in, exit-line, checkpoint-line, no-row-sound, only-undeclared, only-repeated, lines-differ, undeclared-first, repeated-first}
 use Rattle.refusal.specs.declared.References.the-variants as References

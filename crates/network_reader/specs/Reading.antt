@@ -15,11 +15,11 @@ use Rattle.progress.specs.After.{noProgress}
 use Rattle.walk.specs.Walking.{Found, fault, gathered}
 use Rattle.network.specs.Storing.{Memory, memory}
 use Rattle.network.specs.Reading.{filledIn}
-use Rattle.references.specs.declared.FirstRow as DR
-use Rattle.references.specs.declared.FirstRow.the-variants as R
+use Rattle.marks.specs.declared.FirstRow as DR
+use Rattle.marks.specs.declared.FirstRow.the-variants as R
 use Rattle.references.specs.Finding.{lookIn}
 use Rattle.references.specs.Exits.{Outcome, done, at, resolvedFrom}
-use Rattle.references.specs.Repeats.{firstRepeat}
+use Rattle.marks.specs.Tests.{firstRepeat}
 use Rattle.find_line.specs.FoundLines.{rndfLineIn}
 use Rattle.network_reader.specs.declared.Counts.{Counts}
 use Rattle.network_reader.specs.declared.NetworkReply as DP

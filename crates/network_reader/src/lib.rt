@@ -1,16 +1,16 @@
 // An RNDF read into lent tables. They are cleared; it is walked once, line by line, each row stored where there is room (`network`); then it is seen whether there was room for all (11),
-// the entries of exits are looked up and repeats sought (`references`; 12 and 13, whose line is found again by `find_line`).
+// the entries of exits are looked up and repeats sought (`references`, `marks`; 12 and 13, whose line is found again by `find_line`).
 // What a refusal leaves in the tables is cleared by the entry points (the crate `reader`).
 //
 // specs/Replies: what a text gets, over statements (reader/specs/Replies says it over lines). specs/Reading: the same, executable. proofs/Theorems: what is answered is so. proofs/Only: and nothing else is.
 //
-// Rests on `refusal`, `room`, `network`, `references`, `find_line`, `table_words`, `form_faults`, `fault_lines` and what they rest on.
+// Rests on `refusal`, `room`, `network`, `references`, `marks`, `find_line`, `table_words`, `form_faults`, `fault_lines` and what they rest on.
 use find_line::rndf_line;
+use marks::FirstRow;
+use marks::first_repeat;
 use network::Filled;
 use network::fill_lines;
 use progress::Progress;
-use references::FirstRow;
-use references::first_repeat;
 use references::resolve_exits;
 use refusal::Fault;
 use refusal::References;

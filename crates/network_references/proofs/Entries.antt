@@ -30,7 +30,7 @@ use Rattle.walk.specs.Standing.{Where, place, speaks, if-speaking, standing, pl
 use Rattle.walk.proofs.Speaking.{is-some, speaks-is}
 use Rattle.references.specs.Entry.{lineAt, entryOf}
 use Rattle.references.proofs.Entries.{entry-told}
-use Rattle.network_references.specs.ExitStarts.{if-exit, exit-starts}
+use Rattle.network.proofs.ExitLines.{if-there, exit-starts}
 
 abbrev Walked : Type 0
 Walked = Walk (Statement Field) (Place (rndf Field))
@@ -79,7 +79,7 @@ module _ (text : Bytes) where
   unfolding exit-starts
   one-told w ws t ts here h = go (asKind (lines Field) exit t) refl
     where
-      go : (o : Option ExitLine) → asKind (lines Field) exit t ≡ o → map entry-at (if-exit o (w .start) (exit-starts ws ts)) ≡ map (λ v. v .entry) (ofKind exit (t ∷ ts))
+      go : (o : Option ExitLine) → asKind (lines Field) exit t ≡ o → map entry-at (if-there o (w .start) ++ exit-starts ws ts) ≡ map (λ v. v .entry) (ofKind exit (t ∷ ts))
       go none q = h ∙ ap (map (λ (v : ExitLine). v .entry)) (sym (all-none (lines Field) exit t ts q))
       go (some v) q = ap₂ (λ (e : PointId) (es : List PointId). e ∷ es) (here v q) h ∙ ap (map (λ (v : ExitLine). v .entry)) (sym (all-some (lines Field) exit t ts v q))
 

@@ -7,7 +7,7 @@ use Prim.Native.Nat.{ℕ, suc, min, _*_, _≤_, _<_}
 use native.Mathlib.Omega.{arith}
 use lib.ListN.{length, length-map}
 use Rattle.terms.specs.Ascii.{Bytes}
-use Rattle.terms.specs.Words.{Each, Between}
+use Rattle.terms.specs.Words.{Each}
 use Rattle.terms.proofs.Lists.{each-map}
 use Rattle.line.specs.Content.{Field}
 use Rattle.grammar.specs.Statements.{PointId, ExitLine, Statement, ofKind, exit}
@@ -26,6 +26,7 @@ use Rattle.text.specs.RndfLines.{rndf-line}
 use Rattle.text.specs.Answers.{read}
 use Rattle.text.proofs.Theorems.{read-rndf, rndf-file}
 use Rattle.text.proofs.TextReading.{spelled-read}
+use Rattle.units.specs.Range.{Numbered}
 use Rattle.rows.specs.Columns.{exitWords, checkpointWords}
 use Rattle.rows.specs.Table.{tableOf}
 use Rattle.rows.specs.declared.ExitRow.{ExitRow}
@@ -48,10 +49,11 @@ use Rattle.table_words.proofs.RowsAtMost.{rows-at-most}
 use Rattle.walk.specs.Standing.{places-in}
 use Rattle.references.specs.Finding.{lookIn}
 use Rattle.references.specs.Exits.{inWord, done, at, resolvedFrom, entryOfRow, entryFault, resolvedRow, picked}
-use Rattle.references.specs.Repeats.{top, rowOf, firstRepeat}
+use Rattle.marks.specs.Tests.{rowOf, firstRepeat}
 use Rattle.references.proofs.Exits as Exits
 use Rattle.references.proofs.Repeats as Repeats
-use Rattle.network_references.specs.ExitStarts.{exit-starts, at-starts, exit-rows, exits-answer}
+use Rattle.network.proofs.ExitLines.{exit-starts}
+use Rattle.network_references.specs.ExitStarts.{at-starts, exit-rows, exits-answer}
 use Rattle.network_references.proofs.Entries.{entry-at, entries-told}
 use Rattle.network_references.proofs.Looks.{shown-fit, filled-looked}
 
@@ -194,7 +196,7 @@ module _ (n : Network Field) (text : Bytes) (spelled : SpellsRndf n text) (ts : 
 pub repeats-told : (n : Network Field) (text : Bytes) → SpellsRndf n text → (t : Lent) → HasRoom (sizes (tables n)) t → firstRepeat (network-filled n t .checkpoints) (length (tables n .checkpoints)) ≡ rowOf (first-repeat (numbers-of (tables n)))
 repeats-told n text spelled t room =
     let rows = map shown-checkpoint (tables n .checkpoints) in
-    let bounds = each-map (CheckpointBounds (length (tables n .points))) (λ r. Between 1 top (r .number)) (λ r b. b .number) (tables n .checkpoints) (spelled-bounded (point-row n) n (spelled .said) (spelled .net) .checkpoints) in
+    let bounds = each-map (CheckpointBounds (length (tables n .points))) (λ r. Numbered (r .number)) (λ r b. b .number) (tables n .checkpoints) (spelled-bounded (point-row n) n (spelled .said) (spelled .net) .checkpoints) in
     ap₂ (λ (w : List ℕ) (k : ℕ). firstRepeat w k) (sym (table-shown shown-checkpoint checkpointWords checkpoint-words checkpoint-shown 0 (length (t .checkpoints)) (tables n .checkpoints))) (sym (length-map (tables n .checkpoints) shown-checkpoint))
-    ∙ Repeats.repeats-told (length (t .checkpoints)) rows (shown-fit shown-checkpoint (tables n .checkpoints) (length (t .checkpoints)) 2 (room .checkpoints)) (each-of-map (λ (r : CheckpointRow). Between 1 top (r .number .0)) shown-checkpoint (tables n .checkpoints) bounds)
-    ∙ ap (λ (l : List ℕ). rowOf (first-repeat l)) (map-map Repeats.numberOf shown-checkpoint (tables n .checkpoints))
+    ∙ Repeats.repeats-told (length (t .checkpoints)) rows (shown-fit shown-checkpoint (tables n .checkpoints) (length (t .checkpoints)) 2 (room .checkpoints)) (each-of-map Numbered (λ (r : CheckpointRow). r .number .0) rows (each-of-map (λ (r : CheckpointRow). Numbered (r .number .0)) shown-checkpoint (tables n .checkpoints) bounds))
+    ∙ ap (λ (l : List ℕ). rowOf (first-repeat l)) (map-map (λ (r : CheckpointRow). r .number .0) shown-checkpoint (tables n .checkpoints))

@@ -1,29 +1,18 @@
--- Executable: where the lines of the exits start; the exits' rows that hold these starts; what is answered of them. Assumes nothing.
+-- Executable: the exits' rows that hold where their lines start (`exit-starts`, of `network`); what is answered of them. Assumes nothing.
 use mathlib.Core.List.{List, [], _∷_}
 use mathlib.Core.Option.{Option, none, some}
 use Prim.Native.Nat.{ℕ}
 use Rattle.terms.specs.Ascii.{Bytes}
 use Rattle.line.specs.Content.{Field}
-use Rattle.grammar.specs.Language.{asKind}
-use Rattle.grammar.specs.Statements.{ExitLine, Statement, lines, exit}
+use Rattle.grammar.specs.Statements.{Statement}
 use Rattle.grammar.specs.Network.{Network}
 use Rattle.grammar.specs.Tables as G
 use Rattle.rows.specs.declared.ExitRow.{ExitRow}
 use Rattle.fill.specs.FirstFaults.{Fault}
 use Rattle.table_words.specs.Words.{Lent, network-filled}
-use Rattle.walk.specs.Standing.{Where, places-in}
+use Rattle.walk.specs.Standing.{places-in}
+use Rattle.network.proofs.ExitLines.{exit-starts}
 use Rattle.references.specs.Exits.{Outcome, done, at}
-
-abbrev pub if-exit : Option ExitLine → ℕ → List ℕ → List ℕ
-if-exit none start starts = starts
-if-exit (some v) start starts = start ∷ starts
-
--- of statements, each where it stands: where the lines of the exits start, in their order
-unfoldable pub exit-starts : List Where → List (Statement Field) → List ℕ
-exit-starts [] [] = []
-exit-starts [] (t ∷ ts) = []
-exit-starts (w ∷ ws) [] = []
-exit-starts (w ∷ ws) (t ∷ ts) = if-exit (asKind (lines Field) exit t) (w .start) (exit-starts ws ts)
 
 -- the rows that a walk leaves: an exit's own point, and the start of its line for its entry
 unfoldable pub at-starts : {E : Type 0} → List (G.ExitRow E) → List ℕ → List ExitRow

@@ -13,7 +13,7 @@ use Rattle.rows.specs.Read.{exitAt}
 use Rattle.rows.specs.declared.ExitRow.{ExitRow}
 use Rattle.fill.specs.Resolve.{Look}
 use Rattle.references.specs.Finding.{found}
-use Rattle.references.specs.Exits.{namedAt, inWord, putPoint, Outcome, done, at, onward, resolvedFrom}
+use Rattle.references.specs.Exits.{namedAt, inWord, putPoint, Outcome, done, at, onward, resolvedFrom, withFound, leftOn, leftFrom}
 use Rattle.references.specs.declared.Found.{Found}
 
 -- the table with the point, as it is stored
@@ -56,3 +56,31 @@ module _ (text : Bytes) (look : Look) (m : ℕ) (t : List ℕ) (row : ℕ) where
   pub no-row : (count : ℕ) → count ≤ row → resolvedFrom text look m t row (count - row) ≡ done t
   unfolding resolvedFrom
   no-row count h = let k : count - row ≡ zero = omega arith in rw k
+
+  -- ## What the table holds
+  pub row-left : (e : ExitRow) (f : Found) → e ≡ exitAt t row → found f ≡ namedAt text look m (e .entry) → withFound t row (found f) ≡ withFound t row named
+  row-left e f read is = ap (withFound t row) (is ∙ ap (λ (e : ExitRow). namedAt text look m (e .entry)) read)
+
+  left-goes : (u : List ℕ) (o : Option ℕ) → done u ≡ onward t row o done → (rest : List ℕ → List ℕ) → leftOn t row o rest ≡ rest u
+  left-goes u none e rest = absurd (apart u row e)
+  left-goes u (some i) e rest = let q : putPoint t row i ≡ u = cc in ap rest q
+
+  left-stays : (o : Option ℕ) → at row ≡ onward t row o done → (rest : List ℕ → List ℕ) → leftOn t row o rest ≡ withFound t row o
+  left-stays none e rest = refl
+  left-stays (some i) e rest = absurd (apart (putPoint t row i) row (sym e))
+
+  pub next-left : (u : List ℕ) (count : ℕ) → row < count → done u ≡ onward t row named done → leftFrom text look m t row (count - row) ≡ leftFrom text look m u (row + 1) (count - (row + 1))
+  unfolding leftFrom
+  next-left u count h e =
+      let k : count - row ≡ suc (count - (row + 1)) = omega arith in
+      rw (k, add-one row) (left-goes u named e (λ u. leftFrom text look m u (suc row) (count - suc row)))
+
+  pub bad-left : (u : List ℕ) (count : ℕ) → row < count → at row ≡ onward t row named done → u ≡ withFound t row named → u ≡ leftFrom text look m t row (count - row)
+  unfolding leftFrom
+  bad-left u count h e is =
+      let k : count - row ≡ suc (count - (row + 1)) = omega arith in
+      rw k (is ∙ sym (left-stays named e (λ u. leftFrom text look m u (suc row) (count - (row + 1)))))
+
+  pub no-left : (count : ℕ) → count ≤ row → leftFrom text look m t row (count - row) ≡ t
+  unfolding leftFrom
+  no-left count h = let k : count - row ≡ zero = omega arith in rw k

@@ -15,8 +15,8 @@ use Rattle.grammar.specs.Statements.{PointId}
 use Rattle.fill.specs.Resolve.{Look, resolve, or-zero}
 use Rattle.fill.specs.FirstFaults.{Fault, unless-found}
 use Rattle.references.specs.Entry.{lineAt, entryOf}
-use Rattle.references.specs.declared.FirstRow.{FirstRow}
-use Rattle.references.specs.declared.FirstRow.the-variants as R
+use Rattle.marks.specs.declared.FirstRow.{FirstRow}
+use Rattle.marks.specs.declared.FirstRow.the-variants as R
 
 -- the point that the entry of the line at a place names; m: how many segments there are
 unfoldable pub namedAt : Bytes → Look → (m start : ℕ) → Option ℕ
@@ -51,6 +51,21 @@ tried row false t = at row
 unfoldable pub resolvedFrom : Bytes → Look → ℕ → List ℕ → (row count : ℕ) → Outcome
 resolvedFrom text look m t row zero = done t
 resolvedFrom text look m t row (suc k) = onward t row (namedAt text look m (exitAt t row .entry)) (λ u. resolvedFrom text look m u (suc row) k)
+
+-- ## What the table holds, whatever the answer
+-- a row with its point, where its entry names one
+abbrev pub withFound : List ℕ → ℕ → Option ℕ → List ℕ
+withFound t row none = t
+withFound t row (some i) = putPoint t row i
+
+abbrev pub leftOn : List ℕ → ℕ → Option ℕ → (List ℕ → List ℕ) → List ℕ
+leftOn t row none rest = t
+leftOn t row (some i) rest = rest (putPoint t row i)
+
+-- so many rows, from a row on, up to the first whose entry names no point: it and the rows behind it are as they were
+unfoldable pub leftFrom : Bytes → Look → ℕ → List ℕ → (row count : ℕ) → List ℕ
+leftFrom text look m t row zero = t
+leftFrom text look m t row (suc k) = leftOn t row (namedAt text look m (exitAt t row .entry)) (λ u. leftFrom text look m u (suc row) k)
 
 -- what the answer and the table that is left stand for
 abbrev pub told : FirstRow → List ℕ → Outcome

@@ -1,5 +1,4 @@
--- The entry of an exit's line, the point that it names, exits with their points, the first repeat of a checkpoint number.
+-- The entry of an exit's line, the point that it names, exits with their points.
 pub mod Entry
 pub mod Finding
 pub mod Exits
-pub mod Repeats

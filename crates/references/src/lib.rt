@@ -1,22 +1,22 @@
-// What is tested of the filled tables of an RNDF: every entry is declared (refusal 12), no checkpoint number stands twice (13). Answers are rows.
+// What is tested of the filled tables of an RNDF: every entry is declared (refusal 12). The answer is a row. (13, that no checkpoint number stands twice, is tested by `marks`; its law
+// over given rows is here.)
 // The entry of an exit has three numbers, for which its row has no room: while the tables are filled the row's second word holds where the exit's line
 // starts in the text. Here that line is cut again, and the row of the point that its entry names takes the place.
 //
 // specs/: the same, executable, over the words of the tables. proofs/: Entries, the entry is the one that `text` reads of the line; Exits and Repeats,
 // over the tables of given rows the answers are those of `fill`'s specs/FirstFaults.
 //
-// Rests on `rows`, `read_rows`, `line`, `number`, `scan`, `statement`, `fill`, `judge` (that fields end within the line), for its laws on `text`, and on
-// what these rest on.
+// Rests on `marks` (which row is the first), `rows`, `read_rows`, `line`, `number`, `scan`, `statement`, `fill`, for its laws on `text`, and on what these rest on.
 //
-// Settled: every contract here gives the answer by an executable function, so no second answer satisfies it, and no second memory. One exception: after
-// `FirstRow::At` the contract of `resolve_exits` leaves open what the exits' table holds, since a refusal clears every table.
+// Settled: every contract here gives the answer by an executable function, and what a lent table holds by another, also where the answer is a row at fault: no second answer and no
+// second memory satisfies it. Contracts that give the answer by what it stands for (`found r`, `told r ..`) are settled by proofs/Settled.
 use line::Form;
 use line::fields_of;
 use line::form_of;
 use line::trimmed;
+use marks::FirstRow;
 use number::Triple;
 use number::triple_of;
-use read_rows::checkpoint_at;
 use read_rows::exit_at;
 use read_rows::lane_at;
 use read_rows::segment_at;
@@ -33,8 +33,7 @@ ghost use Rattle.statement.specs.Meaning.{point-of};
 ghost use Rattle.fill.specs.Resolve as Resolve;
 ghost use Rattle.references.specs.Entry.{lineAt, idFrom, entryIn, entryWithin, entryOf};
 ghost use Rattle.references.specs.Finding.{found, lookIn};
-ghost use Rattle.references.specs.Exits.{namedAt, inWord, done, tried, onward, told, resolvedFrom};
-ghost use Rattle.references.specs.Repeats.{marked, withMark, firstRepeat};
+ghost use Rattle.references.specs.Exits.{namedAt, inWord, done, tried, onward, withFound, told, resolvedFrom, leftFrom};
 
 // ## The entry of a line
 // The line that starts at a place of the text, without its LF; an empty part where the place is beyond the text.
@@ -165,12 +164,6 @@ pub fn resolve(segments: &[u32], lanes: &[u32], zones: &[u32], segment_count: u3
 }
 
 // ## Every exit
-// The first row at fault.
-pub enum FirstRow {
-    At(u32),
-    Nothing,
-}
-
 // The point that the entry of the line at a place names.
 fn named_at(
     text: &[u8],
@@ -204,6 +197,7 @@ fn resolve_exit(
     row: u32,
 ) -> bool
     ensures { λ r. ⌜ tried row r (now (exits .exit)) ≡ onward (now (exits .entry)) row (namedAt (now (text .entry)) (lookIn (now (segments .entry)) (now (lanes .entry)) (now (zones .entry))) «segment_count» (exitAt (now (exits .entry)) row .entry)) done ⌝ }
+    ensures { λ r. ⌜ now (exits .exit) ≡ withFound (now (exits .entry)) row (namedAt (now (text .entry)) (lookIn (now (segments .entry)) (now (lanes .entry)) (now (zones .entry))) «segment_count» (exitAt (now (exits .entry)) row .entry)) ⌝ }
 {
     let exit = exit_at(exits, row as usize);
     let found = named_at(
@@ -241,6 +235,7 @@ pub fn resolve_exits(
     exit_count: u32,
 ) -> FirstRow
     ensures { λ r. ⌜ told r (now (exits .exit)) ≡ resolvedFrom (now (text .entry)) (lookIn (now (segments .entry)) (now (lanes .entry)) (now (zones .entry))) «segment_count» (now (exits .entry)) 0 «exit_count» ⌝ }
+    ensures { λ r. ⌜ now (exits .exit) ≡ leftFrom (now (text .entry)) (lookIn (now (segments .entry)) (now (lanes .entry)) (now (zones .entry))) «segment_count» (now (exits .entry)) 0 «exit_count» ⌝ }
 {
     let mut row: u32 = 0;
     while row < exit_count {
@@ -249,39 +244,6 @@ pub fn resolve_exits(
         } else {
             return FirstRow::At(row);
         }
-    }
-    FirstRow::Nothing
-}
-
-// ## Checkpoint numbers
-// Marks a number, and tells whether it was marked before. Only the numbers 1 to 32,768 have a mark.
-fn mark(marks: &mut [bool; 32768], number: u16) -> bool
-    ensures { λ r. ⌜ r ≡ marked (now (marks .entry)) number ⌝ }
-    ensures { λ _. ⌜ now (marks .exit) ≡ withMark (now (marks .entry)) number ⌝ }
-{
-    if 1 <= number {
-        if number <= 32768 {
-            let at = (number - 1) as usize;
-            let was = marks[at];
-            marks[at] = true;
-            return was;
-        }
-    }
-    false
-}
-
-// The first row whose checkpoint number stood before it. One pass: the marks are this function's own, cleared before the first row.
-pub fn first_repeat(checkpoints: &[u32], count: u32) -> FirstRow
-    ensures { λ r. ⌜ r ≡ firstRepeat (now (checkpoints .entry)) count ⌝ }
-{
-    let mut marks: [bool; 32768] = [false; 32768];
-    let mut row: u32 = 0;
-    while row < count {
-        let checkpoint = checkpoint_at(checkpoints, row as usize);
-        if mark(&mut marks, checkpoint.number.0) {
-            return FirstRow::At(row);
-        }
-        row += 1;
     }
     FirstRow::Nothing
 }

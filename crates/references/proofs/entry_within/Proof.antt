@@ -2,7 +2,7 @@
 use mathlib.Core.Path.{sym, _∙_}
 use lib.Seq.{length-take-le}
 use borrow.Author.Needs.{needs}
-use Rattle.judge.proofs.Bodies.{body-within}
+use Rattle.line.proofs.Faults.{body-within}
 use Rattle.references.proofs.entry_within.Statement.{statement}
 use Rattle.references.proofs.entry_within.Tie as tie
 

@@ -3,7 +3,7 @@ use mathlib.Core.Path.{ap, _∙_}
 use borrow.Author.Needs.{needs}
 use Rattle.references.specs.Finding.{found, lookIn}
 use Rattle.references.specs.Exits.{done}
-use Rattle.references.proofs.ExitSteps.{stored, row-named}
+use Rattle.references.proofs.ExitSteps.{stored, row-named, row-left}
 use Rattle.references.proofs.resolve_exit.Statement.{statement}
 use Rattle.references.proofs.resolve_exit.Tie as tie
 
@@ -35,9 +35,13 @@ returns : tie.Need-returns
 returns c =
     let a = c .before .before .before .before .before .before .before .before .before .before .before .before .before .before .before .before .before .args in
     let look = lookIn (a .segments .now) (a .lanes .now) (a .zones .now) in
-    let e = c .before .before .before .before .before .before .before .before .before .before .exit-at .result in
-    let o = row-named (a .text .now) look (a .segment-count) (a .exits .now) (a .row) e (c .before .before .before .before .before .before .before .before .named-at .result) (c .before .before .before .before .before .before .before .before .before .before .exit-at .ensures) (c .before .before .before .before .before .before .before .before .named-at .ensures) in
-    ap done (stored (a .exits .now) (a .row) (c .before .before .before .before .before .before .found .given .0 .0) e (c .before .before .before .in-word .result) (c .before .before .store-exit .last .0) (c .before .before .before .before .before .before .before .before .before .before .exit-at .ensures) (c .before .before .before .in-word .ensures) (c .before .before .store-exit .ensures)) ∙ (rw (c .before .before .before .before .before .before .found .given .1) at o)
+    let e = c .before .before .before .before .before .before .before .before .before .before .exit-at in
+    let f = c .before .before .before .before .before .before .before .before .named-at in
+    let i = c .before .before .before .before .before .before .found .given in
+    let o = row-named (a .text .now) look (a .segment-count) (a .exits .now) (a .row) (e .result) (f .result) (e .ensures) (f .ensures) in
+    let k = row-left (a .text .now) look (a .segment-count) (a .exits .now) (a .row) (e .result) (f .result) (e .ensures) (f .ensures) in
+    let s = stored (a .exits .now) (a .row) (i .0 .0) (e .result) (c .before .before .before .in-word .result) (c .before .before .store-exit .last .0) (e .ensures) (c .before .before .before .in-word .ensures) (c .before .before .store-exit .ensures) in
+    (ap done s ∙ (rw (i .1) at o), s ∙ (rw (i .1) at k))
 
 same-length-2 : tie.Need-same-length-2
 same-length-2 c = search needs
@@ -46,8 +50,11 @@ returns-2 : tie.Need-returns-2
 returns-2 c =
     let a = c .before .before .before .before .before .before .before .before .before .before .before .args in
     let look = lookIn (a .segments .now) (a .lanes .now) (a .zones .now) in
-    let o = row-named (a .text .now) look (a .segment-count) (a .exits .now) (a .row) (c .before .before .before .before .exit-at .result) (c .before .before .named-at .result) (c .before .before .before .before .exit-at .ensures) (c .before .before .named-at .ensures) in
-    rw (c .enum-told .given .1) at o
+    let e = c .before .before .before .before .exit-at in
+    let f = c .before .before .named-at in
+    let o = row-named (a .text .now) look (a .segment-count) (a .exits .now) (a .row) (e .result) (f .result) (e .ensures) (f .ensures) in
+    let k = row-left (a .text .now) look (a .segment-count) (a .exits .now) (a .row) (e .result) (f .result) (e .ensures) (f .ensures) in
+    (rw (c .enum-told .given .1) at o, rw (c .enum-told .given .1) at k)
 
 pub resolve-exit-spec : {M : Type 1} → statement M
 resolve-exit-spec =
