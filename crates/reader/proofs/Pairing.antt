@@ -45,7 +45,7 @@ use Rattle.reader.specs.Pairs as P
 -- ## What the program does
 joined-told : (c : Counts) (file : FileRow) (left : Lent) (reply : DM.MissionReply) (g l : List ℕ) → outcome (joinedOf c file reply) left (mission-lent g l) ≡ from-mission c file left (M.outcome reply g l)
 joined-told c file left (MissionReply.Accepted m f) g l = refl
-joined-told c file left (MissionReply.Refused line number) g l = refl
+joined-told c file left (MissionReply.Refused f) g l = refl
 
 pub both-accepted : (rndf mdf : Bytes) (t left : Lent) (u : MissionLent) (c : Counts) (file : FileRow) (k : ℕ) (reply : DM.MissionReply) (g l : List ℕ) (r : DP.PairReply) → N.accepted c file left ≡ readOf rndf t → k ≡ fitted (c .segments + c .zones)
     → M.outcome reply g l ≡ missionOf (rndf-of rndf (file .name) (left .checkpoints) (c .checkpoints) k) mdf (u .goals) (u .limits) → r ≡ joinedOf c file reply → outcome r left (mission-lent g l) ≡ pairOf rndf mdf t u

@@ -20,7 +20,7 @@ use Rattle.reader.specs.declared.PairReply.the-variants as Pair
 
 abbrev pub joinedOf : Counts → FileRow → DM.MissionReply → DP.PairReply
 joinedOf c file (Mission.Accepted m f) = Pair.Accepted c file m f
-joinedOf c file (Mission.Refused line number) = Pair.Refused (refusal 2 line number)
+joinedOf c file (Mission.Refused f) = Pair.Refused (refusal 2 (f .line) (f .number))
 
 pub data Read : Type 0 where
   refused : (file line number : ℕ) → Read

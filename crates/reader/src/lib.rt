@@ -4,14 +4,15 @@
 // specs/Replies: the contracts, what a reader must believe. specs/ByStatements: the same over statements and typed rows, as the proofs have it; proofs/Lawful: that both say the same.
 // specs/Pairs: what a pair gets, executable. proofs/Settled: no second reply and no second memory satisfies the contracts. What follows from the contracts alone is the crate `promises`.
 //
-// Rests on `network_reader`, `mission_reader` and what they rest on. Beside it: `look_up` (a checkpoint number's point), `rows` (names, and how rows lie in a table).
+// Rests on `network_reader`, `mission_reader`, `room` and what they rest on. Beside it: `look_up` (a checkpoint number's point), `rows` (names, and how rows lie in a table).
 use mission_reader::MissionCounts;
 use mission_reader::MissionReply;
 use mission_reader::read_mission;
 use network_reader::Counts;
 use network_reader::NetworkReply;
-use network_reader::clear_tables;
 use network_reader::read_network;
+use room::clear_tables;
+use room::in_word;
 use rows::FileRow;
 use rows::MissionFileRow;
 use rows::clear;
@@ -62,7 +63,7 @@ pub fn read_rndf(
     );
     match reply {
         NetworkReply::Accepted(c, file) => RndfReply::Accepted(c, file),
-        NetworkReply::Refused(line, number) => {
+        NetworkReply::Refused(fault) => {
             clear_tables(
                 segments,
                 lanes,
@@ -75,8 +76,8 @@ pub fn read_rndf(
             );
             RndfReply::Refused(Refusal {
                 file: 1,
-                line,
-                number,
+                line: fault.line,
+                number: fault.number,
             })
         }
     }
@@ -92,8 +93,7 @@ pub enum PairReply {
 fn parts(c: Counts) -> u32
     ensures { λ r. ⌜ r ≡ fitted (c .segments + c .zones) ⌝ }
 {
-    let n = c.segments as usize + c.zones as usize;
-    if n < 4294967295 { n as u32 } else { 4294967295 }
+    in_word(c.segments as usize + c.zones as usize)
 }
 
 // What the reader of the MDF answers, with what the RNDF gave.
@@ -102,10 +102,10 @@ fn joined(c: Counts, file: FileRow, mission: MissionReply) -> PairReply
 {
     match mission {
         MissionReply::Accepted(m, mission_file) => PairReply::Accepted(c, file, m, mission_file),
-        MissionReply::Refused(line, number) => PairReply::Refused(Refusal {
+        MissionReply::Refused(fault) => PairReply::Refused(Refusal {
             file: 2,
-            line,
-            number,
+            line: fault.line,
+            number: fault.number,
         }),
     }
 }
@@ -152,10 +152,10 @@ fn read_both(
             );
             joined(c, file, mission)
         }
-        NetworkReply::Refused(line, number) => PairReply::Refused(Refusal {
+        NetworkReply::Refused(fault) => PairReply::Refused(Refusal {
             file: 1,
-            line,
-            number,
+            line: fault.line,
+            number: fault.number,
         }),
     }
 }

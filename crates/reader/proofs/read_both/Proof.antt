@@ -2,7 +2,7 @@ use mathlib.Core.Path.{_≡_, refl, sym, ap, _∙_}
 use Prim.Native.Nat.{ℕ}
 use lib.ListN.{length, replicate}
 use lib.IntN.{ℤ, pos}
-use Rattle.network_reader.specs.Reading.{lent}
+use Rattle.law.specs.Tables.{lent}
 use Rattle.law.specs.Tables.{mission-lent}
 use Rattle.reader.proofs.Pairing.{both-accepted, both-refused}
 use borrow.Author.Needs.{needs}

@@ -2,7 +2,7 @@ use mathlib.Core.Path.{_≡_, refl, sym, ap, _∙_}
 use Prim.Native.Nat.{ℕ}
 use lib.ListN.{length, replicate}
 use lib.IntN.{ℤ, pos}
-use Rattle.network_reader.specs.Reading.{lent}
+use Rattle.law.specs.Tables.{lent}
 use Rattle.law.specs.Tables.{mission-lent}
 use Rattle.reader.proofs.Pairing.{pair-accepted, pair-refused}
 use borrow.Author.Needs.{needs}
@@ -10,7 +10,7 @@ use Rattle.reader.proofs.read_pair.Statement.{statement}
 use Rattle.reader.proofs.read_pair.Tie as tie
 use Rattle.reader.proofs.read_pair.Reads as reads
 use Rattle.reader.proofs.read_pair.Lts as lts
-use Rattle.network_reader.proofs.clear_tables.Reads as clear-tables-reads
+use Rattle.room.proofs.clear_tables.Reads as clear-tables-reads
 use Rattle.reader.proofs.read_both.Reads as read-both-reads
 use Rattle.rows.proofs.clear.Reads as clear-reads
 

@@ -2,14 +2,14 @@ use mathlib.Core.Path.{_≡_, refl, sym, ap, _∙_}
 use Prim.Native.Nat.{ℕ}
 use lib.ListN.{length, replicate}
 use lib.IntN.{ℤ, pos}
-use Rattle.network_reader.specs.Reading.{lent}
+use Rattle.law.specs.Tables.{lent}
 use Rattle.reader.proofs.Steps.{accepted-so, refused-so}
 use borrow.Author.Needs.{needs}
 use Rattle.reader.proofs.read_rndf.Statement.{statement}
 use Rattle.reader.proofs.read_rndf.Tie as tie
 use Rattle.reader.proofs.read_rndf.Reads as reads
 use Rattle.reader.proofs.read_rndf.Lts as lts
-use Rattle.network_reader.proofs.clear_tables.Reads as clear-tables-reads
+use Rattle.room.proofs.clear_tables.Reads as clear-tables-reads
 use Rattle.network_reader.proofs.read_network.Reads as read-network-reads
 
 -- src/lib.rt:31:9
