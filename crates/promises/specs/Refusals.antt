@@ -1,5 +1,5 @@
 -- WHAT A READER MUST BELIEVE. What the refusal numbers tell of a text. Document 01, "Refusal numbers". Assumes nothing.
-use Rattle.terms.specs.Words.{_≡_, List, _∷_, _++_, _⊎_, ℕ, Bytes}
+use Rattle.terms.specs.Words.{_≡_, List, _∷_, _++_, _⊎_, ℕ, suc, length, Bytes}
 use Rattle.line.specs.Line.{Cut, Field}
 use Rattle.law.specs.Network.{Network, Mission, Line, AnyOrder, SpellsNetwork, SpellsMission, SpellsText}
 use Rattle.law.specs.Tables.{Lent, MissionLent}
@@ -44,6 +44,14 @@ module _ {Net : Type 0} (Spells : Net → List Line → Type 0) where
     pub begins : Begin (at .before)
     pub hopeless : Hopeless (at .before) this
     pub fault : Fault Spells front this number
+
+  -- 10, at "lines + 1". 01: "10 is given only if every line is good, so the text begins some well-formed file": its lines are the first of some well-formed text, and it is none itself
+  pub record RefusedEnd (text : Bytes) (line : ℕ) : Type 0 where
+    pub lines : List Bytes
+    pub cut : Cut text lines
+    pub begins : Begin lines
+    pub unfinished : WellFormed text → ⊥
+    pub number : line ≡ suc (length lines)
 
   -- 11: the text is well-formed, and there is no room for the rows of what it spells
   pub record NoRoom (Roomy : Net → Type 0) (text : Bytes) : Type 0 where
