@@ -2,10 +2,12 @@
 use mathlib.Core.Path.{_≡_}
 use mathlib.Core.List.{List}
 use mathlib.Core.Logic.{_⊎_, inl, inr}
-use Prim.Native.Nat.{ℕ, _≤_}
+use Prim.Native.Nat.{ℕ}
 use native.Mathlib.Omega.{arith}
 use Rattle.terms.specs.Ascii.{Bytes}
 use Rattle.line.specs.Content.{Field}
+use Rattle.refusal.specs.Numbers.{OfForm, OfReference}
+use Rattle.refusal.proofs.Apart.{form-within, reference-within}
 use Rattle.law.specs.Network.{Network, Mission, Line}
 use Rattle.law.specs.Faults.{BadLine, Unended, RndfFault, undeclared, repeated, MdfFault, other-name, foreign-goal, unknown-id, limited-again, unlimited}
 use Rattle.text.specs.Refusals as Old-refusals
@@ -69,11 +71,11 @@ mdf-begin-back : (lines : List Bytes) → Begin Mdf lines → Old-refusals.Begin
 mdf-begin-back lines b = record { more = b .more; text = b .text; made = b .cut; net = b .formed .0; spelled = mdf-back (b .formed .0) (b .text) (b .formed .1) }
 
 -- ## A bad line has a number of 2 to 9; the lines before it begin some well-formed text, and none begins with them and it
-pub rndf-form : (text : Bytes) (line number : ℕ) → BadLine Rndf text line number → (2 ≤ number) × (number ≤ 9)
-rndf-form text line number b = F.rndf-two-to-nine text line number (rndf-bad-back text line number b)
+pub rndf-form : (text : Bytes) (line number : ℕ) → BadLine Rndf text line number → OfForm number
+rndf-form text line number b = let h = F.rndf-two-to-nine text line number (rndf-bad-back text line number b) in form-within number (h .0) (h .1)
 
-pub mdf-form : (text : Bytes) (line number : ℕ) → BadLine Mdf text line number → (2 ≤ number) × (number ≤ 9)
-mdf-form text line number b = F.mdf-two-to-nine text line number (mdf-bad-back text line number b)
+pub mdf-form : (text : Bytes) (line number : ℕ) → BadLine Mdf text line number → OfForm number
+mdf-form text line number b = let h = F.mdf-two-to-nine text line number (mdf-bad-back text line number b) in form-within number (h .0) (h .1)
 
 pub rndf-refused-line : (text : Bytes) (line number : ℕ) → BadLine Rndf text line number → RefusedLine Rndf text line number
 rndf-refused-line text line number b =
@@ -107,13 +109,13 @@ mdf-end-unended text line r =
     mdf-unended-to text line (record { lines = r .lines; cut = r .cut; number = r .number; begins = mdf-begin-back (r .lines) (r .begins); incomplete = λ m s. r .unfinished (m, mdf-to m text s) })
 
 -- ## Wrong references have 12 and 13, and 14 to 18
-pub rndf-reference : (n : Network Field) (front : List Line) (line : Line) (number : ℕ) → RndfFault n front line number → 12 ≤ number
-rndf-reference n front line number (undeclared x y e is not) = omega arith
-rndf-reference n front line number (repeated x y x′ y′ c c′ is was same) = omega arith
+pub rndf-reference : (n : Network Field) (front : List Line) (line : Line) (number : ℕ) → RndfFault n front line number → OfReference number
+rndf-reference n front line number (undeclared x y e is not) = reference-within 12 (omega arith) (omega arith)
+rndf-reference n front line number (repeated x y x′ y′ c c′ is was same) = reference-within 13 (omega arith) (omega arith)
 
-pub mdf-reference : (n : Network Field) (front : List Line) (line : Line) (number : ℕ) → MdfFault n front line number → 12 ≤ number
-mdf-reference n front line number (other-name v is not) = omega arith
-mdf-reference n front line number (foreign-goal g is not) = omega arith
-mdf-reference n front line number (unknown-id a is not) = omega arith
-mdf-reference n front line number (limited-again a b is known was same) = omega arith
-mdf-reference n front line number (unlimited id is known not) = omega arith
+pub mdf-reference : (n : Network Field) (front : List Line) (line : Line) (number : ℕ) → MdfFault n front line number → OfReference number
+mdf-reference n front line number (other-name v is not) = reference-within 14 (omega arith) (omega arith)
+mdf-reference n front line number (foreign-goal g is not) = reference-within 15 (omega arith) (omega arith)
+mdf-reference n front line number (unknown-id a is not) = reference-within 16 (omega arith) (omega arith)
+mdf-reference n front line number (limited-again a b is known was same) = reference-within 17 (omega arith) (omega arith)
+mdf-reference n front line number (unlimited id is known not) = reference-within 18 (omega arith) (omega arith)

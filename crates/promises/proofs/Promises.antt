@@ -4,6 +4,7 @@ use Prim.Native.Nat.{ℕ, _≤_, _<_}
 use lib.ListN.{length}
 use Rattle.terms.specs.Ascii.{Bytes}
 use Rattle.line.specs.Content.{Field}
+use Rattle.refusal.specs.Numbers.{OfForm, OfReference}
 use Rattle.law.specs.Network.{Network}
 use Rattle.law.specs.Short.{SpellsRndf}
 use Rattle.law.specs.Tables.{Lent, HasRoom, filled, zeros}
@@ -17,8 +18,8 @@ use Rattle.reader.specs.Replies.{most, AcceptsRndf, RefusesRndf, unended, refus
 use Rattle.reader.proofs.Settled.{rndf-settled}
 use Rattle.promises.specs.Accepted.{IsAccepted, Acceptable, NamesAsked}
 use Rattle.promises.specs.Declared.{declared}
-use Rattle.promises.specs.Refusals.{Rndf, RefusedLine, RefusedEnd, NoRoom, WrongReference}
-use Rattle.promises.proofs.Numbers.{size-by, line-by, end-by, room-by, reference-by}
+use Rattle.promises.specs.Refusals.{Rndf, OneOfFive, RefusedLine, RefusedEnd, NoRoom, WrongReference}
+use Rattle.promises.proofs.Numbers.{number-by, size-by, line-by, end-by, room-by, reference-by}
 use Rattle.promises.proofs.Forms.{one-spelled, rndf-form, rndf-refused-line, rndf-refused-end, rndf-end-unended, rndf-reference}
 use Rattle.promises.proofs.Counted.{network-counted}
 use Rattle.promises.proofs.Names as Names
@@ -97,13 +98,17 @@ module _ (text : Bytes) (t : Lent) where
   Roomy n = HasRoom n t
 
   module _ (x : Refusal) (l : Lent) (h : ReadsRndf text t (Reply.Refused x) l) where
+    -- no other number is replied than those that the next five tell of
+    pub refused-number : OneOfFive (x .number)
+    refused-number = number-by Rndf Roomy Sound RndfFault text (rndf-form text) rndf-reference (x .line) (x .number) (refusal-right x l h)
+
     -- 1: the text is too long; line 0
     pub refused-size : x .number ≡ 1 → (x .line ≡ 0) × (most < length text)
     refused-size = size-by Rndf Roomy Sound RndfFault text (rndf-form text) rndf-reference (x .line) (x .number) (refusal-right x l h)
 
-    -- 2 to 9: the lines before the refused line begin some well-formed text, none begins with them and it, and it has that fault
-    pub refused-line : 2 ≤ x .number → x .number ≤ 9 → RefusedLine Rndf text (x .line) (x .number)
-    refused-line low high = rndf-refused-line text (x .line) (x .number) (line-by Rndf Roomy Sound RndfFault text (rndf-form text) rndf-reference (x .line) (x .number) (refusal-right x l h) low high)
+    -- a number of form: the lines before the refused line begin some well-formed text, none begins with them and it, and it has that fault
+    pub refused-line : OfForm (x .number) → RefusedLine Rndf text (x .line) (x .number)
+    refused-line form = rndf-refused-line text (x .line) (x .number) (line-by Rndf Roomy Sound RndfFault text (rndf-form text) rndf-reference (x .line) (x .number) (refusal-right x l h) form)
 
     -- 10: the lines of the text begin some well-formed text, and it is none; the line behind its last
     pub refused-end : x .number ≡ 10 → RefusedEnd Rndf text (x .line)
@@ -113,6 +118,6 @@ module _ (text : Bytes) (t : Lent) where
     pub refused-room : x .number ≡ 11 → (x .line ≡ 0) × NoRoom Rndf (λ n. HasRoom n t) text
     refused-room = room-by Rndf Roomy Sound RndfFault text (rndf-form text) rndf-reference (x .line) (x .number) (refusal-right x l h)
 
-    -- 12 and 13: well-formed, there is room, and this is the first line with a wrong reference
-    pub refused-reference : 12 ≤ x .number → WrongReference Rndf (λ n. HasRoom n t) RndfFault text (x .line) (x .number)
+    -- a number of reference: well-formed, there is room, and this is the first line with a wrong reference
+    pub refused-reference : OfReference (x .number) → WrongReference Rndf (λ n. HasRoom n t) RndfFault text (x .line) (x .number)
     refused-reference = reference-by Rndf Roomy Sound RndfFault text (rndf-form text) rndf-reference (x .line) (x .number) (refusal-right x l h)
