@@ -1,4 +1,5 @@
--- Laws for the proofs of this crate (Others, Cases), and sentences letter by letter (Examples).
+-- Laws for the proofs of this crate (Others, Cases), sentences letter by letter (Examples), and what the contracts settle (Settled).
 mod Others
 mod Cases
 mod Examples
+pub mod Settled

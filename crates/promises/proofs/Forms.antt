@@ -2,12 +2,15 @@
 use mathlib.Core.Path.{_≡_}
 use mathlib.Core.List.{List}
 use mathlib.Core.Logic.{_⊎_, inl, inr}
-use Prim.Native.Nat.{ℕ, _≤_}
+use Prim.Native.Nat.{ℕ}
 use native.Mathlib.Omega.{arith}
 use Rattle.terms.specs.Ascii.{Bytes}
 use Rattle.line.specs.Content.{Field}
+use Rattle.refusal.specs.Numbers.{OfForm, OfReference}
+use Rattle.refusal.proofs.Apart.{form-within, reference-within}
 use Rattle.law.specs.Network.{Network, Mission, Line}
-use Rattle.law.specs.Faults.{BadLine, RndfFault, undeclared, repeated, MdfFault, other-name, foreign-goal, unknown-id, limited-again, unlimited}
+use Rattle.law.specs.Faults.{BadLine, Unended, RndfFault, undeclared, repeated, MdfFault, other-name, foreign-goal, unknown-id, limited-again, unlimited}
+use Rattle.text.specs.Refusals as Old-refusals
 use Rattle.text.specs.Spelling as Old
 use Rattle.text.proofs.Theorems as Once
 use Rattle.form_faults.specs.FormFaults as Old-faults
@@ -15,7 +18,7 @@ use Rattle.form_faults.proofs.FormFaults as F
 use Rattle.law.specs.Short.{SpellsRndf, SpellsMdf}
 use Rattle.law_spelling.proofs.Texts.{rndf-to, rndf-back, mdf-to, mdf-back}
 use Rattle.law_faults.proofs.Theorems.{rndf-bad-to, rndf-bad-back, rndf-unended-to, rndf-unended-back, mdf-bad-to, mdf-bad-back, mdf-unended-to, mdf-unended-back}
-use Rattle.promises.specs.Refusals.{Rndf, Mdf, WellFormed, NoFormFault, RefusedLine}
+use Rattle.promises.specs.Refusals.{Rndf, Mdf, WellFormed, NoFormFault, Begin, RefusedLine, RefusedEnd}
 use Rattle.promises.proofs.Numbers.{refused-by}
 
 -- ## Only one network, and only one mission
@@ -54,37 +57,65 @@ mdf-well-formed text = (
     go f (inr (inl b)) = absurd (f .no-bad-line (b .0) (b .1) (mdf-bad-to text (b .0) (b .1) (b .2)))
     go f (inr (inr u)) = absurd (f .ended (u .0) (mdf-unended-to text (u .0) (u .1)))
 
--- ## A bad line has a number of 2 to 9; the lines before it begin some well-formed text, and none begins with them and it
-pub rndf-form : (text : Bytes) (line number : ℕ) → BadLine Rndf text line number → (2 ≤ number) × (number ≤ 9)
-rndf-form text line number b = F.rndf-two-to-nine text line number (rndf-bad-back text line number b)
+-- ## Lines that begin some well-formed text: as the law has it, and over statements
+rndf-begin-to : (lines : List Bytes) → Old-refusals.Begin Old.SpellsRndf lines → Begin Rndf lines
+rndf-begin-to lines b = record { more = b .more; text = b .text; cut = b .made; formed = (b .net, rndf-to (b .net) (b .text) (b .spelled)) }
 
-pub mdf-form : (text : Bytes) (line number : ℕ) → BadLine Mdf text line number → (2 ≤ number) × (number ≤ 9)
-mdf-form text line number b = F.mdf-two-to-nine text line number (mdf-bad-back text line number b)
+rndf-begin-back : (lines : List Bytes) → Begin Rndf lines → Old-refusals.Begin Old.SpellsRndf lines
+rndf-begin-back lines b = record { more = b .more; text = b .text; made = b .cut; net = b .formed .0; spelled = rndf-back (b .formed .0) (b .text) (b .formed .1) }
+
+mdf-begin-to : (lines : List Bytes) → Old-refusals.Begin Old.SpellsMdf lines → Begin Mdf lines
+mdf-begin-to lines b = record { more = b .more; text = b .text; cut = b .made; formed = (b .net, mdf-to (b .net) (b .text) (b .spelled)) }
+
+mdf-begin-back : (lines : List Bytes) → Begin Mdf lines → Old-refusals.Begin Old.SpellsMdf lines
+mdf-begin-back lines b = record { more = b .more; text = b .text; made = b .cut; net = b .formed .0; spelled = mdf-back (b .formed .0) (b .text) (b .formed .1) }
+
+-- ## A bad line has a number of 2 to 9; the lines before it begin some well-formed text, and none begins with them and it
+pub rndf-form : (text : Bytes) (line number : ℕ) → BadLine Rndf text line number → OfForm number
+rndf-form text line number b = let h = F.rndf-two-to-nine text line number (rndf-bad-back text line number b) in form-within number (h .0) (h .1)
+
+pub mdf-form : (text : Bytes) (line number : ℕ) → BadLine Mdf text line number → OfForm number
+mdf-form text line number b = let h = F.mdf-two-to-nine text line number (mdf-bad-back text line number b) in form-within number (h .0) (h .1)
 
 pub rndf-refused-line : (text : Bytes) (line number : ℕ) → BadLine Rndf text line number → RefusedLine Rndf text line number
 rndf-refused-line text line number b =
     let o = rndf-bad-back text line number b in
-    let s = F.rndf-begins-some text line number o in
-    refused-by Rndf text line number b (o .before) (o .this) (o .rest) (o .cut) (o .number)
-    (record { more = s .more; text = s .text; cut = s .made; formed = (s .net, rndf-to (s .net) (s .text) (s .spelled)) })
+    refused-by Rndf text line number b (o .before) (o .this) (o .rest) (o .cut) (o .number) (rndf-begin-to (o .before) (F.rndf-begins-some text line number o))
     (λ more text′ c w. F.rndf-hopeless text line number o text′ more (w .0) c (rndf-back (w .0) text′ (w .1)))
 
 pub mdf-refused-line : (text : Bytes) (line number : ℕ) → BadLine Mdf text line number → RefusedLine Mdf text line number
 mdf-refused-line text line number b =
     let o = mdf-bad-back text line number b in
-    let s = F.mdf-begins-some text line number o in
-    refused-by Mdf text line number b (o .before) (o .this) (o .rest) (o .cut) (o .number)
-    (record { more = s .more; text = s .text; cut = s .made; formed = (s .net, mdf-to (s .net) (s .text) (s .spelled)) })
+    refused-by Mdf text line number b (o .before) (o .this) (o .rest) (o .cut) (o .number) (mdf-begin-to (o .before) (F.mdf-begins-some text line number o))
     (λ more text′ c w. F.mdf-hopeless text line number o text′ more (w .0) c (mdf-back (w .0) text′ (w .1)))
 
--- ## Wrong references have 12 and 13, and 14 to 18
-pub rndf-reference : (n : Network Field) (front : List Line) (line : Line) (number : ℕ) → RndfFault n front line number → 12 ≤ number
-rndf-reference n front line number (undeclared x y e is not) = omega arith
-rndf-reference n front line number (repeated x y x′ y′ c c′ is was same) = omega arith
+-- ## 10: a text whose lines begin some well-formed text, and which is none, is unended; and so is no other
+pub rndf-refused-end : (text : Bytes) (line : ℕ) → Unended Rndf text line → RefusedEnd Rndf text line
+rndf-refused-end text line u =
+    let o = rndf-unended-back text line u in
+    record { lines = o .lines; cut = o .cut; begins = rndf-begin-to (o .lines) (o .begins); unfinished = λ w. u .incomplete (w .0) (w .1); number = o .number }
 
-pub mdf-reference : (n : Network Field) (front : List Line) (line : Line) (number : ℕ) → MdfFault n front line number → 12 ≤ number
-mdf-reference n front line number (other-name v is not) = omega arith
-mdf-reference n front line number (foreign-goal g is not) = omega arith
-mdf-reference n front line number (unknown-id a is not) = omega arith
-mdf-reference n front line number (limited-again a b is known was same) = omega arith
-mdf-reference n front line number (unlimited id is known not) = omega arith
+pub rndf-end-unended : (text : Bytes) (line : ℕ) → RefusedEnd Rndf text line → Unended Rndf text line
+rndf-end-unended text line r =
+    rndf-unended-to text line (record { lines = r .lines; cut = r .cut; number = r .number; begins = rndf-begin-back (r .lines) (r .begins); incomplete = λ n s. r .unfinished (n, rndf-to n text s) })
+
+pub mdf-refused-end : (text : Bytes) (line : ℕ) → Unended Mdf text line → RefusedEnd Mdf text line
+mdf-refused-end text line u =
+    let o = mdf-unended-back text line u in
+    record { lines = o .lines; cut = o .cut; begins = mdf-begin-to (o .lines) (o .begins); unfinished = λ w. u .incomplete (w .0) (w .1); number = o .number }
+
+pub mdf-end-unended : (text : Bytes) (line : ℕ) → RefusedEnd Mdf text line → Unended Mdf text line
+mdf-end-unended text line r =
+    mdf-unended-to text line (record { lines = r .lines; cut = r .cut; number = r .number; begins = mdf-begin-back (r .lines) (r .begins); incomplete = λ m s. r .unfinished (m, mdf-to m text s) })
+
+-- ## Wrong references have 12 and 13, and 14 to 18
+pub rndf-reference : (n : Network Field) (front : List Line) (line : Line) (number : ℕ) → RndfFault n front line number → OfReference number
+rndf-reference n front line number (undeclared x y e is not) = reference-within 12 (omega arith) (omega arith)
+rndf-reference n front line number (repeated x y x′ y′ c c′ is was same) = reference-within 13 (omega arith) (omega arith)
+
+pub mdf-reference : (n : Network Field) (front : List Line) (line : Line) (number : ℕ) → MdfFault n front line number → OfReference number
+mdf-reference n front line number (other-name v is not) = reference-within 14 (omega arith) (omega arith)
+mdf-reference n front line number (foreign-goal g is not) = reference-within 15 (omega arith) (omega arith)
+mdf-reference n front line number (unknown-id a is not) = reference-within 16 (omega arith) (omega arith)
+mdf-reference n front line number (limited-again a b is known was same) = reference-within 17 (omega arith) (omega arith)
+mdf-reference n front line number (unlimited id is known not) = reference-within 18 (omega arith) (omega arith)

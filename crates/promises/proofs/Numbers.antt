@@ -1,57 +1,68 @@
 -- What each number tells, of a file of either kind: from the order of refusals alone. Assumes nothing.
 use mathlib.Core.Path.{_≡_, refl, subst}
 use mathlib.Core.List.{List, [], _∷_, _++_, head-eq-of-cons-eq, tail-eq-of-cons-eq}
-use Prim.Native.Nat.{ℕ, suc, _≤_, _<_}
+use Prim.Native.Nat.{ℕ, suc, _<_}
 use native.Mathlib.Omega.{arith}
 use lib.ListN.{length}
 use Rattle.terms.specs.Ascii.{Bytes}
 use Rattle.line.specs.Text.{Cut}
 use Rattle.line.proofs.Cuts.{cut-one}
+use Rattle.refusal.specs.Numbers.{OfForm, OfReference}
+use Rattle.refusal.proofs.Apart.{form-or-reference, form-not-size, form-not-end, form-not-room, reference-not-size, reference-not-end, reference-not-room}
 use Rattle.law.specs.Network.{Line}
 use Rattle.law.specs.Faults.{BadLine, Unended}
 use Rattle.reader.specs.Replies.{most, Refuses, too-long, bad-line, unended, no-room, bad-reference}
-use Rattle.promises.specs.Refusals.{Begin, Hopeless, RefusedLine, NoRoom, WrongReference}
+use Rattle.promises.specs.Refusals as Numbers
+use Rattle.promises.specs.Refusals.{OneOfFive, Begin, Hopeless, RefusedLine, NoRoom, WrongReference}
 
 -- ## By number. `form`, `reference`: which numbers a bad line and a wrong reference have
 module _ {Net : Type 0} (Spells : Net → List Line → Type 0) (Roomy Right : Net → Type 0) (Wrong : Net → List Line → Line → ℕ → Type 0) (text : Bytes)
-    (form : (line number : ℕ) → BadLine Spells text line number → (2 ≤ number) × (number ≤ 9)) (reference : (n : Net) (front : List Line) (line : Line) (number : ℕ) → Wrong n front line number → 12 ≤ number) where
+    (form : (line number : ℕ) → BadLine Spells text line number → OfForm number) (reference : (n : Net) (front : List Line) (line : Line) (number : ℕ) → Wrong n front line number → OfReference number) where
   abbrev Refused : (line number : ℕ) → Type 0
   Refused = Refuses Spells Roomy Right Wrong text
 
+  -- no other numbers are given
+  pub number-by : (line number : ℕ) → Refused line number → OneOfFive number
+  number-by line number (too-long h) = Numbers.size refl
+  number-by line number (bad-line size b) = Numbers.form (form line number b)
+  number-by line number (unended size u) = Numbers.end refl
+  number-by line number (no-room n size h f) = Numbers.room refl
+  number-by line number (bad-reference n size h room f) = Numbers.reference (reference n (f .front) (f .line) number (f .fault))
+
   pub size-by : (line number : ℕ) → Refused line number → number ≡ 1 → (line ≡ 0) × (most < length text)
   size-by line number (too-long h) e = (refl, h)
-  size-by line number (bad-line size b) e = let k = form line number b in absurd (omega arith)
+  size-by line number (bad-line size b) e = absurd (form-not-size (form line number b) e)
   size-by line number (unended size u) e = absurd (omega arith)
   size-by line number (no-room n size h f) e = absurd (omega arith)
-  size-by line number (bad-reference n size h room f) e = let k = reference n (f .front) (f .line) number (f .fault) in absurd (omega arith)
+  size-by line number (bad-reference n size h room f) e = absurd (reference-not-size (reference n (f .front) (f .line) number (f .fault)) e)
 
-  pub line-by : (line number : ℕ) → Refused line number → 2 ≤ number → number ≤ 9 → BadLine Spells text line number
-  line-by line number (too-long h) low high = absurd (omega arith)
-  line-by line number (bad-line size b) low high = b
-  line-by line number (unended size u) low high = absurd (omega arith)
-  line-by line number (no-room n size h f) low high = absurd (omega arith)
-  line-by line number (bad-reference n size h room f) low high = let k = reference n (f .front) (f .line) number (f .fault) in absurd (omega arith)
+  pub line-by : (line number : ℕ) → Refused line number → OfForm number → BadLine Spells text line number
+  line-by line number (too-long h) k = absurd (form-not-size k refl)
+  line-by line number (bad-line size b) k = b
+  line-by line number (unended size u) k = absurd (form-not-end k refl)
+  line-by line number (no-room n size h f) k = absurd (form-not-room k refl)
+  line-by line number (bad-reference n size h room f) k = absurd (form-or-reference k (reference n (f .front) (f .line) number (f .fault)))
 
   pub end-by : (line number : ℕ) → Refused line number → number ≡ 10 → Unended Spells text line
   end-by line number (too-long h) e = absurd (omega arith)
-  end-by line number (bad-line size b) e = let k = form line number b in absurd (omega arith)
+  end-by line number (bad-line size b) e = absurd (form-not-end (form line number b) e)
   end-by line number (unended size u) e = u
   end-by line number (no-room n size h f) e = absurd (omega arith)
-  end-by line number (bad-reference n size h room f) e = let k = reference n (f .front) (f .line) number (f .fault) in absurd (omega arith)
+  end-by line number (bad-reference n size h room f) e = absurd (reference-not-end (reference n (f .front) (f .line) number (f .fault)) e)
 
   pub room-by : (line number : ℕ) → Refused line number → number ≡ 11 → (line ≡ 0) × NoRoom Spells Roomy text
   room-by line number (too-long h) e = absurd (omega arith)
-  room-by line number (bad-line size b) e = let k = form line number b in absurd (omega arith)
+  room-by line number (bad-line size b) e = absurd (form-not-room (form line number b) e)
   room-by line number (unended size u) e = absurd (omega arith)
   room-by line number (no-room n size h f) e = (refl, record { net = n; spelled = h; none = f })
-  room-by line number (bad-reference n size h room f) e = let k = reference n (f .front) (f .line) number (f .fault) in absurd (omega arith)
+  room-by line number (bad-reference n size h room f) e = absurd (reference-not-room (reference n (f .front) (f .line) number (f .fault)) e)
 
-  pub reference-by : (line number : ℕ) → Refused line number → 12 ≤ number → WrongReference Spells Roomy Wrong text line number
-  reference-by line number (too-long h) low = absurd (omega arith)
-  reference-by line number (bad-line size b) low = let k = form line number b in absurd (omega arith)
-  reference-by line number (unended size u) low = absurd (omega arith)
-  reference-by line number (no-room n size h f) low = absurd (omega arith)
-  reference-by line number (bad-reference n size h room f) low = record { net = n; spelled = h; room = room; fault = f }
+  pub reference-by : (line number : ℕ) → Refused line number → OfReference number → WrongReference Spells Roomy Wrong text line number
+  reference-by line number (too-long h) k = absurd (reference-not-size k refl)
+  reference-by line number (bad-line size b) k = absurd (form-or-reference (form line number b) k)
+  reference-by line number (unended size u) k = absurd (reference-not-end k refl)
+  reference-by line number (no-room n size h f) k = absurd (reference-not-room k refl)
+  reference-by line number (bad-reference n size h room f) k = record { net = n; spelled = h; room = room; fault = f }
 
 -- ## A bad line: where lines are cut in two ways at the same place, they are the same
 same-place : (a a′ : List Bytes) (x x′ : Bytes) (rest rest′ : List Bytes) → a ++ (x ∷ rest) ≡ a′ ++ (x′ ∷ rest′) → length a ≡ length a′ → (a ≡ a′) × (x ≡ x′)

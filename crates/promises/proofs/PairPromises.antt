@@ -6,10 +6,11 @@ use Prim.Native.Nat.{ℕ, _≤_, _<_}
 use lib.ListN.{length}
 use Rattle.terms.specs.Ascii.{Bytes}
 use Rattle.line.specs.Content.{Field}
+use Rattle.refusal.specs.Numbers.{OfForm, OfReference}
 use Rattle.law.specs.Network.{Network, Mission, Line}
 use Rattle.law.specs.Short.{SpellsRndf, SpellsMdf}
 use Rattle.law.specs.Tables.{Lent, MissionLent, HasRoom, MissionHasRoom, filled, mission-filled, zeros, mission-zeros}
-use Rattle.law.specs.Faults.{Unended, Sound, RndfFault, MdfFault, Fits}
+use Rattle.law.specs.Faults.{Sound, RndfFault, MdfFault, Fits}
 use Rattle.rows.specs.declared.FileRow.{FileRow}
 use Rattle.rows.specs.declared.MissionFileRow.{MissionFileRow}
 use Rattle.network_reader.specs.declared.Counts.{Counts}
@@ -17,13 +18,13 @@ use Rattle.mission_reader.specs.declared.MissionCounts.{MissionCounts}
 use Rattle.reader.specs.declared.Refusal.{Refusal}
 use Rattle.reader.specs.declared.PairReply.{PairReply}
 use Rattle.reader.specs.declared.PairReply.the-variants as Pair
-use Rattle.reader.specs.Replies.{most, AcceptsRndf, AcceptsMdf, refusal, rows-used, network-file, mission-file, ReadsPair, accepted, rndf-refused, mdf-refused}
+use Rattle.reader.specs.Replies.{most, AcceptsRndf, AcceptsMdf, unended, refusal, rows-used, network-file, mission-file, ReadsPair, accepted, rndf-refused, mdf-refused}
 use Rattle.reader.proofs.Settled.{pair-settled}
 use Rattle.promises.specs.Accepted.{IsPairAccepted, PairAcceptable, mission-rows-used, Meant, NamesAsked, MissionNamesAsked}
 use Rattle.promises.specs.Declared.{declared, mission-declared}
-use Rattle.promises.specs.Refusals.{Rndf, Mdf, RefusedLine, NoRoom, WrongReference, OfFile, PairRefuses}
-use Rattle.promises.proofs.Numbers.{size-by, line-by, end-by, room-by, reference-by}
-use Rattle.promises.proofs.Forms.{one-spelled, one-mission, rndf-form, mdf-form, rndf-refused-line, mdf-refused-line, rndf-reference, mdf-reference}
+use Rattle.promises.specs.Refusals.{Rndf, Mdf, OneOfFive, RefusedLine, RefusedEnd, NoRoom, WrongReference, OfFile, PairRefuses}
+use Rattle.promises.proofs.Numbers.{number-by, size-by, line-by, end-by, room-by, reference-by}
+use Rattle.promises.proofs.Forms.{one-spelled, one-mission, rndf-form, mdf-form, rndf-refused-line, mdf-refused-line, rndf-refused-end, mdf-refused-end, rndf-end-unended, mdf-end-unended, rndf-reference, mdf-reference}
 use Rattle.promises.proofs.Counted.{network-counted, mission-counted}
 use Rattle.promises.proofs.Names as Names
 
@@ -123,6 +124,14 @@ module _ (rndf mdf : Bytes) (t : Lent) (u : MissionLent) where
   pair-refusal-only r l k h x (inl b) = pair-settled rndf mdf t u r (Pair.Refused x) l (zeros t) k (mission-zeros u) h (rndf-refused (x .line) (x .number) (b .1) (ap (λ (y : ℕ). Pair.Refused (refusal y (x .line) (x .number))) (b .0)) refl refl)
   pair-refusal-only r l k h x (inr b) = pair-settled rndf mdf t u r (Pair.Refused x) l (zeros t) k (mission-zeros u) h (mdf-refused (b .1 .0) (x .line) (x .number) (b .1 .1) (b .1 .2) (ap (λ (y : ℕ). Pair.Refused (refusal y (x .line) (x .number))) (b .0)) refl refl)
 
+  -- 10 is replied to every such RNDF that is not too long, and to every such MDF with an RNDF that is accepted (each is refused with 10: pair-refused-end)
+  pub rndf-end-refused : (r : PairReply) (l : Lent) (k : MissionLent) (line : ℕ) → ReadsPair rndf mdf t u r l k → length rndf ≤ most → RefusedEnd Rndf rndf line → (r ≡ Pair.Refused (refusal 1 line 10)) × (l ≡ zeros t) × (k ≡ mission-zeros u)
+  rndf-end-refused r l k line h size e = pair-refusal-only r l k h (refusal 1 line 10) (inl (refl, unended size (rndf-end-unended rndf line e)))
+
+  pub mdf-end-refused : (r : PairReply) (l : Lent) (k : MissionLent) (line : ℕ) → ReadsPair rndf mdf t u r l k → (n : Network Field) → AcceptsRndf rndf t n → length mdf ≤ most → RefusedEnd Mdf mdf line
+      → (r ≡ Pair.Refused (refusal 2 line 10)) × (l ≡ zeros t) × (k ≡ mission-zeros u)
+  mdf-end-refused r l k line h n a size e = pair-refusal-only r l k h (refusal 2 line 10) (inr (refl, (n, a, unended size (mdf-end-unended mdf line e))))
+
   -- ## What each number tells, of the file that is named
   abbrev Roomy : Network Field → Type 0
   Roomy n = HasRoom n t
@@ -134,6 +143,14 @@ module _ (rndf mdf : Bytes) (t : Lent) (u : MissionLent) where
   Wrong n m = MdfFault n
 
   module _ (x : Refusal) (l : Lent) (k : MissionLent) (h : ReadsPair rndf mdf t u (Pair.Refused x) l k) where
+    -- no other number is replied than those that the next five tell of
+    pub pair-refused-number : OneOfFive (x .number)
+    pair-refused-number = go (pair-refusal-right x l k h)
+      where
+        go : PairRefuses rndf mdf t u x → OneOfFive (x .number)
+        go (inl b) = number-by Rndf Roomy Sound RndfFault rndf (rndf-form rndf) rndf-reference (x .line) (x .number) (b .1)
+        go (inr b) = number-by Mdf MissionRoomy (Fits (b .1 .0)) (Wrong (b .1 .0)) mdf (mdf-form mdf) (λ m. mdf-reference (b .1 .0)) (x .line) (x .number) (b .1 .2)
+
     -- 1: that text is too long; line 0
     pub pair-refused-size : x .number ≡ 1 → OfFile x ((x .line ≡ 0) × (most < length rndf)) ((x .line ≡ 0) × (most < length mdf))
     pair-refused-size e = go (pair-refusal-right x l k h)
@@ -142,21 +159,21 @@ module _ (rndf mdf : Bytes) (t : Lent) (u : MissionLent) where
         go (inl b) = inl (b .0, size-by Rndf Roomy Sound RndfFault rndf (rndf-form rndf) rndf-reference (x .line) (x .number) (b .1) e)
         go (inr b) = inr (b .0, size-by Mdf MissionRoomy (Fits (b .1 .0)) (Wrong (b .1 .0)) mdf (mdf-form mdf) (λ m. mdf-reference (b .1 .0)) (x .line) (x .number) (b .1 .2) e)
 
-    -- 2 to 9: the lines before the refused line begin some well-formed text, none begins with them and it, and it has that fault
-    pub pair-refused-line : 2 ≤ x .number → x .number ≤ 9 → OfFile x (RefusedLine Rndf rndf (x .line) (x .number)) (RefusedLine Mdf mdf (x .line) (x .number))
-    pair-refused-line low high = go (pair-refusal-right x l k h)
+    -- a number of form: the lines before the refused line begin some well-formed text, none begins with them and it, and it has that fault
+    pub pair-refused-line : OfForm (x .number) → OfFile x (RefusedLine Rndf rndf (x .line) (x .number)) (RefusedLine Mdf mdf (x .line) (x .number))
+    pair-refused-line form = go (pair-refusal-right x l k h)
       where
         go : PairRefuses rndf mdf t u x → OfFile x (RefusedLine Rndf rndf (x .line) (x .number)) (RefusedLine Mdf mdf (x .line) (x .number))
-        go (inl b) = inl (b .0, rndf-refused-line rndf (x .line) (x .number) (line-by Rndf Roomy Sound RndfFault rndf (rndf-form rndf) rndf-reference (x .line) (x .number) (b .1) low high))
-        go (inr b) = inr (b .0, mdf-refused-line mdf (x .line) (x .number) (line-by Mdf MissionRoomy (Fits (b .1 .0)) (Wrong (b .1 .0)) mdf (mdf-form mdf) (λ m. mdf-reference (b .1 .0)) (x .line) (x .number) (b .1 .2) low high))
+        go (inl b) = inl (b .0, rndf-refused-line rndf (x .line) (x .number) (line-by Rndf Roomy Sound RndfFault rndf (rndf-form rndf) rndf-reference (x .line) (x .number) (b .1) form))
+        go (inr b) = inr (b .0, mdf-refused-line mdf (x .line) (x .number) (line-by Mdf MissionRoomy (Fits (b .1 .0)) (Wrong (b .1 .0)) mdf (mdf-form mdf) (λ m. mdf-reference (b .1 .0)) (x .line) (x .number) (b .1 .2) form))
 
-    -- 10: every line is good, and the text begins some well-formed text and is none
-    pub pair-refused-end : x .number ≡ 10 → OfFile x (Unended Rndf rndf (x .line)) (Unended Mdf mdf (x .line))
+    -- 10: the lines of that text begin some well-formed text, and it is none; the line behind its last
+    pub pair-refused-end : x .number ≡ 10 → OfFile x (RefusedEnd Rndf rndf (x .line)) (RefusedEnd Mdf mdf (x .line))
     pair-refused-end e = go (pair-refusal-right x l k h)
       where
-        go : PairRefuses rndf mdf t u x → OfFile x (Unended Rndf rndf (x .line)) (Unended Mdf mdf (x .line))
-        go (inl b) = inl (b .0, end-by Rndf Roomy Sound RndfFault rndf (rndf-form rndf) rndf-reference (x .line) (x .number) (b .1) e)
-        go (inr b) = inr (b .0, end-by Mdf MissionRoomy (Fits (b .1 .0)) (Wrong (b .1 .0)) mdf (mdf-form mdf) (λ m. mdf-reference (b .1 .0)) (x .line) (x .number) (b .1 .2) e)
+        go : PairRefuses rndf mdf t u x → OfFile x (RefusedEnd Rndf rndf (x .line)) (RefusedEnd Mdf mdf (x .line))
+        go (inl b) = inl (b .0, rndf-refused-end rndf (x .line) (end-by Rndf Roomy Sound RndfFault rndf (rndf-form rndf) rndf-reference (x .line) (x .number) (b .1) e))
+        go (inr b) = inr (b .0, mdf-refused-end mdf (x .line) (end-by Mdf MissionRoomy (Fits (b .1 .0)) (Wrong (b .1 .0)) mdf (mdf-form mdf) (λ m. mdf-reference (b .1 .0)) (x .line) (x .number) (b .1 .2) e))
 
     -- 11: well-formed, and no room for the rows of its network, or of its mission; line 0
     pub pair-refused-room : x .number ≡ 11 → OfFile x ((x .line ≡ 0) × NoRoom Rndf (λ n. HasRoom n t) rndf) ((x .line ≡ 0) × NoRoom Mdf (λ m. MissionHasRoom m u) mdf)
@@ -166,8 +183,8 @@ module _ (rndf mdf : Bytes) (t : Lent) (u : MissionLent) where
         go (inl b) = inl (b .0, room-by Rndf Roomy Sound RndfFault rndf (rndf-form rndf) rndf-reference (x .line) (x .number) (b .1) e)
         go (inr b) = inr (b .0, room-by Mdf MissionRoomy (Fits (b .1 .0)) (Wrong (b .1 .0)) mdf (mdf-form mdf) (λ m. mdf-reference (b .1 .0)) (x .line) (x .number) (b .1 .2) e)
 
-    -- 12 and 13 of the RNDF; 14 to 18 of the MDF, for the network of the RNDF, which is right: well-formed, there is room, and this is the first line with a wrong reference
-    pub pair-refused-reference : 12 ≤ x .number
+    -- a number of reference, of the RNDF, or of the MDF for the network of the RNDF, which is right: well-formed, there is room, and this is the first line with a wrong reference
+    pub pair-refused-reference : OfReference (x .number)
         → OfFile x (WrongReference Rndf (λ n. HasRoom n t) RndfFault rndf (x .line) (x .number)) ((n : Network Field) × AcceptsRndf rndf t n × WrongReference Mdf (λ m. MissionHasRoom m u) (λ m. MdfFault n) mdf (x .line) (x .number))
     pair-refused-reference e = go (pair-refusal-right x l k h)
       where

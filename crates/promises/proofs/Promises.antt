@@ -4,22 +4,23 @@ use Prim.Native.Nat.{ℕ, _≤_, _<_}
 use lib.ListN.{length}
 use Rattle.terms.specs.Ascii.{Bytes}
 use Rattle.line.specs.Content.{Field}
+use Rattle.refusal.specs.Numbers.{OfForm, OfReference}
 use Rattle.law.specs.Network.{Network}
 use Rattle.law.specs.Short.{SpellsRndf}
 use Rattle.law.specs.Tables.{Lent, HasRoom, filled, zeros}
-use Rattle.law.specs.Faults.{Sound, RndfFault, Unended}
+use Rattle.law.specs.Faults.{Sound, RndfFault}
 use Rattle.rows.specs.declared.FileRow.{FileRow}
 use Rattle.network_reader.specs.declared.Counts.{Counts}
 use Rattle.reader.specs.declared.Refusal.{Refusal}
 use Rattle.reader.specs.declared.RndfReply.{RndfReply}
 use Rattle.reader.specs.declared.RndfReply.the-variants as Reply
-use Rattle.reader.specs.Replies.{most, AcceptsRndf, RefusesRndf, refusal, rows-used, network-file, ReadsRndf, accepted, refused}
+use Rattle.reader.specs.Replies.{most, AcceptsRndf, RefusesRndf, unended, refusal, rows-used, network-file, ReadsRndf, accepted, refused}
 use Rattle.reader.proofs.Settled.{rndf-settled}
 use Rattle.promises.specs.Accepted.{IsAccepted, Acceptable, NamesAsked}
 use Rattle.promises.specs.Declared.{declared}
-use Rattle.promises.specs.Refusals.{Rndf, RefusedLine, NoRoom, WrongReference}
-use Rattle.promises.proofs.Numbers.{size-by, line-by, end-by, room-by, reference-by}
-use Rattle.promises.proofs.Forms.{one-spelled, rndf-form, rndf-refused-line, rndf-reference}
+use Rattle.promises.specs.Refusals.{Rndf, OneOfFive, RefusedLine, RefusedEnd, NoRoom, WrongReference}
+use Rattle.promises.proofs.Numbers.{number-by, size-by, line-by, end-by, room-by, reference-by}
+use Rattle.promises.proofs.Forms.{one-spelled, rndf-form, rndf-refused-line, rndf-refused-end, rndf-end-unended, rndf-reference}
 use Rattle.promises.proofs.Counted.{network-counted}
 use Rattle.promises.proofs.Names as Names
 
@@ -88,27 +89,35 @@ module _ (text : Bytes) (t : Lent) where
   pub refusal-only : (r : RndfReply) (l : Lent) (line number : ℕ) → ReadsRndf text t r l → RefusesRndf text t line number → (r ≡ Reply.Refused (refusal 1 line number)) × (l ≡ zeros t)
   refusal-only r l line number x a = rndf-settled text t r (Reply.Refused (refusal 1 line number)) l (zeros t) x (refused line number a refl refl)
 
+  -- 10 is replied to every such text that is not too long (each is refused with 10: refused-end)
+  pub end-refused : (r : RndfReply) (l : Lent) (line : ℕ) → ReadsRndf text t r l → length text ≤ most → RefusedEnd Rndf text line → (r ≡ Reply.Refused (refusal 1 line 10)) × (l ≡ zeros t)
+  end-refused r l line x size e = refusal-only r l line 10 x (unended size (rndf-end-unended text line e))
+
   -- ## What each number tells
   abbrev Roomy : Network Field → Type 0
   Roomy n = HasRoom n t
 
   module _ (x : Refusal) (l : Lent) (h : ReadsRndf text t (Reply.Refused x) l) where
+    -- no other number is replied than those that the next five tell of
+    pub refused-number : OneOfFive (x .number)
+    refused-number = number-by Rndf Roomy Sound RndfFault text (rndf-form text) rndf-reference (x .line) (x .number) (refusal-right x l h)
+
     -- 1: the text is too long; line 0
     pub refused-size : x .number ≡ 1 → (x .line ≡ 0) × (most < length text)
     refused-size = size-by Rndf Roomy Sound RndfFault text (rndf-form text) rndf-reference (x .line) (x .number) (refusal-right x l h)
 
-    -- 2 to 9: the lines before the refused line begin some well-formed text, none begins with them and it, and it has that fault
-    pub refused-line : 2 ≤ x .number → x .number ≤ 9 → RefusedLine Rndf text (x .line) (x .number)
-    refused-line low high = rndf-refused-line text (x .line) (x .number) (line-by Rndf Roomy Sound RndfFault text (rndf-form text) rndf-reference (x .line) (x .number) (refusal-right x l h) low high)
+    -- a number of form: the lines before the refused line begin some well-formed text, none begins with them and it, and it has that fault
+    pub refused-line : OfForm (x .number) → RefusedLine Rndf text (x .line) (x .number)
+    refused-line form = rndf-refused-line text (x .line) (x .number) (line-by Rndf Roomy Sound RndfFault text (rndf-form text) rndf-reference (x .line) (x .number) (refusal-right x l h) form)
 
-    -- 10: every line is good, and the text begins some well-formed text and is none
-    pub refused-end : x .number ≡ 10 → Unended Rndf text (x .line)
-    refused-end = end-by Rndf Roomy Sound RndfFault text (rndf-form text) rndf-reference (x .line) (x .number) (refusal-right x l h)
+    -- 10: the lines of the text begin some well-formed text, and it is none; the line behind its last
+    pub refused-end : x .number ≡ 10 → RefusedEnd Rndf text (x .line)
+    refused-end e = rndf-refused-end text (x .line) (end-by Rndf Roomy Sound RndfFault text (rndf-form text) rndf-reference (x .line) (x .number) (refusal-right x l h) e)
 
     -- 11: well-formed, and no room for the rows of its network; line 0
     pub refused-room : x .number ≡ 11 → (x .line ≡ 0) × NoRoom Rndf (λ n. HasRoom n t) text
     refused-room = room-by Rndf Roomy Sound RndfFault text (rndf-form text) rndf-reference (x .line) (x .number) (refusal-right x l h)
 
-    -- 12 and 13: well-formed, there is room, and this is the first line with a wrong reference
-    pub refused-reference : 12 ≤ x .number → WrongReference Rndf (λ n. HasRoom n t) RndfFault text (x .line) (x .number)
+    -- a number of reference: well-formed, there is room, and this is the first line with a wrong reference
+    pub refused-reference : OfReference (x .number) → WrongReference Rndf (λ n. HasRoom n t) RndfFault text (x .line) (x .number)
     refused-reference = reference-by Rndf Roomy Sound RndfFault text (rndf-form text) rndf-reference (x .line) (x .number) (refusal-right x l h)

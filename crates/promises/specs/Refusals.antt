@@ -1,6 +1,7 @@
 -- WHAT A READER MUST BELIEVE. What the refusal numbers tell of a text. Document 01, "Refusal numbers". Assumes nothing.
-use Rattle.terms.specs.Words.{_≡_, List, _∷_, _++_, _⊎_, ℕ, Bytes}
+use Rattle.terms.specs.Words.{_≡_, List, _∷_, _++_, _⊎_, ℕ, suc, length, Bytes}
 use Rattle.line.specs.Line.{Cut, Field}
+use Rattle.refusal.specs.Numbers.{OfForm, OfReference}
 use Rattle.law.specs.Network.{Network, Mission, Line, AnyOrder, SpellsNetwork, SpellsMission, SpellsText}
 use Rattle.law.specs.Tables.{Lent, MissionLent}
 use Rattle.law.specs.Faults.{LineAt, Fault, BadLine, Unended, FirstFault}
@@ -13,6 +14,14 @@ Rndf = SpellsNetwork AnyOrder
 
 abbrev pub Mdf : Mission Field → List Line → Type 0
 Mdf = SpellsMission AnyOrder
+
+-- the numbers that a reader gives: each tells one of five things (RefusedLine, RefusedEnd, NoRoom, WrongReference; 1: the text is too long)
+pub data OneOfFive (number : ℕ) : Type 0 where
+  size : number ≡ 1 → OneOfFive number
+  form : OfForm number → OneOfFive number
+  end : number ≡ 10 → OneOfFive number
+  room : number ≡ 11 → OneOfFive number
+  reference : OfReference number → OneOfFive number
 
 -- for the lines that spell a network, or a mission
 module _ {Net : Type 0} (Spells : Net → List Line → Type 0) where
@@ -36,7 +45,7 @@ module _ {Net : Type 0} (Spells : Net → List Line → Type 0) where
   abbrev pub Hopeless : List Bytes → Bytes → Type 0
   Hopeless lines this = (more : List Bytes) (text : Bytes) → Cut text (lines ++ (this ∷ more)) → WellFormed text → ⊥
 
-  -- 2 to 9: the lines before this one begin some well-formed text, none begins with them and it, and it has the fault with this number
+  -- a number of form (2 to 9): the lines before this one begin some well-formed text, none begins with them and it, and it has the fault with this number
   pub record RefusedLine (text : Bytes) (line number : ℕ) : Type 0 where
     pub front : List Line
     pub this : Bytes
@@ -45,13 +54,21 @@ module _ {Net : Type 0} (Spells : Net → List Line → Type 0) where
     pub hopeless : Hopeless (at .before) this
     pub fault : Fault Spells front this number
 
+  -- 10, at "lines + 1". 01: "10 is given only if every line is good, so the text begins some well-formed file": its lines are the first of some well-formed text, and it is none itself
+  pub record RefusedEnd (text : Bytes) (line : ℕ) : Type 0 where
+    pub lines : List Bytes
+    pub cut : Cut text lines
+    pub begins : Begin lines
+    pub unfinished : WellFormed text → ⊥
+    pub number : line ≡ suc (length lines)
+
   -- 11: the text is well-formed, and there is no room for the rows of what it spells
   pub record NoRoom (Roomy : Net → Type 0) (text : Bytes) : Type 0 where
     pub net : Net
     pub spelled : SpellsText Spells net text
     pub none : Roomy net → ⊥
 
-  -- 12 to 18: the text is well-formed, there is room, and this is the first line with a wrong reference
+  -- a number of reference (12 to 18): the text is well-formed, there is room, and this is the first line with a wrong reference
   pub record WrongReference (Roomy : Net → Type 0) (Wrong : Net → List Line → Line → ℕ → Type 0) (text : Bytes) (line number : ℕ) : Type 0 where
     pub net : Net
     pub spelled : SpellsText Spells net text

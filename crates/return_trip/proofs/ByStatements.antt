@@ -19,7 +19,7 @@ use Rattle.mission_reader.specs.MissionReplies as M
 use Rattle.house_text.specs.HouseText.{house-rndf, house-mdf}
 use Rattle.house_text.proofs.References.{sound-alike, sizes-alike, mission-sizes-alike}
 use Rattle.house_text.proofs.Theorems.{rndf-back, mdf-back}
-use Rattle.return_trip.specs.Returns.{SameNetwork}
+use Rattle.same.specs.Same.{SameNetwork}
 use Rattle.return_trip.specs.ByStatements.{RndfReturns, MdfReturns}
 
 -- ## Accepted again

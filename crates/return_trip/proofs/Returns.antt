@@ -34,7 +34,8 @@ use Rattle.house_text.specs.HouseText.{house-rndf, house-mdf}
 use Rattle.house_text.proofs.Lawful.{house-rndf-only, house-mdf-only, house-rndf-is, house-mdf-is}
 use Rattle.house_text.proofs.References.{sound-alike, sizes-alike, mission-sizes-alike, mission-words-alike}
 use Rattle.house_text.proofs.Theorems.{rndf-back, mdf-back}
-use Rattle.return_trip.specs.Returns.{SameNetwork, SameMission, RndfReturns, MdfReturns, PairReturns}
+use Rattle.same.specs.Same.{SameNetwork, SameMission}
+use Rattle.return_trip.specs.Returns.{RndfReturns, MdfReturns, PairReturns}
 
 -- ## The house writing: one and only one
 pub rndf-house : (text : Bytes) (t : Lent) (n : Network Field) → AcceptsRndf text t n → (house : Bytes) × HouseRndf n house

@@ -31,7 +31,7 @@ use Rattle.output.specs.Output.{zeros, Fits, filled}
 use Rattle.house_text.specs.HouseText.{house-rndf, house-mdf}
 use Rattle.house_text.proofs.References.{sizes-alike, mission-sizes-alike}
 use Rattle.house_text.proofs.Theorems.{rndf-again, mdf-again}
-use Rattle.return_trip.specs.Returns.{SameNetwork}
+use Rattle.same.specs.Same.{SameNetwork}
 use Rattle.return_trip.specs.ByStatements.{RndfReturns, MdfReturns}
 use Rattle.return_trip.proofs.ByStatements.{rndf-returns-in, mdf-returns}
 use Rattle.law_spelling.proofs.Texts.{rndf-to, mdf-to}
@@ -57,7 +57,7 @@ mission-room-as : (u : MissionLent) (c : MissionCounts) → MissionRoomFor c u �
 mission-room-as u c r = record { goals = r .goals; limits = r .limits }
 
 -- the first bytes of an output that was filled
-first-are : (lent : ℕ) (x out : Bytes) (k : ℕ) → out ≡ filled lent x → k ≡ length x → take k out ≡ x
+pub first-are : (lent : ℕ) (x out : Bytes) (k : ℕ) → out ≡ filled lent x → k ≡ length x → take k out ≡ x
 first-are lent x out k o e = ap (take k) o ∙ take-at x (zeros (lent - length x)) k (sym e)
 
 -- ## An RNDF

@@ -6,7 +6,7 @@ use Rattle.law.specs.Tables.{Lent, MissionLent}
 use Rattle.network_reader.specs.Replies.{AcceptsRndf}
 use Rattle.mission_reader.specs.MissionReplies.{AcceptsMdf}
 use Rattle.house_text.specs.HouseText.{house-rndf, house-mdf}
-use Rattle.return_trip.specs.Returns.{SameNetwork, SameMission}
+use Rattle.same.specs.Same.{SameNetwork, SameMission}
 
 -- an RNDF alone
 pub record RndfReturns (n : Network Field) (t : Lent) : Type 0 where

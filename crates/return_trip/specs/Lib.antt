@@ -2,3 +2,4 @@
 pub mod Returns
 pub mod ByStatements
 pub mod ReadBack
+pub mod RoundTrip

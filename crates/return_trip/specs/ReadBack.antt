@@ -13,7 +13,7 @@ use Rattle.reader.specs.declared.RndfReply.{RndfReply}
 use Rattle.reader.specs.declared.RndfReply.the-variants as Reply
 use Rattle.reader.specs.declared.PairReply.{PairReply}
 use Rattle.reader.specs.declared.PairReply.the-variants as Pair
-use Rattle.return_trip.specs.Returns.{SameNetwork, SameMission}
+use Rattle.same.specs.Same.{SameNetwork, SameMission}
 
 -- lent tables with room for so many rows as were replied
 pub record RoomFor (c : Counts) (t : Lent) : Type 0 where

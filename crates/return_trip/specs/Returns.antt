@@ -1,18 +1,10 @@
 -- WHAT A READER MUST BELIEVE. The return trip: the house writing of what was accepted is accepted in the same tables, and is the same network, or mission. Document 01, "House writing"; "A network or mission is its tables with each name's bytes in place of start and length." Assumes nothing.
-use Rattle.terms.specs.Words.{_≡_, Bytes}
+use Rattle.terms.specs.Words.{Bytes}
 use Rattle.line.specs.Line.{Field}
 use Rattle.law.specs.Network.{Network, Mission}
 use Rattle.law.specs.Tables.{Lent, MissionLent}
-use Rattle.grammar.specs.Names.{network-named, mission-named}
-use Rattle.text.specs.Spelling.{bytes-of}
+use Rattle.same.specs.Same.{SameNetwork, SameMission}
 use Rattle.reader.specs.Replies.{AcceptsRndf, AcceptsMdf}
-
--- the same, with each name's bytes in place of start and length
-abbrev pub SameNetwork : Network Field → Network Field → Type 0
-SameNetwork n n′ = network-named bytes-of n ≡ network-named bytes-of n′
-
-abbrev pub SameMission : Mission Field → Mission Field → Type 0
-SameMission m m′ = mission-named bytes-of m ≡ mission-named bytes-of m′
 
 -- an RNDF alone: these bytes are accepted in these tables, and spell the same network again
 pub record RndfReturns (n : Network Field) (house : Bytes) (t : Lent) : Type 0 where

@@ -1,8 +1,8 @@
-// The return trip: the house writing of an accepted text is accepted in the same tables, and is the same network or mission, names by their bytes. There is no code here.
+// The return trip: what was written of an accepted text is accepted again, as the same network or mission, names by their bytes. There is no code here.
 //
-// specs/Returns: what comes back, what a reader must believe. proofs/Returns: that there is one house writing (house_text/specs/House) and that it comes back so, for an RNDF alone and for an
-// RNDF with its MDF; and that whatever meets the contract of `read_rndf` or `read_pair` then replies so.
+// specs/RoundTrip, proofs/RoundTrip: THE RETURN TRIP, from the contracts of readers and writers alone: what was written of an RNDF, or of a pair, read into the same tables, is accepted with the same
+// rows used and the same names, and leaves the same tables but for where names start.
+// specs/ReadBack, proofs/Writings: the same network, or mission, in any tables with room, also of an MDF with the RNDF that was read; written again it is the same bytes.
+// specs/Returns, proofs/Returns: what these rest on: that there is one house writing (house_text/specs/House), that it is accepted so, and what a reader then replies. ByStatements: inner.
 //
-// specs/ReadBack, proofs/Writings: the same from the contracts of the writers: what was written is read again as the same network, or mission; written again it is the same bytes.
-//
-// Rests on `writer`, `house_text` (the house writing and what it spells), `reader` (the contracts), `promises` and what these rest on.
+// Rests on `writer`, `house_text` (the house writing and what it spells), `reader` (the contracts), `promises`, `same` (when networks are the same) and what these rest on.

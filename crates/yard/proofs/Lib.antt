@@ -1,3 +1,4 @@
 -- What the contracts settle, and that an answer tells the whole reply.
 pub mod Settled
+pub mod PointSettled
 pub mod Whole

@@ -1,0 +1,51 @@
+-- THE THEOREM of document 01's "Prove that no second reply or memory would satisfy it", for the sentences: the contract of each public function settles every byte of the lent output and the place that is returned,
+-- for every output, place, name and reply; and some output and place satisfy it. Assumes nothing.
+use mathlib.Core.Path.{_≡_, refl, ap}
+use Prim.Native.Nat.{ℕ}
+use Rattle.terms.specs.Ascii.{Bytes}
+use Rattle.output.specs.Pen.{Pen, pen, put, Wrote}
+use Rattle.output.proofs.Writing.{wrote-one}
+use Rattle.reader.specs.declared.RndfReply.{RndfReply}
+use Rattle.reader.specs.declared.PairReply.{PairReply}
+use Rattle.answers.specs.Reasons.{reason}
+use Rattle.answers.specs.Answers.{sentence, rndf-answer, pair-answer}
+
+-- these bytes were put into the output `before` from this place on, which left `after` and the next place. The shape of all these contracts
+abbrev pub Puts : Bytes → (before : Bytes) (at : ℕ) (after : Bytes) (then : ℕ) → Type 0
+Puts bytes before at after then = Wrote (pen before at) bytes (pen after then)
+
+-- no second output, and no second place
+abbrev pub OnlyOne : Bytes → Type 0
+OnlyOne bytes = (before : Bytes) (at : ℕ) (after after′ : Bytes) (then then′ : ℕ) → Puts bytes before at after then → Puts bytes before at after′ then′ → (after ≡ after′) × (then ≡ then′)
+
+-- one there is
+abbrev pub SomeOne : Bytes → Type 0
+SomeOne bytes = (before : Bytes) (at : ℕ) → (after : Bytes) × (then : ℕ) × Puts bytes before at after then
+
+pub record SettledBy (bytes : Bytes) : Type 0 where
+  pub only-one : OnlyOne bytes
+  pub some-one : SomeOne bytes
+
+-- whatever the bytes are
+settled : (bytes : Bytes) → SettledBy bytes
+settled bytes = record {
+  only-one = λ before at after after′ then then′ x y. let e = wrote-one x y in (ap (λ (p : Pen). p .out) e, ap (λ (p : Pen). p .at) e);
+  some-one = λ before at. let p = put (pen before at) bytes in (p .out, p .at, record { is = refl });
+}
+
+-- ## The public functions, each with the bytes of its contract
+-- `put_reason`
+pub reason-settled : (number : ℕ) → SettledBy (reason number)
+reason-settled number = settled (reason number)
+
+-- `put_sentence`
+pub sentence-settled : (name : Bytes) (line number : ℕ) → SettledBy (sentence name line number)
+sentence-settled name line number = settled (sentence name line number)
+
+-- `put_rndf_answer`
+pub rndf-answer-settled : (name : Bytes) (reply : RndfReply) → SettledBy (rndf-answer name reply)
+rndf-answer-settled name reply = settled (rndf-answer name reply)
+
+-- `put_pair_answer`
+pub pair-answer-settled : (rndf mdf : Bytes) (reply : PairReply) → SettledBy (pair-answer rndf mdf reply)
+pair-answer-settled rndf mdf reply = settled (pair-answer rndf mdf reply)

@@ -1,0 +1,3 @@
+-- What every cell says, of every machine (CellLaws) and of the two files (Theorems).
+pub mod CellLaws
+pub mod Theorems

@@ -1,0 +1,2 @@
+-- What every cell says.
+pub mod Cells

@@ -1,0 +1,325 @@
+-- THE RETURN TRIP, from the contracts of writers and readers alone: what was written of an accepted text, read into the same tables, is accepted with the same rows used and the same names, and leaves the same tables but for where names start. Assumes nothing.
+use mathlib.Core.Path.{_≡_, refl, sym, ap, ap₂, subst, _∙_}
+use mathlib.Core.List.{List, [], _∷_, _++_, map, append-assoc, head-eq-of-cons-eq, tail-eq-of-cons-eq}
+use mathlib.Core.Option.{Option, none, some}
+use Prim.Native.Nat.{ℕ, _+_, _-_, _≤_}
+use native.Mathlib.Omega.{arith}
+use lib.ListN.{length, take, replicate, length-append}
+use Rattle.terms.specs.Ascii.{Bytes}
+use Rattle.terms.specs.Words.{Each}
+use Rattle.line.specs.Content.{Field}
+use Rattle.law.specs.Network.{Network, Mission, Lane, Segment, Perimeter, Spot, Zone}
+use Rattle.law.specs.Tables.{Lent, MissionLent, gather, along, name-words, first-spot, spot-points, first-zone-point, zone-size, zone-rows-from, zone-rows, holding, filled}
+use Rattle.law.specs.Faults.{Sound}
+use Rattle.law.specs.Short.{SpellsRndf, SpellsMdf}
+use Rattle.grammar.specs.Names.{perhaps-name, segment-named, zone-named, network-named, mission-named}
+use Rattle.text.specs.Spelling.{Name, bytes, bytes-of}
+use Rattle.house_text.specs.House.{HouseRndf, HouseMdf}
+use Rattle.house_text.proofs.References.{words-alike}
+use Rattle.law_tables.proofs.SameTables.{filled-same}
+use Rattle.rows.specs.declared.FileRow.{FileRow}
+use Rattle.rows.specs.declared.MissionFileRow.{MissionFileRow}
+use Rattle.rows.specs.Name.{nameOf}
+use Rattle.network_reader.specs.declared.Counts.{Counts}
+use Rattle.mission_reader.specs.declared.MissionCounts.{MissionCounts}
+use Rattle.reader.specs.declared.RndfReply.{RndfReply}
+use Rattle.reader.specs.declared.RndfReply.the-variants as Reply
+use Rattle.reader.specs.declared.PairReply.{PairReply}
+use Rattle.reader.specs.declared.PairReply.the-variants as Pair
+use Rattle.reader.specs.Replies.{most, AcceptsRndf, AcceptsMdf, stretch, rows-used, network-file, mission-file, ReadsRndf, ReadsPair}
+use Rattle.writer.specs.declared.WriteReply.{WriteReply}
+use Rattle.writer.specs.declared.WriteReply.the-variants as Write
+use Rattle.writer.specs.declared.WriteMdfReply.{WriteMdfReply}
+use Rattle.writer.specs.declared.WriteMdfReply.the-variants as WriteMdf
+use Rattle.writer.specs.Writes.{WritesRndf, WritesMdf}
+use Rattle.writer.specs.Writes as W
+use Rattle.writer.proofs.Steps.{wrote-or-not, mdf-wrote-or-not}
+use Rattle.promises.specs.Accepted.{name-bytes, Asked, Meant}
+use Rattle.promises.proofs.Forms.{one-spelled, one-mission}
+use Rattle.promises.proofs.Names.{names-asked, mission-names-asked}
+use Rattle.promises.proofs.Promises.{accepted-spelled, tables-are}
+use Rattle.promises.proofs.PairPromises.{pair-accepted-spelled, pair-tables-are}
+use Rattle.same.specs.Same.{SameNetwork, SameMission}
+use Rattle.return_trip.specs.RoundTrip.{SameRows, rest, row, SameTables, SameFile, SameMissionFile, RndfRoundTrip, PairRoundTrip}
+use Rattle.return_trip.proofs.Returns.{rndf-read-again, pair-read-again}
+use Rattle.return_trip.proofs.Writings.{first-are}
+
+-- ## Names that are the same
+bytes-in : Option Name → Bytes
+bytes-in none = []
+bytes-in (some (bytes b)) = b
+
+of-name : (v : Option Field) → name-bytes v ≡ bytes-in (perhaps-name bytes-of v)
+unfolding bytes-in
+of-name none = refl
+of-name (some v) = refl
+
+same-bytes : (v v′ : Option Field) → perhaps-name bytes-of v ≡ perhaps-name bytes-of v′ → name-bytes v ≡ name-bytes v′
+same-bytes v v′ e = of-name v ∙ ap bytes-in e ∙ sym (of-name v′)
+
+module _ (text text′ : Bytes) where
+  -- where both texts are asked for them
+  asked-both : (v v′ : Option Field) → perhaps-name bytes-of v ≡ perhaps-name bytes-of v′ → Asked text v → Asked text′ v′ → nameOf text (stretch v) ≡ nameOf text′ (stretch v′)
+  asked-both v v′ e a a′ = a ∙ same-bytes v v′ e ∙ sym a′
+
+  -- ## Rows with a name
+  grouped : (same : List ℕ) (x n : ℕ) (l z : List ℕ) → same ++ (x ∷ n ∷ (l ++ z)) ≡ ((same ++ (x ∷ n ∷ [])) ++ l) ++ z
+  grouped same x n l z = simp append-assoc
+
+  -- the words of the name behind the others
+  one-row : (words : ℕ) (same : List ℕ) (x x′ n n′ : ℕ) (l l′ z : List ℕ) → length same ≡ words → n ≡ n′ → nameOf text (record { start = x; length = n }) ≡ nameOf text′ (record { start = x′; length = n′ }) → SameRows text text′ words (l ++ z) (l′ ++ z)
+      → SameRows text text′ words (((same ++ (x ∷ n ∷ [])) ++ l) ++ z) (((same ++ (x′ ∷ n′ ∷ [])) ++ l′) ++ z)
+  one-row words same x x′ n n′ l l′ z h e a r =
+      subst (λ (w : List ℕ). SameRows text text′ words (((same ++ (x ∷ n ∷ [])) ++ l) ++ z) w) (grouped same x′ n l′ z ∙ ap (λ (k : ℕ). ((same ++ (x′ ∷ k ∷ [])) ++ l′) ++ z) e)
+      (subst (λ (w : List ℕ). SameRows text text′ words w (same ++ (x′ ∷ n ∷ (l′ ++ z)))) (grouped same x n l z) (row same x x′ n h (a ∙ ap (λ (k : ℕ). nameOf text′ (record { start = x′; length = k })) (sym e)) r))
+
+  named-row : (words : ℕ) (same : List ℕ) (v v′ : Option Field) (l l′ z : List ℕ) → length same ≡ words → perhaps-name bytes-of v ≡ perhaps-name bytes-of v′ → Asked text v → Asked text′ v′ → SameRows text text′ words (l ++ z) (l′ ++ z)
+      → SameRows text text′ words (((same ++ name-words v) ++ l) ++ z) (((same ++ name-words v′) ++ l′) ++ z)
+  named-row words same none none l l′ z h e a a′ r = one-row words same 0 0 0 0 l l′ z h refl (asked-both none none e a a′) r
+  named-row words same none (some v′) l l′ z h e a a′ r = absurd (let q : _≡_ {A = ℕ} 0 1 = cc in omega arith)
+  named-row words same (some v) none l l′ z h e a a′ r = absurd (let q : _≡_ {A = ℕ} 0 1 = cc in omega arith)
+  named-row words same (some v) (some v′) l l′ z h e a a′ r = one-row words same (v .start) (v′ .start) (length (v .bytes)) (length (v′ .bytes)) l l′ z h (ap length (same-bytes (some v) (some v′) e)) (asked-both (some v) (some v′) e a a′) r
+
+  rows-long : {words : ℕ} {l l′ : List ℕ} → SameRows text text′ words l l′ → length l ≡ length l′
+  rows-long rest = refl
+  rows-long (row same x y n {l} {l′} h e r) = let a = length-append same (x ∷ n ∷ l) in let b = length-append same (y ∷ n ∷ l′) in let c = rows-long r in omega arith
+
+  -- a table of such rows, and zeros behind them
+  padded : (words : ℕ) (g g′ : List ℕ) (k : ℕ) → ((z : List ℕ) → SameRows text text′ words (g ++ z) (g′ ++ z)) → SameRows text text′ words (g ++ replicate (k - length g) 0) (g′ ++ replicate (k - length g′) 0)
+  padded words g g′ k r =
+      let a = length-append g [] in
+      let b = length-append g′ [] in
+      let c = rows-long (r []) in
+      let e : length g ≡ length g′ = omega arith in
+      subst (λ (m : ℕ). SameRows text text′ words (g ++ replicate (k - length g) 0) (g′ ++ replicate (k - m) 0)) e (r (replicate (k - length g) 0))
+
+  -- ## Segments and zones
+  abbrev Segments : List (Segment Field) → List (Segment Field) → Type 0
+  Segments ss ss′ = map (segment-named bytes-of) ss ≡ map (segment-named bytes-of) ss′
+
+  abbrev Zones : List (Zone Field) → List (Zone Field) → Type 0
+  Zones zs zs′ = map (zone-named bytes-of) zs ≡ map (zone-named bytes-of) zs′
+
+  abbrev segment-words : ℕ → List (Segment Field) → List ℕ
+  segment-words i ss = gather (λ row. row) (along (λ s. length (s .lanes)) (λ first s. (first ∷ length (s .lanes) ∷ name-words (s .name)) ∷ []) i ss)
+
+  segments-alike : (i : ℕ) (ss ss′ : List (Segment Field)) → Segments ss ss′ → Each (λ s. Asked text (s .name)) ss → Each (λ s. Asked text′ (s .name)) ss′ → (z : List ℕ) → SameRows text text′ 2 (segment-words i ss ++ z) (segment-words i ss′ ++ z)
+  segments-alike i [] [] e a a′ z = rest
+  segments-alike i [] (s′ ∷ ss′) e a a′ z = absurd (let q : _≡_ {A = ℕ} 0 1 = cc in omega arith)
+  segments-alike i (s ∷ ss) [] e a a′ z = absurd (let q : _≡_ {A = ℕ} 0 1 = cc in omega arith)
+  segments-alike i (s ∷ ss) (s′ ∷ ss′) e a a′ z =
+      let h = head-eq-of-cons-eq e in
+      let k : length (s .lanes) ≡ length (s′ .lanes) = ap (λ (x : Segment Name). length (x .lanes)) h in
+      subst (λ (m : ℕ). SameRows text text′ 2 (((i ∷ length (s .lanes) ∷ name-words (s .name)) ++ segment-words (i + length (s .lanes)) ss) ++ z) (((i ∷ m ∷ name-words (s′ .name)) ++ segment-words (i + m) ss′) ++ z)) k
+      (named-row 2 (i ∷ length (s .lanes) ∷ []) (s .name) (s′ .name) (segment-words (i + length (s .lanes)) ss) (segment-words (i + length (s .lanes)) ss′) z refl (ap (λ (x : Segment Name). x .name) h) (a .0) (a′ .0)
+      (segments-alike (i + length (s .lanes)) ss ss′ (tail-eq-of-cons-eq e) (a .1) (a′ .1) z))
+
+  lanes-alike : (ss ss′ : List (Segment Field)) → Segments ss ss′ → gather (λ s. s .lanes) ss ≡ gather (λ s. s .lanes) ss′
+  lanes-alike [] [] e = refl
+  lanes-alike [] (s′ ∷ ss′) e = absurd (let q : _≡_ {A = ℕ} 0 1 = cc in omega arith)
+  lanes-alike (s ∷ ss) [] e = absurd (let q : _≡_ {A = ℕ} 0 1 = cc in omega arith)
+  lanes-alike (s ∷ ss) (s′ ∷ ss′) e = ap₂ (λ (x y : List Lane). x ++ y) (ap (λ (x : Segment Name). x .lanes) (head-eq-of-cons-eq e)) (lanes-alike ss ss′ (tail-eq-of-cons-eq e))
+
+  abbrev zone-words : (p q : ℕ) → List (Zone Field) → List ℕ
+  zone-words p q zs = gather (λ row. row) (zone-rows-from p q zs)
+
+  -- the words of a zone with this perimeter and these spots, of those behind it and of what follows
+  abbrev zone-first : (p q : ℕ) → Perimeter → List Spot → Option Field → List (Zone Field) → List ℕ → List ℕ
+  zone-first p q b s v zs z = ((p ∷ length (b .points) ∷ first-spot q (length s) ∷ length s ∷ name-words v) ++ zone-words (p + length (b .points ++ gather spot-points s)) (q + length s) zs) ++ z
+
+  zones-alike : (p q : ℕ) (zs zs′ : List (Zone Field)) → Zones zs zs′ → Each (λ s. Asked text (s .name)) zs → Each (λ s. Asked text′ (s .name)) zs′ → (z : List ℕ) → SameRows text text′ 4 (zone-words p q zs ++ z) (zone-words p q zs′ ++ z)
+  zones-alike p q [] [] e a a′ z = rest
+  zones-alike p q [] (s′ ∷ ss′) e a a′ z = absurd (let q : _≡_ {A = ℕ} 0 1 = cc in omega arith)
+  zones-alike p q (s ∷ ss) [] e a a′ z = absurd (let q : _≡_ {A = ℕ} 0 1 = cc in omega arith)
+  zones-alike p q (s ∷ ss) (s′ ∷ ss′) e a a′ z =
+      let h = head-eq-of-cons-eq e in
+      let b : s .border ≡ s′ .border = ap (λ (x : Zone Name). x .border) h in
+      let d : s .spots ≡ s′ .spots = ap (λ (x : Zone Name). x .spots) h in
+      subst (λ (w : List ℕ). SameRows text text′ 4 (zone-first p q (s .border) (s .spots) (s .name) ss z) w) (λ i. zone-first p q (b i) (d i) (s′ .name) ss′ z)
+      (named-row 4 (p ∷ length (s .border .points) ∷ first-spot q (length (s .spots)) ∷ length (s .spots) ∷ []) (s .name) (s′ .name) (zone-words (p + zone-size s) (q + length (s .spots)) ss) (zone-words (p + zone-size s) (q + length (s .spots)) ss′) z refl (ap (λ (x : Zone Name). x .name) h) (a .0) (a′ .0)
+      (zones-alike (p + zone-size s) (q + length (s .spots)) ss ss′ (tail-eq-of-cons-eq e) (a .1) (a′ .1) z))
+
+  -- ## Networks that are the same
+  module _ (n n′ : Network Field) (e : SameNetwork n n′) (spelled : SpellsRndf n text) (spelled′ : SpellsRndf n′ text′) where
+    same-segments : Segments (n .segments) (n′ .segments)
+    unfolding network-named
+    same-segments = ap (λ (x : Network Name). x .segments) e
+
+    same-zones : Zones (n .zones) (n′ .zones)
+    unfolding network-named
+    same-zones = ap (λ (x : Network Name). x .zones) e
+
+    pub same-file : SameFile text text′ (network-file n) (network-file n′)
+    unfolding network-named
+    same-file =
+        let a = names-asked text n spelled in
+        let a′ = names-asked text′ n′ spelled′ in
+        record {
+          name = asked-both (some (n .name)) (some (n′ .name)) (ap (λ (x : Network Name). some (x .name)) e) (a .name) (a′ .name);
+          version = asked-both (n .version) (n′ .version) (ap (λ (x : Network Name). x .version) e) (a .version) (a′ .version);
+          date = asked-both (n .date) (n′ .date) (ap (λ (x : Network Name). x .date) e) (a .date) (a′ .date);
+        }
+
+    pub same-tables : Sound n → Sound n′ → (t : Lent) → SameTables text text′ (filled n t) (filled n′ t)
+    same-tables sound sound′ t =
+        let a = names-asked text n spelled in
+        let a′ = names-asked text′ n′ spelled′ in
+        let p = filled-same n sound t in
+        let p′ = filled-same n′ sound′ t in
+        let w = words-alike n n′ e t in
+        let first : first-zone-point n ≡ first-zone-point n′ = ap (λ (l : List Lane). length (gather (λ a. a .points) l)) (lanes-alike (n .segments) (n′ .segments) same-segments) in
+        record {
+          segments = padded 2 (segment-words 0 (n .segments)) (segment-words 0 (n′ .segments)) (length (t .segments)) (segments-alike 0 (n .segments) (n′ .segments) same-segments (a .segments) (a′ .segments));
+          lanes = sym (ap (λ (l : Lent). l .lanes) p) ∙ ap (λ (l : Lent). l .lanes) w ∙ ap (λ (l : Lent). l .lanes) p′;
+          zones = subst (λ (k : ℕ). SameRows text text′ 4 (holding 0 (zone-rows n) (t .zones)) (holding 0 (zone-rows-from k 0 (n′ .zones)) (t .zones))) first
+              (padded 4 (zone-words (first-zone-point n) 0 (n .zones)) (zone-words (first-zone-point n) 0 (n′ .zones)) (length (t .zones)) (zones-alike (first-zone-point n) 0 (n .zones) (n′ .zones) same-zones (a .zones) (a′ .zones)));
+          spots = sym (ap (λ (l : Lent). l .spots) p) ∙ ap (λ (l : Lent). l .spots) w ∙ ap (λ (l : Lent). l .spots) p′;
+          points = sym (ap (λ (l : Lent). l .points) p) ∙ ap (λ (l : Lent). l .points) w ∙ ap (λ (l : Lent). l .points) p′;
+          checkpoints = sym (ap (λ (l : Lent). l .checkpoints) p) ∙ ap (λ (l : Lent). l .checkpoints) w ∙ ap (λ (l : Lent). l .checkpoints) p′;
+          stops = sym (ap (λ (l : Lent). l .stops) p) ∙ ap (λ (l : Lent). l .stops) w ∙ ap (λ (l : Lent). l .stops) p′;
+          exits = sym (ap (λ (l : Lent). l .exits) p) ∙ ap (λ (l : Lent). l .exits) w ∙ ap (λ (l : Lent). l .exits) p′;
+        }
+
+  pub same-mission-file : (m m′ : Mission Field) → SameMission m m′ → SpellsMdf m text → SpellsMdf m′ text′ → SameMissionFile text text′ (mission-file m) (mission-file m′)
+  unfolding mission-named
+  same-mission-file m m′ e spelled spelled′ =
+      let a = mission-names-asked text m spelled in
+      let a′ = mission-names-asked text′ m′ spelled′ in
+      record {
+        name = asked-both (some (m .name)) (some (m′ .name)) (ap (λ (x : Mission Name). some (x .name)) e) (a .name) (a′ .name);
+        rndf = asked-both (some (m .rndf)) (some (m′ .rndf)) (ap (λ (x : Mission Name). some (x .rndf)) e) (a .rndf) (a′ .rndf);
+        version = asked-both (m .version) (m′ .version) (ap (λ (x : Mission Name). x .version) e) (a .version) (a′ .version);
+        date = asked-both (m .date) (m′ .date) (ap (λ (x : Mission Name). x .date) e) (a .date) (a′ .date);
+      }
+
+-- ## What was written
+record RndfWritten (text : Bytes) (t left : Lent) (c : Counts) (file : FileRow) (k : ℕ) (out : Bytes) : Type 0 where
+  pub net : Network Field
+  pub writing : Bytes
+  pub accepts : AcceptsRndf text t net
+  pub house : HouseRndf net writing
+  pub size : length writing ≤ most
+  pub first : take k out ≡ writing
+  pub counted : c ≡ rows-used net
+  pub row : file ≡ network-file net
+  pub holds : left ≡ filled net t
+
+abbrev counts-in : Counts → WriteReply → Counts
+counts-in d (Write.Written c file k) = c
+counts-in d (Write.Refused why) = d
+
+abbrev file-in : FileRow → WriteReply → FileRow
+file-in d (Write.Written c file k) = file
+file-in d (Write.Refused why) = d
+
+abbrev long-in : WriteReply → ℕ
+long-in (Write.Written c file k) = k
+long-in (Write.Refused why) = 0
+
+rndf-written : (text : Bytes) (t left : Lent) (lent : ℕ) (c : Counts) (file : FileRow) (k : ℕ) (out : Bytes) → WritesRndf text t lent (Write.Written c file k) left out → RndfWritten text t left c file k out
+rndf-written text t left lent c file k out (W.refused why h e z) = absurd (wrote-or-not e)
+rndf-written text t left lent c file k out (W.too-long n writing c′ file′ l h s g f e p z) = absurd (wrote-or-not e)
+rndf-written text t left lent c file k out (W.written n writing c′ file′ h s g f e z) =
+    let a = accepted-spelled text t c′ file′ left h in
+    let m = tables-are text t c′ file′ left h n s in
+    record {
+      net = n;
+      writing = writing;
+      accepts = subst (AcceptsRndf text t) (one-spelled text (a .0) n (a .1 .spelled) s) (a .1);
+      house = g;
+      size = f .size;
+      first = first-are lent writing out k z (ap long-in e);
+      counted = ap (counts-in c) e ∙ m .0;
+      row = ap (file-in file) e ∙ m .1;
+      holds = m .2;
+    }
+
+record MdfWritten (rndf mdf : Bytes) (t left : Lent) (u mission-left : MissionLent) (c : Counts) (file : FileRow) (d : MissionCounts) (own : MissionFileRow) (k : ℕ) (out : Bytes) : Type 0 where
+  pub net : Network Field
+  pub mission : Mission Field
+  pub writing : Bytes
+  pub accepts : AcceptsRndf rndf t net
+  pub takes : AcceptsMdf net mdf u mission
+  pub house : HouseMdf mission writing
+  pub size : length writing ≤ most
+  pub first : take k out ≡ writing
+  pub meant : Meant t u net mission c file d own left mission-left
+
+-- the reply's parts, of a reply that was written
+abbrev written-as : WriteMdfReply → PairReply → PairReply
+written-as (WriteMdf.Written c file d own k) other = Pair.Accepted c file d own
+written-as (WriteMdf.Refused why) other = other
+
+abbrev mdf-long-in : WriteMdfReply → ℕ
+mdf-long-in (WriteMdf.Written c file d own k) = k
+mdf-long-in (WriteMdf.Refused why) = 0
+
+mdf-written : (rndf mdf : Bytes) (t left : Lent) (u mission-left : MissionLent) (lent : ℕ) (c : Counts) (file : FileRow) (d : MissionCounts) (own : MissionFileRow) (k : ℕ) (out : Bytes)
+    → WritesMdf rndf mdf t u lent (WriteMdf.Written c file d own k) left mission-left out → MdfWritten rndf mdf t left u mission-left c file d own k out
+mdf-written rndf mdf t left u mission-left lent c file d own k out (W.refused why h e z) = absurd (mdf-wrote-or-not e)
+mdf-written rndf mdf t left u mission-left lent c file d own k out (W.too-long m writing c′ file′ d′ own′ l l′ h s g f e p q z) = absurd (mdf-wrote-or-not e)
+mdf-written rndf mdf t left u mission-left lent c file d own k out (W.written m writing c′ file′ d′ own′ h s g f e z) =
+    let h′ : ReadsPair rndf mdf t u (Pair.Accepted c file d own) left mission-left = subst (λ (r : WriteMdfReply). ReadsPair rndf mdf t u (written-as r (Pair.Accepted c′ file′ d′ own′)) left mission-left) (sym e) h in
+    let a = pair-accepted-spelled rndf mdf t u c file d own left mission-left h′ in
+    let same = one-mission mdf (a .mission) m (a .mission-accepted .spelled) s in
+    record {
+      net = a .net;
+      mission = m;
+      writing = writing;
+      accepts = a .network-accepted;
+      takes = subst (AcceptsMdf (a .net) mdf u) same (a .mission-accepted);
+      house = g;
+      size = f .size;
+      first = first-are lent writing out k z (ap mdf-long-in e);
+      meant = pair-tables-are rndf mdf t u c file d own left mission-left h′ (a .net) m (a .network-accepted .spelled) s;
+    }
+
+-- ## THE THEOREMS
+-- of an RNDF
+pub rndf-round-trip : (text : Bytes) (t left : Lent) (lent : ℕ) (c : Counts) (file : FileRow) (k : ℕ) (out : Bytes) → WritesRndf text t lent (Write.Written c file k) left out
+    → (reply : RndfReply) (left′ : Lent) → ReadsRndf (take k out) t reply left′ → RndfRoundTrip text (take k out) c file left reply left′
+rndf-round-trip text t left lent c file k out w reply left′ h =
+    let x = rndf-written text t left lent c file k out w in
+    let n = x .net in
+    let r = rndf-read-again text t n (x .accepts) (x .writing) (x .house) (x .size) reply left′ (subst (λ (b : Bytes). ReadsRndf b t reply left′) (x .first) h) in
+    let y = r .0 in
+    let n′ = y .again in
+    let spelled′ = subst (SpellsRndf n′) (sym (x .first)) (y .accepts .spelled) in
+    record {
+      file′ = network-file n′;
+      replied = r .1 ∙ ap (λ (d : Counts). Reply.Accepted d (network-file n′)) (sym (x .counted));
+      names = subst (λ (f : FileRow). SameFile text (take k out) f (network-file n′)) (sym (x .row)) (same-file text (take k out) n n′ (sym (y .same)) (x .accepts .spelled) spelled′);
+      tables = subst (λ (l : Lent). SameTables text (take k out) l left′) (sym (x .holds)) (subst (λ (l : Lent). SameTables text (take k out) (filled n t) l) (sym (r .2)) (same-tables text (take k out) n n′ (sym (y .same)) (x .accepts .spelled) spelled′ (x .accepts .right) (y .accepts .right) t));
+      network = record { one = n; other = n′; spells-one = x .accepts .spelled; spells-other = spelled′; same = y .same };
+    }
+
+-- of a pair: what was written of the RNDF, with what was written of the MDF
+pub pair-round-trip : (rndf mdf : Bytes) (t left₁ left : Lent) (u mission-left : MissionLent) (lent₁ lent : ℕ) (c₁ : Counts) (file₁ : FileRow) (k₁ : ℕ) (out₁ : Bytes) (c : Counts) (file : FileRow) (d : MissionCounts) (own : MissionFileRow) (k : ℕ) (out : Bytes)
+    → WritesRndf rndf t lent₁ (Write.Written c₁ file₁ k₁) left₁ out₁ → WritesMdf rndf mdf t u lent (WriteMdf.Written c file d own k) left mission-left out
+    → (reply : PairReply) (left′ : Lent) (mission-left′ : MissionLent) → ReadsPair (take k₁ out₁) (take k out) t u reply left′ mission-left′ → PairRoundTrip rndf mdf (take k₁ out₁) (take k out) c file d own left mission-left reply left′ mission-left′
+pair-round-trip rndf mdf t left₁ left u mission-left lent₁ lent c₁ file₁ k₁ out₁ c file d own k out w₁ w reply left′ mission-left′ h =
+    let x₁ = rndf-written rndf t left₁ lent₁ c₁ file₁ k₁ out₁ w₁ in
+    let x = mdf-written rndf mdf t left u mission-left lent c file d own k out w in
+    let n = x .net in
+    let m = x .mission in
+    let house = subst (λ (y : Network Field). HouseRndf y (x₁ .writing)) (one-spelled rndf (x₁ .net) n (x₁ .accepts .spelled) (x .accepts .spelled)) (x₁ .house) in
+    let h′ = subst (λ (b : Bytes). ReadsPair b (x .writing) t u reply left′ mission-left′) (x₁ .first) (subst (λ (b : Bytes). ReadsPair (take k₁ out₁) b t u reply left′ mission-left′) (x .first) h) in
+    let r = pair-read-again rndf mdf t u n m (x .accepts) (x .takes) (x₁ .writing) (x .writing) house (x .house) (x₁ .size) (x .size) reply left′ mission-left′ h′ in
+    let y = r .0 .network in
+    let z = r .0 .mission in
+    let spelled′ = subst (SpellsRndf (y .again)) (sym (x₁ .first)) (y .accepts .spelled) in
+    let counted = sym (x .meant .counted) in
+    let mission-counted = sym (x .meant .mission-counted) in
+    let mission-spelled′ = subst (SpellsMdf (z .again)) (sym (x .first)) (z .accepts .spelled) in
+    record {
+      file′ = network-file (y .again);
+      own′ = mission-file (z .again);
+      replied = r .1 ∙ (λ i. Pair.Accepted (counted i) (network-file (y .again)) (mission-counted i) (mission-file (z .again)));
+      names = subst (λ (f : FileRow). SameFile rndf (take k₁ out₁) f (network-file (y .again))) (sym (x .meant .row)) (same-file rndf (take k₁ out₁) n (y .again) (sym (y .same)) (x .accepts .spelled) spelled′);
+      mission-names = subst (λ (f : MissionFileRow). SameMissionFile mdf (take k out) f (mission-file (z .again))) (sym (x .meant .mission-row)) (same-mission-file mdf (take k out) m (z .again) (sym (z .same)) (x .takes .spelled) mission-spelled′);
+      tables = subst (λ (l : Lent). SameTables rndf (take k₁ out₁) l left′) (sym (x .meant .holds))
+          (subst (λ (l : Lent). SameTables rndf (take k₁ out₁) (filled n t) l) (sym (r .2)) (same-tables rndf (take k₁ out₁) n (y .again) (sym (y .same)) (x .accepts .spelled) spelled′ (x .accepts .right) (y .accepts .right) t));
+      mission-tables = x .meant .mission-holds ∙ sym (r .3);
+      network = record { one = n; other = y .again; spells-one = x .accepts .spelled; spells-other = spelled′; same = y .same };
+      mission = record { one = m; other = z .again; spells-one = x .takes .spelled; spells-other = mission-spelled′; same = z .same };
+    }

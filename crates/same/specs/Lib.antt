@@ -1,0 +1,2 @@
+-- When two networks, or missions, are the same.
+pub mod Same
