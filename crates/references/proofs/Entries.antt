@@ -40,7 +40,7 @@ not-good n o q e = let z : _≡_ {A = ℕ} 0 1 = cc in omega arith
 module _ (p : Place (rndf Field)) (t : Statement Field) (q : Place (rndf Field)) where
   taken-is : (s : Statement Field) (o : Out (Place (rndf Field))) → taken (rndf Field) rndf-lexis s o ≡ good (some t) q → s ≡ t
   taken-is s (next b) e = cc
-  taken-is s (refuse c) e = absurd (not-good 9 (some t) q e)
+  taken-is s (refuse c) e = absurd (not-good c (some t) q e)
 
   -- what an accepted line of a kind says is of that kind
   kind-kept : (k : Kind) (fs : List Field) → ofKind (rndf Field) rndf-lexis p k fs ≡ good (some t) q → k ≡ t .kind
