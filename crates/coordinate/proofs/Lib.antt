@@ -1,4 +1,4 @@
--- Laws of coordinates in fields. Callers cite Coordinates, Ranges and House.
+-- Laws of coordinates in fields. Callers cite Coordinates and House.
 -- Names as in `number`, K being coordinate:
 --   K-right: an answer that is a value is spelled.  K-only: what is spelled is the answer.
 --   K-no, K-none: `No` exactly if nothing is spelled.  K-same: two values never share a spelling.
@@ -8,6 +8,5 @@
 --   house-K-short, house-K-bytes: its length, its bytes.
 --   K-short, K-bytes, K-long (and house-K-long: at least 8 bytes): the same of any field that spells a value.
 pub mod Coordinates
-pub mod Ranges
 pub mod House
 mod Signs

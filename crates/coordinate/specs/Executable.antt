@@ -2,8 +2,6 @@
 use mathlib.Core.Bool.{Bool, _&&_}
 use Prim.Native.Nat.{_+_, _-_, _*_, _≤_}
 use Prim.Native.Char.{code}
-use lib.IntN.{ℤ, pos, negℤ}
-use lib.Signed.{leZ}
 use lib.ListN.{length, getD, take, drop}
 use lib.Dec.{leb, eqb}
 use Rattle.terms.specs.Ascii.{Bytes}
@@ -43,13 +41,3 @@ minusFirst s = eqb (getD s 0 0) (code "-")
 
 unfoldable pub coordinateOf : Bytes → DD.Degrees
 coordinateOf s = withSign (minusFirst s) (millionthsOf (pick (minusFirst s) (drop 1 s) s))
-
--- ## Ranges
-abbrev pub between : ℤ → ℤ → ℤ → Bool
-between low high z = leZ low z && leZ z high
-
-abbrev pub latitudeInRange : ℤ → Bool
-latitudeInRange z = between (negℤ (pos 90000000)) (pos 90000000) z
-
-abbrev pub longitudeInRange : ℤ → Bool
-longitudeInRange z = between (negℤ (pos 180000000)) (pos 180000000) z

@@ -1,11 +1,11 @@
-// Coordinates in fields, and the ranges of latitude and longitude.
+// Coordinates in fields.
 // A field that is not spelled right is `No` (refusal 8). A value stays raw, up to 999,999,999 millionths of a degree on
-// either side of 0: whether it is in range (refusal 9) is a test apart. Rests on `terms`, `scan` and `number`.
+// either side of 0: whether it is in range (refusal 9) is tested in `permitted`. Rests on `terms`, `scan` and `number`.
 use number::Number;
 use number::number_of;
 use number::plain_of;
 ghost use mathlib.Core.Path.{_≡_};
-ghost use Rattle.coordinate.specs.Executable.{Small, millionthsOf, withSign, coordinateOf, between, latitudeInRange, longitudeInRange};
+ghost use Rattle.coordinate.specs.Executable.{Small, millionthsOf, withSign, coordinateOf};
 
 // What a coordinate field says, in millionths of a degree.
 pub enum Degrees {
@@ -71,24 +71,4 @@ pub fn coordinate_of(s: &[u8]) -> Degrees
     } else {
         Degrees::No
     }
-}
-
-// Neither below the one nor above the other.
-fn is_between(low: i32, z: i32, high: i32) -> bool
-    ensures { λ r. ⌜ r ≡ between low high z ⌝ }
-{
-    if low <= z { z <= high } else { false }
-}
-
-// In millionths of a degree, as is longitude.
-pub fn latitude_in_range(z: i32) -> bool
-    ensures { λ r. ⌜ r ≡ latitudeInRange z ⌝ }
-{
-    is_between(0 - 90000000, z, 90000000)
-}
-
-pub fn longitude_in_range(z: i32) -> bool
-    ensures { λ r. ⌜ r ≡ longitudeInRange z ⌝ }
-{
-    is_between(0 - 180000000, z, 180000000)
 }

@@ -15,7 +15,8 @@ use Rattle.terms.specs.Words.{pick}
 use Rattle.scan.specs.Allowed.{digit, all}
 use Rattle.terms.proofs.Tests.{clash, both}
 use Rattle.scan.proofs.Bytes.{within-is}
-use Rattle.number.specs.Executable.{worth, digits, plain, numberOf, plainOf}
+use Rattle.number.specs.Executable.{worth, digits, plain, numberOf, plainOf, ifFew}
+use Rattle.number.specs.declared.Number as DN
 use Rattle.number.specs.declared.Number.the-variants as N
 
 -- an answer that is a value came by the test
@@ -131,3 +132,7 @@ unfolding plainOf
 plain-small k s v l e =
     let q = came (plain s) (worth 0 s) v e in
     omega (arith, digits-small k s (plain-digits s (q .0)) l)
+
+-- ## Few digits
+pub few : (s : Bytes) (n : DN.Number) → length s ≤ 9 → ifFew s n ≡ n
+few s n h = rw (le-leb (length s) 9 h)

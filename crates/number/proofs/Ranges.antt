@@ -1,4 +1,4 @@
--- Laws of the length of a name and of the range of integers: each test says what its definition says. Assumes nothing.
+-- Laws of the length of a name: the test says what its definition says. Assumes nothing.
 use mathlib.Core.Path.{_≡_}
 use mathlib.Core.Bool.{true, false}
 use Prim.Native.Nat.{ℕ}
@@ -6,10 +6,8 @@ use borrow.Author.Tests.{le-leb, leb-true}
 use lib.Dec.{leb}
 use Rattle.terms.proofs.Tests.{refused, both, and}
 use Rattle.number.specs.Spelling.{NameLength}
-use Rattle.number.specs.Ranges.{IntegerInRange}
-use Rattle.number.specs.Executable.{isNameLength, integerInRange}
+use Rattle.number.specs.Executable.{isNameLength}
 
--- ## Names
 pub name-right : (n : ℕ) → isNameLength n ≡ true → NameLength n
 name-right n e =
     let p = both (leb 1 n) (leb n 128) e in
@@ -20,13 +18,3 @@ name-only n h = and (le-leb 1 n (h .low)) (le-leb n 128 (h .high))
 
 pub name-no : (n : ℕ) → isNameLength n ≡ false → NameLength n → ⊥
 name-no n e h = refused (name-only n) e h
-
--- ## Integers
-pub integer-range-right : (n : ℕ) → integerInRange n ≡ true → IntegerInRange n
-integer-range-right n e = leb-true n 32768 e
-
-pub integer-range-only : (n : ℕ) → IntegerInRange n → integerInRange n ≡ true
-integer-range-only n h = le-leb n 32768 h
-
-pub integer-range-no : (n : ℕ) → integerInRange n ≡ false → IntegerInRange n → ⊥
-integer-range-no n e h = refused (integer-range-only n) e h

@@ -38,6 +38,10 @@ numberOf s = pick (digits s) (N.Is (worth 0 s)) N.No
 unfoldable pub plainOf : Bytes → DN.Number
 plainOf s = pick (plain s) (N.Is (worth 0 s)) N.No
 
+-- as the program answers: more than nine digits are no number
+abbrev pub ifFew : Bytes → DN.Number → DN.Number
+ifFew s n = pick (leb (length s) 9) n N.No
+
 -- ## Integers
 unfoldable pub integerOf : Bytes → DN.Number
 integerOf s = pick (leb (length s) 5) (plainOf s) N.No
@@ -64,9 +68,6 @@ pairOf s = pick (ltb (dot s) (length s)) (bothOf (integerOf (take (dot s) s)) (i
 unfoldable pub tripleOf : Bytes → DT.Triple
 tripleOf s = pick (ltb (dot s) (length s)) (threeOf (integerOf (take (dot s) s)) (pairOf (drop (dot s + 1) s))) T.No
 
--- ## Names and ranges
+-- ## Names
 abbrev pub isNameLength : ℕ → Bool
 isNameLength n = leb 1 n && leb n 128
-
-abbrev pub integerInRange : ℕ → Bool
-integerInRange n = leb n 32768

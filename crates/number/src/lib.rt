@@ -1,12 +1,12 @@
 // Integers and identifiers in fields, and the length of a name.
 // A field that is not spelled right is `No` (refusal 8). A value stays raw, up to 99,999: whether it is in range
-// (refusal 9) is a test apart. Rests on `terms` and `scan`.
+// (refusal 9) is tested in `permitted`. Rests on `terms` and `scan`.
 use scan::byte_from;
 use scan::is_digit;
 ghost use mathlib.Core.Path.{_≡_};
 ghost use Prim.Native.Nat.{_≤_};
 ghost use lib.ListN.{length};
-ghost use Rattle.number.specs.Executable.{numberOf, plainOf, integerOf, bothOf, pairOf, threeOf, tripleOf, isNameLength, integerInRange};
+ghost use Rattle.number.specs.Executable.{numberOf, plainOf, ifFew, integerOf, bothOf, pairOf, threeOf, tripleOf, isNameLength};
 
 // What an integer field says, or a row of digits.
 pub enum Number {
@@ -14,8 +14,11 @@ pub enum Number {
     No,
 }
 
+// Nine digits are always worth a number that fits into 32 bits; more are taken for none.
+const MOST_DIGITS: usize = 9;
+
 // Digits alone, leading zeros too; nothing is worth 0.
-pub fn number_of(s: &[u8]) -> Number
+fn digits_worth(s: &[u8]) -> Number
     requires { ⌜ length (now s) ≤ 9 ⌝ }
     ensures { λ r. ⌜ r ≡ numberOf (now (s .entry)) ⌝ }
 {
@@ -33,8 +36,18 @@ pub fn number_of(s: &[u8]) -> Number
     Number::Is(v)
 }
 
+// The same of any field.
+pub fn number_of(s: &[u8]) -> Number
+    ensures { λ r. ⌜ r ≡ ifFew (now (s .entry)) (numberOf (now (s .entry))) ⌝ }
+{
+    if MOST_DIGITS < s.len() {
+        return Number::No;
+    }
+    digits_worth(s)
+}
+
 // At least one digit, and no zero in front but a single one.
-pub fn plain_of(s: &[u8]) -> Number
+fn plain_worth(s: &[u8]) -> Number
     requires { ⌜ length (now s) ≤ 9 ⌝ }
     ensures { λ r. ⌜ r ≡ plainOf (now (s .entry)) ⌝ }
 {
@@ -47,7 +60,17 @@ pub fn plain_of(s: &[u8]) -> Number
         }
         return Number::No;
     }
-    number_of(s)
+    digits_worth(s)
+}
+
+// The same of any field.
+pub fn plain_of(s: &[u8]) -> Number
+    ensures { λ r. ⌜ r ≡ ifFew (now (s .entry)) (plainOf (now (s .entry))) ⌝ }
+{
+    if MOST_DIGITS < s.len() {
+        return Number::No;
+    }
+    plain_worth(s)
 }
 
 // 1 to 5 digits, no leading zero but 0 itself.
@@ -57,7 +80,7 @@ pub fn integer_of(s: &[u8]) -> Number
     if 5 < s.len() {
         return Number::No;
     }
-    plain_of(s)
+    plain_worth(s)
 }
 
 // What an identifier m.n says.
@@ -140,11 +163,4 @@ pub fn is_name_length(n: usize) -> bool
     ensures { λ r. ⌜ r ≡ isNameLength n ⌝ }
 {
     if 1 <= n { n <= 128 } else { false }
-}
-
-// The largest integer that any place permits; a place may permit fewer.
-pub fn integer_in_range(n: u32) -> bool
-    ensures { λ r. ⌜ r ≡ integerInRange n ⌝ }
-{
-    n <= 32768
 }

@@ -3,14 +3,11 @@
 // `stdin` has document 01's vectors; `stdout` was worked out from document 01 by `expected.py`, not by this program.
 use coordinate::Degrees;
 use coordinate::coordinate_of;
-use coordinate::latitude_in_range;
-use coordinate::longitude_in_range;
 use libc::STDIN_FILENO;
 use libc::STDOUT_FILENO;
 use number::Number;
 use number::Pair;
 use number::Triple;
-use number::integer_in_range;
 use number::integer_of;
 use number::is_name_length;
 use number::pair_of;
@@ -35,6 +32,23 @@ fn signed_value(z: i32) {
     } else {
         io::write_all(STDOUT_FILENO, b" ");
         io::print_decimal(STDOUT_FILENO, z as u64);
+    }
+}
+
+// Document 01's ranges, which `permitted` tests in the readers.
+fn integer_in_range(n: u32) -> bool {
+    n <= 32768
+}
+
+fn latitude_in_range(z: i32) -> bool {
+    if -90000000 <= z { z <= 90000000 } else { false }
+}
+
+fn longitude_in_range(z: i32) -> bool {
+    if -180000000 <= z {
+        z <= 180000000
+    } else {
+        false
     }
 }
 

@@ -11,6 +11,7 @@ use Rattle.word.specs.Keywords.{rndf-keywords, mdf-keywords, boundary-wo
 use Rattle.word.specs.Number.{indexOf, fromOne}
 use Rattle.word.specs.Packed.{packed}
 use Rattle.word.specs.declared.Word.{Word}
+use Rattle.word.specs.declared.Row.{Row}
 
 -- the words, one to a row: each keyword once, the RNDF's first, then those that only the MDF has, then the boundary words
 unfoldable pub words : List Bytes
@@ -35,6 +36,13 @@ known w =
 
 unfoldable pub knownOf : ℕ → Word
 knownOf k = known (wordAt k)
+
+-- the same as a row of the table, and back
+abbrev pub rowOf : Word → Row
+rowOf w = record { 0 = w .size; 1 = w .«in_rndf»; 2 = w .«in_mdf»; 3 = w .«as_boundary»; 4 = w .first; 5 = w .second; 6 = w .third }
+
+abbrev pub ofRow : Row → Word
+ofRow r = record { size = r .0; «in_rndf» = r .1; «in_mdf» = r .2; «as_boundary» = r .3; first = r .4; second = r .5; third = r .6 }
 
 -- the field has the size and the letters
 unfoldable pub sameKnown : Bytes → Word → Bool

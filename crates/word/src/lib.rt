@@ -11,7 +11,7 @@ ghost use lib.ListN.{length, take, drop};
 ghost use Rattle.word.specs.Keywords.{rndf-keywords, mdf-keywords};
 ghost use Rattle.word.specs.Number.{indexOf, boundary-number, digit-first};
 ghost use Rattle.word.specs.Packed.{packed};
-ghost use Rattle.word.specs.Table.{words, knownOf, foldedOf, placeOf, placeAt, sameKnown};
+ghost use Rattle.word.specs.Table.{words, knownOf, rowOf, foldedOf, placeOf, placeAt, sameKnown};
 
 // What is known of a word: its size in bytes, its number in an RNDF (29: none), its number in an MDF (11: none), its number as a boundary (0: none),
 // and its letters, eight to a number, the first of them the lowest byte.
@@ -40,422 +40,80 @@ fn no_word() -> Word
     }
 }
 
+// A word as a row of the table: what `Word` names, in its order.
+struct Row(u8, u8, u8, u8, u64, u64, u64);
+
 // The only word that belongs at this place (see `place_of`). Where none does there stands RNDF_name: the comparison then says no.
+fn row_at(place: usize) -> Row
+    requires { ⌜ place < 64 ⌝ }
+    ensures { λ r. ⌜ r ≡ rowOf (knownOf (placeAt place)) ⌝ }
+{
+    match place {
+        0 => Row(13, 10, 11, 0, 8104616169759929710, 495874632047, 0), // num_waypoints
+        1 => Row(10, 11, 11, 0, 7235445527954743660, 26740, 0), // lane_width
+        2 => Row(15, 29, 5, 0, 7162245558414701934, 32497639885860971, 0), // num_checkpoints
+        3 => Row(12, 1, 11, 0, 7883381218931996014, 1937010277, 0), // num_segments
+        4 => Row(9, 6, 11, 0, 7308886363354264942, 115, 0), // num_lanes
+        5 => Row(9, 19, 11, 0, 8390048271639082350, 115, 0), // num_spots
+        6 => Row(
+            19,
+            23,
+            11,
+            0,
+            7598247054639199598,
+            7597414733028025709,
+            7566446,
+        ), // num_perimeterpoints
+        9 => Row(4, 15, 11, 0, 1886352499, 0, 0), // stop
+        13 => Row(13, 4, 3, 0, 7957695015158116963, 435744236639, 0), // creation_date
+        14 => Row(8, 28, 10, 0, 7308332183723470437, 0, 0), // end_file
+        18 => Row(12, 7, 11, 0, 6878243912807834995, 1701667182, 0), // segment_name
+        19 => Row(10, 14, 11, 0, 7597414702928717923, 29806, 0), // checkpoint
+        20 => Row(4, 9, 11, 0, 1701732716, 0, 0), // lane
+        21 => Row(13, 12, 11, 0, 8462090386966734188, 521610028142, 0), // left_boundary
+        22 => Row(9, 2, 11, 0, 7308901816646595950, 115, 0), // num_zones
+        23 => Row(4, 16, 11, 0, 1953069157, 0, 0), // exit
+        25 => Row(10, 26, 11, 0, 7235445528206471283, 26740, 0), // spot_width
+        26 => Row(4, 29, 1, 0, 1178881618, 0, 0), // RNDF
+        30 => Row(11, 8, 11, 0, 7883381218931404389, 7630437, 0), // end_segment
+        34 => Row(7, 5, 11, 0, 32772479204681075, 0, 0), // segment
+        35 => Row(14, 3, 2, 0, 8529664181059874662, 121424789598821, 0), // format_version
+        36 => Row(12, 29, 11, 2, 7311980354882793331, 2003790956, 0), // solid_yellow
+        38 => Row(4, 18, 11, 0, 1701736314, 0, 0), // zone
+        39 => Row(16, 29, 9, 0, 7306369611302465125, 8319390330301210468, 0), // end_speed_limits
+        40 => Row(8, 17, 11, 0, 7308886363353673317, 0, 0), // end_lane
+        42 => Row(15, 29, 6, 0, 7162245558414110309, 32497639885860971, 0), // end_checkpoints
+        46 => Row(14, 13, 11, 0, 8026082439500097906, 133532167204469, 0), // right_boundary
+        47 => Row(11, 29, 11, 3, 7527590187043155827, 6648937, 0), // solid_white
+        48 => Row(13, 24, 11, 0, 7598247054638607973, 491328398701, 0), // end_perimeter
+        53 => Row(8, 27, 11, 0, 8390048271638490725, 0, 0), // end_spot
+        54 => Row(8, 29, 0, 0, 7308604896964920397, 0, 0), // MDF_name
+        55 => Row(9, 20, 11, 0, 7881702178877763450, 101, 0), // zone_name
+        56 => Row(12, 29, 11, 4, 8601715195174154850, 1702127976, 0), // broken_white
+        57 => Row(4, 25, 11, 0, 1953460339, 0, 0), // spot
+        58 => Row(8, 21, 11, 0, 7308901816646004325, 0, 0), // end_zone
+        59 => Row(12, 29, 7, 0, 7596551556269699187, 1937009005, 0), // speed_limits
+        60 => Row(9, 22, 11, 0, 7310579615724103024, 114, 0), // perimeter
+        61 => Row(13, 29, 11, 1, 8745820517559529316, 512970484837, 0), // double_yellow
+        62 => Row(11, 29, 4, 0, 7597414702928717923, 7566446, 0), // checkpoints
+        63 => Row(16, 29, 8, 0, 7306369611303056750, 8319390330301210468, 0), // num_speed_limits
+        _ => Row(9, 0, 11, 0, 7881702178354908754, 101, 0), // RNDF_name
+    }
+}
+
 fn word_at(place: usize) -> Word
     requires { ⌜ place < 64 ⌝ }
     ensures { λ r. ⌜ r ≡ knownOf (placeAt place) ⌝ }
 {
-    match place {
-        // num_waypoints
-        0 => Word {
-            size: 13,
-            in_rndf: 10,
-            in_mdf: 11,
-            as_boundary: 0,
-            first: 8104616169759929710,
-            second: 495874632047,
-            third: 0,
-        },
-        // lane_width
-        1 => Word {
-            size: 10,
-            in_rndf: 11,
-            in_mdf: 11,
-            as_boundary: 0,
-            first: 7235445527954743660,
-            second: 26740,
-            third: 0,
-        },
-        // num_checkpoints
-        2 => Word {
-            size: 15,
-            in_rndf: 29,
-            in_mdf: 5,
-            as_boundary: 0,
-            first: 7162245558414701934,
-            second: 32497639885860971,
-            third: 0,
-        },
-        // num_segments
-        3 => Word {
-            size: 12,
-            in_rndf: 1,
-            in_mdf: 11,
-            as_boundary: 0,
-            first: 7883381218931996014,
-            second: 1937010277,
-            third: 0,
-        },
-        // num_lanes
-        4 => Word {
-            size: 9,
-            in_rndf: 6,
-            in_mdf: 11,
-            as_boundary: 0,
-            first: 7308886363354264942,
-            second: 115,
-            third: 0,
-        },
-        // num_spots
-        5 => Word {
-            size: 9,
-            in_rndf: 19,
-            in_mdf: 11,
-            as_boundary: 0,
-            first: 8390048271639082350,
-            second: 115,
-            third: 0,
-        },
-        // num_perimeterpoints
-        6 => Word {
-            size: 19,
-            in_rndf: 23,
-            in_mdf: 11,
-            as_boundary: 0,
-            first: 7598247054639199598,
-            second: 7597414733028025709,
-            third: 7566446,
-        },
-        // stop
-        9 => Word {
-            size: 4,
-            in_rndf: 15,
-            in_mdf: 11,
-            as_boundary: 0,
-            first: 1886352499,
-            second: 0,
-            third: 0,
-        },
-        // creation_date
-        13 => Word {
-            size: 13,
-            in_rndf: 4,
-            in_mdf: 3,
-            as_boundary: 0,
-            first: 7957695015158116963,
-            second: 435744236639,
-            third: 0,
-        },
-        // end_file
-        14 => Word {
-            size: 8,
-            in_rndf: 28,
-            in_mdf: 10,
-            as_boundary: 0,
-            first: 7308332183723470437,
-            second: 0,
-            third: 0,
-        },
-        // segment_name
-        18 => Word {
-            size: 12,
-            in_rndf: 7,
-            in_mdf: 11,
-            as_boundary: 0,
-            first: 6878243912807834995,
-            second: 1701667182,
-            third: 0,
-        },
-        // checkpoint
-        19 => Word {
-            size: 10,
-            in_rndf: 14,
-            in_mdf: 11,
-            as_boundary: 0,
-            first: 7597414702928717923,
-            second: 29806,
-            third: 0,
-        },
-        // lane
-        20 => Word {
-            size: 4,
-            in_rndf: 9,
-            in_mdf: 11,
-            as_boundary: 0,
-            first: 1701732716,
-            second: 0,
-            third: 0,
-        },
-        // left_boundary
-        21 => Word {
-            size: 13,
-            in_rndf: 12,
-            in_mdf: 11,
-            as_boundary: 0,
-            first: 8462090386966734188,
-            second: 521610028142,
-            third: 0,
-        },
-        // num_zones
-        22 => Word {
-            size: 9,
-            in_rndf: 2,
-            in_mdf: 11,
-            as_boundary: 0,
-            first: 7308901816646595950,
-            second: 115,
-            third: 0,
-        },
-        // exit
-        23 => Word {
-            size: 4,
-            in_rndf: 16,
-            in_mdf: 11,
-            as_boundary: 0,
-            first: 1953069157,
-            second: 0,
-            third: 0,
-        },
-        // spot_width
-        25 => Word {
-            size: 10,
-            in_rndf: 26,
-            in_mdf: 11,
-            as_boundary: 0,
-            first: 7235445528206471283,
-            second: 26740,
-            third: 0,
-        },
-        // RNDF
-        26 => Word {
-            size: 4,
-            in_rndf: 29,
-            in_mdf: 1,
-            as_boundary: 0,
-            first: 1178881618,
-            second: 0,
-            third: 0,
-        },
-        // end_segment
-        30 => Word {
-            size: 11,
-            in_rndf: 8,
-            in_mdf: 11,
-            as_boundary: 0,
-            first: 7883381218931404389,
-            second: 7630437,
-            third: 0,
-        },
-        // segment
-        34 => Word {
-            size: 7,
-            in_rndf: 5,
-            in_mdf: 11,
-            as_boundary: 0,
-            first: 32772479204681075,
-            second: 0,
-            third: 0,
-        },
-        // format_version
-        35 => Word {
-            size: 14,
-            in_rndf: 3,
-            in_mdf: 2,
-            as_boundary: 0,
-            first: 8529664181059874662,
-            second: 121424789598821,
-            third: 0,
-        },
-        // solid_yellow
-        36 => Word {
-            size: 12,
-            in_rndf: 29,
-            in_mdf: 11,
-            as_boundary: 2,
-            first: 7311980354882793331,
-            second: 2003790956,
-            third: 0,
-        },
-        // zone
-        38 => Word {
-            size: 4,
-            in_rndf: 18,
-            in_mdf: 11,
-            as_boundary: 0,
-            first: 1701736314,
-            second: 0,
-            third: 0,
-        },
-        // end_speed_limits
-        39 => Word {
-            size: 16,
-            in_rndf: 29,
-            in_mdf: 9,
-            as_boundary: 0,
-            first: 7306369611302465125,
-            second: 8319390330301210468,
-            third: 0,
-        },
-        // end_lane
-        40 => Word {
-            size: 8,
-            in_rndf: 17,
-            in_mdf: 11,
-            as_boundary: 0,
-            first: 7308886363353673317,
-            second: 0,
-            third: 0,
-        },
-        // end_checkpoints
-        42 => Word {
-            size: 15,
-            in_rndf: 29,
-            in_mdf: 6,
-            as_boundary: 0,
-            first: 7162245558414110309,
-            second: 32497639885860971,
-            third: 0,
-        },
-        // right_boundary
-        46 => Word {
-            size: 14,
-            in_rndf: 13,
-            in_mdf: 11,
-            as_boundary: 0,
-            first: 8026082439500097906,
-            second: 133532167204469,
-            third: 0,
-        },
-        // solid_white
-        47 => Word {
-            size: 11,
-            in_rndf: 29,
-            in_mdf: 11,
-            as_boundary: 3,
-            first: 7527590187043155827,
-            second: 6648937,
-            third: 0,
-        },
-        // end_perimeter
-        48 => Word {
-            size: 13,
-            in_rndf: 24,
-            in_mdf: 11,
-            as_boundary: 0,
-            first: 7598247054638607973,
-            second: 491328398701,
-            third: 0,
-        },
-        // end_spot
-        53 => Word {
-            size: 8,
-            in_rndf: 27,
-            in_mdf: 11,
-            as_boundary: 0,
-            first: 8390048271638490725,
-            second: 0,
-            third: 0,
-        },
-        // MDF_name
-        54 => Word {
-            size: 8,
-            in_rndf: 29,
-            in_mdf: 0,
-            as_boundary: 0,
-            first: 7308604896964920397,
-            second: 0,
-            third: 0,
-        },
-        // zone_name
-        55 => Word {
-            size: 9,
-            in_rndf: 20,
-            in_mdf: 11,
-            as_boundary: 0,
-            first: 7881702178877763450,
-            second: 101,
-            third: 0,
-        },
-        // broken_white
-        56 => Word {
-            size: 12,
-            in_rndf: 29,
-            in_mdf: 11,
-            as_boundary: 4,
-            first: 8601715195174154850,
-            second: 1702127976,
-            third: 0,
-        },
-        // spot
-        57 => Word {
-            size: 4,
-            in_rndf: 25,
-            in_mdf: 11,
-            as_boundary: 0,
-            first: 1953460339,
-            second: 0,
-            third: 0,
-        },
-        // end_zone
-        58 => Word {
-            size: 8,
-            in_rndf: 21,
-            in_mdf: 11,
-            as_boundary: 0,
-            first: 7308901816646004325,
-            second: 0,
-            third: 0,
-        },
-        // speed_limits
-        59 => Word {
-            size: 12,
-            in_rndf: 29,
-            in_mdf: 7,
-            as_boundary: 0,
-            first: 7596551556269699187,
-            second: 1937009005,
-            third: 0,
-        },
-        // perimeter
-        60 => Word {
-            size: 9,
-            in_rndf: 22,
-            in_mdf: 11,
-            as_boundary: 0,
-            first: 7310579615724103024,
-            second: 114,
-            third: 0,
-        },
-        // double_yellow
-        61 => Word {
-            size: 13,
-            in_rndf: 29,
-            in_mdf: 11,
-            as_boundary: 1,
-            first: 8745820517559529316,
-            second: 512970484837,
-            third: 0,
-        },
-        // checkpoints
-        62 => Word {
-            size: 11,
-            in_rndf: 29,
-            in_mdf: 4,
-            as_boundary: 0,
-            first: 7597414702928717923,
-            second: 7566446,
-            third: 0,
-        },
-        // num_speed_limits
-        63 => Word {
-            size: 16,
-            in_rndf: 29,
-            in_mdf: 8,
-            as_boundary: 0,
-            first: 7306369611303056750,
-            second: 8319390330301210468,
-            third: 0,
-        },
-        // RNDF_name
-        _ => Word {
-            size: 9,
-            in_rndf: 0,
-            in_mdf: 11,
-            as_boundary: 0,
-            first: 7881702178354908754,
-            second: 101,
-            third: 0,
-        },
+    let row = row_at(place);
+    Word {
+        size: row.0,
+        in_rndf: row.1,
+        in_mdf: row.2,
+        as_boundary: row.3,
+        first: row.4,
+        second: row.5,
+        third: row.6,
     }
 }
 

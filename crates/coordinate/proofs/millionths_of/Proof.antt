@@ -1,22 +1,21 @@
 -- `coordinate::millionths_of` meets its contract.
 -- Assumes nothing.
 use mathlib.Core.Path.{_≡_, sym, ap, _∙_}
-use Prim.Native.Nat.{_-_, _+_}
+use Prim.Native.Nat.{_-_, _+_, _≤_}
 use native.Mathlib.Omega.{arith}
 use borrow.Author.Tests.{eq-eqb, ne-eqb, le-leb, lt-leb}
-use lib.ListN.{length, getD, take, drop, length-drop}
+use lib.ListN.{length, getD, take, drop, length-take, length-drop}
 use lib.Seq.{take-all, length-take-le}
 use Rattle.coordinate.specs.Executable.{millionthsOf}
-use Rattle.number.proofs.Digits.{number-small, plain-small}
+use Rattle.number.proofs.Digits.{number-small, plain-small, few}
 use Rattle.number.specs.declared.Number.the-variants.{Is, No}
-use Rattle.number.specs.Executable.{plainOf, numberOf}
+use Rattle.terms.specs.Ascii.{Bytes}
+use Rattle.number.specs.Executable.{plainOf, numberOf, ifFew}
 use borrow.Author.Needs.{needs}
 use Rattle.coordinate.proofs.millionths_of.Statement.{statement}
 use Rattle.coordinate.proofs.millionths_of.Tie as tie
 use Rattle.coordinate.proofs.millionths_of.Reads as reads
 use Rattle.coordinate.proofs.millionths_of.Lts as lts
-use Rattle.number.proofs.number_of.Reads as number-of-reads
-use Rattle.number.proofs.plain_of.Reads as plain-of-reads
 
 returns : tie.Need-returns
 unfolding millionthsOf
@@ -41,9 +40,7 @@ slice-aggregate-plain-of c =
     sym (length-take-le (length s - 7) s (omega arith))
 
 plain-of-requires : tie.Need-plain-of-requires
-plain-of-requires c κs =
-    let s = c .before .before .before .before .before .before .args .s .now in
-    omega (arith, length-take-le (length s - 7) s (omega arith))
+plain-of-requires c κs = search needs
 
 enum-known-d : tie.Need-enum-known-d
 enum-known-d c = search needs
@@ -51,10 +48,19 @@ enum-known-d c = search needs
 enum-told : tie.Need-enum-told
 enum-told c = search needs
 
+-- both parts are short
+few-in-front : (s : Bytes) → length s ≤ 10 → ifFew (take (length s - 7) s) (plainOf (take (length s - 7) s)) ≡ plainOf (take (length s - 7) s)
+few-in-front s h = few (take (length s - 7) s) (plainOf (take (length s - 7) s)) (omega (arith, length-take (length s - 7) s))
+
+few-behind : (s : Bytes) → length s ≤ 10 → ifFew (drop (length s - 7 + 1) s) (numberOf (drop (length s - 7 + 1) s)) ≡ numberOf (drop (length s - 7 + 1) s)
+few-behind s h = few (drop (length s - 7 + 1) s) (numberOf (drop (length s - 7 + 1) s)) (omega (arith, length-drop (length s - 7 + 1) s))
+
 -- what is known once the whole degrees are read
 whole : (c : tie.After-d) →
     plainOf (take (length (c .before .before .before .before .before .before .before .before .before .args .s .now) - 7) (c .before .before .before .before .before .before .before .before .before .args .s .now)) ≡ Is (c .d .given .0 .0)
-whole c = sym (c .before .before .plain-of .ensures) ∙ c .d .given .1
+whole c =
+    let s = c .before .before .before .before .before .before .before .before .before .args .s .now in
+    sym (few-in-front s (omega arith)) ∙ sym (c .before .before .plain-of .ensures) ∙ c .d .given .1
 
 -- and once the six digits are
 part : (c : tie.After-f) →
@@ -62,13 +68,13 @@ part : (c : tie.After-f) →
     numberOf (drop (length s - 7 + 1) s) ≡ Is (c .f .given .0 .0)
 part c =
     let s = c .before .before .before .before .before .before .before .before .before .before .before .before .before .before .args .s .now in
-    sym (c .before .before .number-of .ensures ∙ ap numberOf (take-all (length s - (length s - 7 + 1)) (drop (length s - 7 + 1) s) (omega (arith, length-drop (length s - 7 + 1) s)))) ∙ c .f .given .1
+    sym (c .before .before .number-of .ensures ∙ ap (λ (l : Bytes). ifFew l (numberOf l)) (take-all (length s - (length s - 7 + 1)) (drop (length s - 7 + 1) s) (omega (arith, length-drop (length s - 7 + 1) s))) ∙ few-behind s (omega arith)) ∙ c .f .given .1
 
 returns-3 : tie.Need-returns-3
 unfolding millionthsOf
 returns-3 c =
     let s = c .before .before .before .before .before .before .before .before .before .args .s .now in
-    let e : plainOf (take (length s - 7) s) ≡ No = sym (c .before .before .plain-of .ensures) ∙ c .enum-told .given .1 in
+    let e : plainOf (take (length s - 7) s) ≡ No = sym (few-in-front s (omega arith)) ∙ sym (c .before .before .plain-of .ensures) ∙ c .enum-told .given .1 in
     rw (le-leb (length s) 10 (omega arith), le-leb 8 (length s) (omega arith), eq-eqb (getD s (length s - 7) 0) 46 (c .before .before .before .before .if3 .taken), e)
 
 add-q : tie.Need-add-q
@@ -98,7 +104,7 @@ returns-4 c =
     let s = c .before .before .before .before .before .before .before .before .before .before .before .before .before .before .args .s .now in
     let k = c .before .before .before .before .before .before .before .before .before in
     let e : numberOf (drop (length s - 7 + 1) s) ≡ No =
-    sym (c .before .before .number-of .ensures ∙ ap numberOf (take-all (length s - (length s - 7 + 1)) (drop (length s - 7 + 1) s) (omega (arith, length-drop (length s - 7 + 1) s)))) ∙ c .enum-told2 .given .1 in
+    sym (c .before .before .number-of .ensures ∙ ap (λ (l : Bytes). ifFew l (numberOf l)) (take-all (length s - (length s - 7 + 1)) (drop (length s - 7 + 1) s) (omega (arith, length-drop (length s - 7 + 1) s))) ∙ few-behind s (omega (arith, k))) ∙ c .enum-told2 .given .1 in
     rw (le-leb (length s) 10 (omega (arith, k)), le-leb 8 (length s) (omega (arith, k)), eq-eqb (getD s (length s - 7) 0) 46 (k .if3 .taken), whole (c .before .before .before .before .before), e)
 
 mul-t19 : tie.Need-mul-t19

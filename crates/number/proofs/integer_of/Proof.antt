@@ -9,7 +9,6 @@ use Rattle.number.proofs.integer_of.Statement.{statement}
 use Rattle.number.proofs.integer_of.Tie as tie
 use Rattle.number.proofs.integer_of.Reads as reads
 use Rattle.number.proofs.integer_of.Lts as lts
-use Rattle.number.proofs.plain_of.Reads as plain-of-reads
 
 returns : tie.Need-returns
 unfolding integerOf
@@ -18,15 +17,15 @@ returns c =
     let h : 5 < length s = omega arith in
     rw (lt-leb (length s) 5 h)
 
-plain-of-requires : tie.Need-plain-of-requires
-plain-of-requires c κs = search needs
+plain-worth-requires : tie.Need-plain-worth-requires
+plain-worth-requires c κs = search needs
 
 returns-2 : tie.Need-returns-2
 unfolding integerOf
 returns-2 c =
     let s = c .before .before .before .args .s .now in
     let h : length s ≤ 5 = omega arith in
-    rw (le-leb (length s) 5 h) (c .plain-of .ensures)
+    rw (le-leb (length s) 5 h) (c .plain-worth .ensures)
 
 pub integer-of-spec : {M : Type 1} → statement M
-integer-of-spec = tie.close (tie.spec returns plain-of-requires returns-2)
+integer-of-spec = tie.close (tie.spec returns plain-worth-requires returns-2)

@@ -1,48 +1,26 @@
 -- `number::plain_of` meets its contract. Assumes nothing.
-use mathlib.Core.Path.{_≡_}
+use Prim.Native.Nat.{_≤_, _<_}
 use native.Mathlib.Omega.{arith}
-use lib.ListN.{getD}
-use Rattle.number.specs.Executable.{worth, plain, plainOf, numberOf}
-use Rattle.number.proofs.Digits.{plain-empty, plain-zero, plain-zeros, plain-other}
+use lib.ListN.{length}
+use borrow.Author.Tests.{le-leb, lt-leb}
 use borrow.Author.Needs.{needs}
 use Rattle.number.proofs.plain_of.Statement.{statement}
 use Rattle.number.proofs.plain_of.Tie as tie
-use Rattle.number.proofs.plain_of.Reads as reads
-use Rattle.number.proofs.plain_of.Lts as lts
-use Rattle.number.proofs.number_of.Reads as number-of-reads
 
 returns : tie.Need-returns
-unfolding plainOf
 returns c =
-    rw (plain-empty (c .before .before .args .s .now) (c .if1 .taken))
+    let s = c .before .before .args .s .now in
+    let h : 9 < length s = omega arith in
+    rw (lt-leb (length s) 9 h)
 
-shared-slice-read-if2 : tie.Need-shared-slice-read-if2
-shared-slice-read-if2 c = search needs
+plain-worth-requires : tie.Need-plain-worth-requires
+plain-worth-requires c κs = search needs
 
 returns-2 : tie.Need-returns-2
-unfolding plainOf plain worth
 returns-2 c =
-    let s = c .before .before .before .before .before .args .s .now in
-    let z : getD s 0 0 ≡ 48 = c .before .if2 .taken in
-    rw (plain-zero s z (c .if3 .taken))
-
-returns-3 : tie.Need-returns-3
-unfolding plainOf
-returns-3 c =
-    let s = c .before .before .before .before .before .args .s .now in
-    let z : getD s 0 0 ≡ 48 = c .before .if2 .taken in
-    rw (plain-zeros s z (c .if3 .left))
-
-number-of-requires : tie.Need-number-of-requires
-number-of-requires c κs = search needs
-
-returns-4 : tie.Need-returns-4
-unfolding plainOf numberOf
-returns-4 c =
-    let s = c .before .before .before .before .before .args .s .now in
-    rw (plain-other s (omega arith) (c .before .if2 .left)) (c .number-of .ensures)
+    let s = c .before .before .before .args .s .now in
+    let h : length s ≤ 9 = omega arith in
+    rw (le-leb (length s) 9 h) (c .plain-worth .ensures)
 
 pub plain-of-spec : {M : Type 1} → statement M
-plain-of-spec =
-    tie.close
-    (tie.spec returns shared-slice-read-if2 returns-2 returns-3 number-of-requires returns-4)
+plain-of-spec = tie.close (tie.spec returns plain-worth-requires returns-2)
