@@ -14,7 +14,6 @@ pub mod Tabled
 pub mod RndfTable
 pub mod MdfTable
 pub mod Theorems
-pub mod TableTheorems
 pub mod YardA
 pub mod YardB
 pub mod Edges

@@ -5,6 +5,6 @@
 //   Statements, Network (RNDF); MissionStatements, Mission (MDF); HouseOrder; Tables; References. They speak of spelling alone, never of reading.
 //   Language says what a statement is.
 //   The others (Machine, Forms, Choices, Places, MissionPlaces, PlaceTable) are the reader's places: how statements are taken one by one.
-// proofs/: the laws. Theorems has the statements that other crates cite.
+// proofs/: the laws. Theorems has the statements that other crates cite. What every cell of the table says of every spelling stands in the crate `cells`.
 //
 // Rests on `law` and `terms`.
