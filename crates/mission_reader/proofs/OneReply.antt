@@ -13,7 +13,7 @@ use Rattle.table_words.specs.Words.{MissionLent}
 use Rattle.form_faults.proofs.FormFaults.{mdf-one-bad-line, mdf-one-unended, mdf-bad-or-unended, mdf-bad-or-spelled, mdf-unended-or-spelled}
 use Rattle.fault_lines.proofs.MdfFaults.{mission-line-one, line-not-fits}
 use Rattle.rows.specs.declared.MissionFileRow.{MissionFileRow}
-use Rattle.mission_reader.specs.declared.MissionCounts.{MissionCounts}
+use Rattle.counts.specs.declared.MissionCounts.{MissionCounts}
 use Rattle.mission_reader.specs.declared.MissionReply as DP
 use Rattle.mission_reader.specs.declared.MissionReply.the-variants as Reply
 use Rattle.mission_reader.specs.MissionReading.{Read, refused, accepted, outcome}

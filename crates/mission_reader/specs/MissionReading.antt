@@ -24,7 +24,7 @@ use Rattle.mission_references.specs.declared.BadLimit.the-variants as Limit
 use Rattle.mission_references.specs.Tests.{firstForeignGoal, firstBadLimit}
 use Rattle.find_line.specs.FoundLines.{mdfLineOf}
 use Rattle.mission_reader.specs.MissionReplies.{most}
-use Rattle.mission_reader.specs.declared.MissionCounts.{MissionCounts}
+use Rattle.counts.specs.declared.MissionCounts.{MissionCounts}
 use Rattle.mission_reader.specs.declared.MissionReply as DP
 use Rattle.mission_reader.specs.declared.MissionReply.the-variants as Reply
 use Rattle.mission_reader.specs.declared.Reference as DF

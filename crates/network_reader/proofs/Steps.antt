@@ -14,7 +14,7 @@ use Rattle.references.specs.declared.FirstRow.the-variants as R
 use Rattle.references.specs.Exits.{told}
 use Rattle.network_reader.specs.declared.Reference as DF
 use Rattle.network_reader.specs.declared.Reference.the-variants as Reference
-use Rattle.network_reader.specs.declared.Counts.{Counts}
+use Rattle.counts.specs.declared.Counts.{Counts}
 use Rattle.network_reader.specs.declared.NetworkReply as DP
 use Rattle.network_reader.specs.Reading.{lent, exit-line, checkpoint-line, faultLine, Referred, referred, joined, countsOf, partsFit, marksFit, room, referOf, replied, answeredOf, Read, refused, outcome, tables-of, from-referred, judgedOf}
 

@@ -41,7 +41,7 @@ use Rattle.network_references.specs.ExitStarts.{exits-answer}
 use Rattle.references.specs.Repeats.{rowOf}
 use Rattle.fault_lines.specs.FaultLines.{FirstRndfFault}
 use Rattle.fault_lines.proofs.RndfFaults.{undeclared-in, repeated-in, exit-line, checkpoint-line, no-row-sound, only-undeclared, only-repeated, lines-differ, undeclared-first, repeated-first}
-use Rattle.network_reader.specs.declared.Counts.{Counts}
+use Rattle.counts.specs.declared.Counts.{Counts}
 use Rattle.network_reader.specs.Reading.{most, partsFit, marksFit, room, countsOf, faultLine, Referred, right, wrong, joined, referOf, Read, refused, accepted, tables-of, from-referred, judgedOf, from-filled, empty, readOf}
 use Rattle.network_reader.specs.Replies.{rows-used, AcceptsRndf, RefusesRndf, too-long, bad-line, unended, no-room, bad-reference}
 use Rattle.network_reader.proofs.Rooms.{has-room, room-there}

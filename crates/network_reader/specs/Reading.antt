@@ -23,7 +23,7 @@ use Rattle.references.specs.Finding.{lookIn}
 use Rattle.references.specs.Exits.{Outcome, done, at, resolvedFrom}
 use Rattle.references.specs.Repeats.{firstRepeat}
 use Rattle.find_line.specs.FoundLines.{rndfLineOf}
-use Rattle.network_reader.specs.declared.Counts.{Counts}
+use Rattle.counts.specs.declared.Counts.{Counts}
 use Rattle.network_reader.specs.declared.NetworkReply as DP
 use Rattle.network_reader.specs.declared.NetworkReply.the-variants as Reply
 use Rattle.network_reader.specs.declared.Reference as DF

@@ -4,7 +4,8 @@
 //
 // specs/Replies: what a text gets, over statements (reader/specs/Replies says it over lines). specs/Reading: the same, executable. proofs/Theorems: what is answered is so. proofs/Only: and nothing else is.
 //
-// Rests on `network`, `references`, `find_line`, `table_words`, `form_faults`, `fault_lines` and what they rest on.
+// Rests on `counts`, `network`, `references`, `find_line`, `table_words`, `form_faults`, `fault_lines` and what they rest on.
+use counts::Counts;
 use find_line::rndf_line;
 use network::Filled;
 use network::fill_lines;
@@ -32,18 +33,6 @@ ghost use Rattle.network.specs.Storing.{memory};
 ghost use Rattle.network.specs.Reading.{told, filledOf};
 ghost use Rattle.table_words.specs.Words.{Lent, zeros};
 ghost use Rattle.network_reader.specs.Reading.{most, lent, fits, partsFit, marksFit, countsOf, faultLine, referred, referOf, replied, answeredOf, outcome, judgedOf, empty, readOf};
-
-// The rows used of each table of an RNDF.
-pub struct Counts {
-    pub segments: u32,
-    pub lanes: u32,
-    pub zones: u32,
-    pub spots: u32,
-    pub points: u32,
-    pub checkpoints: u32,
-    pub stops: u32,
-    pub exits: u32,
-}
 
 // The rows used and the file's own row; or line and number of a refusal.
 pub enum NetworkReply {
