@@ -14,7 +14,7 @@ use Rattle.form_faults.proofs.FormFaults.{mdf-one-bad-line, mdf-one-unended, md
 use Rattle.fault_lines.proofs.MdfFaults.{mission-line-one, line-not-fits}
 use Rattle.rows.specs.declared.MissionFileRow.{MissionFileRow}
 use Rattle.refusal.specs.Shapes.{fault}
-use Rattle.mission_reader.specs.declared.MissionCounts.{MissionCounts}
+use Rattle.counts.specs.declared.MissionCounts.{MissionCounts}
 use Rattle.mission_reader.specs.declared.MissionReply as DP
 use Rattle.mission_reader.specs.declared.MissionReply.the-variants as Reply
 use Rattle.mission_reader.specs.MissionReading.{Read, refused, accepted, outcome}

@@ -27,7 +27,7 @@ use Rattle.walk.specs.Walking.{Found, fault, gathered}
 use Rattle.mission.specs.Storing.{MissionMemory}
 use Rattle.mission.specs.Reading.{filledOf, filledIn}
 use Rattle.mission.proofs.Filled.{all-read, mission-memory}
-use Rattle.mission_reader.specs.declared.MissionCounts.{MissionCounts}
+use Rattle.counts.specs.declared.MissionCounts.{MissionCounts}
 use Rattle.mission_reader.specs.declared.MissionReply as DP
 use Rattle.mission_reader.specs.declared.MissionReply.the-variants as Reply
 use Rattle.refusal.specs.declared.References as DF

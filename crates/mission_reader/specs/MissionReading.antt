@@ -26,7 +26,7 @@ use Rattle.room.specs.Room.{fits}
 use Rattle.refusal.specs.declared.References as DF
 use Rattle.refusal.specs.declared.References.the-variants as References
 use Rattle.refusal.specs.Shapes as Shape
-use Rattle.mission_reader.specs.declared.MissionCounts.{MissionCounts}
+use Rattle.counts.specs.declared.MissionCounts.{MissionCounts}
 use Rattle.mission_reader.specs.declared.MissionReply as DP
 use Rattle.mission_reader.specs.declared.MissionReply.the-variants as Reply
 

@@ -17,7 +17,7 @@ use Rattle.table_words.specs.Words.{MissionLent, MissionHasRoom, mission-filled
 use Rattle.table_words.specs.FileRows.{mission-file}
 use Rattle.form_faults.specs.FormFaults.{MdfBadLine, MdfUnended}
 use Rattle.fault_lines.specs.FaultLines.{FirstMdfFault}
-use Rattle.mission_reader.specs.declared.MissionCounts.{MissionCounts}
+use Rattle.counts.specs.declared.MissionCounts.{MissionCounts}
 pub use Rattle.refusal.specs.Size.{most}
 
 -- 01: 11 "a table has fewer rows than needed"; there is room where none has

@@ -4,13 +4,14 @@
 // goals and limits are looked up (`marks`; 15 to 17) and the limits counted (18). The line of a fault is found again by `find_line`.
 // A refusal leaves the tables as they are then: the caller clears them.
 //
-// specs/MissionReplies: what an MDF gets, over statements (reader/specs/Replies says it over lines). specs/MissionReading: the same, executable; the contracts cite it. proofs/Theorems: the one is the other.
+// specs/MissionReplies: what an MDF gets, over statements (replies/specs/Replies says it over lines). specs/MissionReading: the same, executable; the contracts cite it. proofs/Theorems: the one is the other.
 // proofs/Found: what the walk found. proofs/References: 14 to 18 over filled tables are the first line at fault. proofs/Standing: a name stands in its text where it says.
 // proofs/OneReply: no second reply. proofs/Steps: the parts of `read_mission` together.
 //
-// Rests on `refusal`, `room`, `mission`, `marks`, `mission_references`, `find_line`, `rows` and `scan`, for its theorem on `fault_lines`, `form_faults` and `table_words`, and on what they rest on.
+// Rests on `counts`, `refusal`, `room`, `mission`, `marks`, `mission_references`, `find_line`, `rows` and `scan`, for its theorem on `fault_lines`, `form_faults` and `table_words`, and on what they rest on.
 //
 // Settled: the contract of `read_mission` gives its reply, and where it accepts both tables, by a function of what is lent (proofs/OneReply).
+use counts::MissionCounts;
 use find_line::mdf_line;
 use marks::BadLimit;
 use marks::FirstRow;
@@ -32,12 +33,6 @@ use scan::same;
 ghost use mathlib.Core.Path.{_≡_};
 ghost use Rattle.mission.specs.Storing.{memory};
 ghost use Rattle.mission_reader.specs.MissionReading.{rndf-of, room, sameName, limitsFault, referOf, answeredOf, judgedOf, outcome, missionOf};
-
-// The rows used of each table of an MDF.
-pub struct MissionCounts {
-    pub goals: u32,
-    pub limits: u32,
-}
 
 // The rows used and the file's own row; or what is at fault.
 pub enum MissionReply {

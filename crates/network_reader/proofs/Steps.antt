@@ -18,7 +18,7 @@ use Rattle.references.specs.Exits.{told}
 use Rattle.refusal.specs.declared.References as DF
 use Rattle.refusal.specs.declared.References.the-variants as References
 use Rattle.refusal.specs.Shapes.{fault}
-use Rattle.network_reader.specs.declared.Counts.{Counts}
+use Rattle.counts.specs.declared.Counts.{Counts}
 use Rattle.network_reader.specs.declared.NetworkReply as DP
 use Rattle.network_reader.specs.declared.NetworkReply.the-variants as Reply
 use Rattle.network_reader.specs.Reading.{exit-line, checkpoint-line, faultLine, Referred, referred, joined, countsOf, partsFit, marksFit, room, referOf, answeredOf, outcome, tables-of, from-referred, judgedOf, from-filled, readOf}

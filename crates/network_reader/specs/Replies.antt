@@ -12,7 +12,7 @@ use Rattle.fill.specs.Counts as F
 use Rattle.fill.specs.Counts.{sizes}
 use Rattle.fault_lines.specs.FaultLines.{FirstRndfFault}
 use Rattle.table_words.specs.Words.{Lent, HasRoom}
-use Rattle.network_reader.specs.declared.Counts.{Counts}
+use Rattle.counts.specs.declared.Counts.{Counts}
 pub use Rattle.refusal.specs.Size.{most}
 
 -- 01: "Acceptance replies with the rows used of each table"

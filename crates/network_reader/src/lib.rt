@@ -4,7 +4,8 @@
 //
 // specs/Replies: what a text gets, over statements (reader/specs/Replies says it over lines). specs/Reading: the same, executable. proofs/Theorems: what is answered is so. proofs/Only: and nothing else is.
 //
-// Rests on `refusal`, `room`, `network`, `references`, `marks`, `find_line`, `table_words`, `form_faults`, `fault_lines` and what they rest on.
+// Rests on `counts`, `refusal`, `room`, `network`, `references`, `marks`, `find_line`, `table_words`, `form_faults`, `fault_lines` and what they rest on.
+use counts::Counts;
 use find_line::rndf_line;
 use marks::FirstRow;
 use marks::first_repeat;
@@ -30,18 +31,6 @@ ghost use mathlib.Core.Path.{_≡_};
 ghost use Rattle.network.specs.Storing.{memory};
 ghost use Rattle.law.specs.Tables.{lent};
 ghost use Rattle.network_reader.specs.Reading.{partsFit, marksFit, countsOf, faultLine, referred, referOf, answeredOf, outcome, judgedOf, readOf};
-
-// The rows used of each table of an RNDF.
-pub struct Counts {
-    pub segments: u32,
-    pub lanes: u32,
-    pub zones: u32,
-    pub spots: u32,
-    pub points: u32,
-    pub checkpoints: u32,
-    pub stops: u32,
-    pub exits: u32,
-}
 
 // The rows used and the file's own row; or what is at fault.
 pub enum NetworkReply {

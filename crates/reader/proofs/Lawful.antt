@@ -21,15 +21,15 @@ use Rattle.law_tables.proofs.SameTables.{counts-same, filled-same, room-to, roo
 use Rattle.law_tables.proofs.SameFits.{fits-to, fits-back}
 use Rattle.law_tables.proofs.RndfFirst.{rndf-first-to, rndf-first-back}
 use Rattle.law_tables.proofs.MdfFirst.{mdf-first-to, mdf-first-back}
-use Rattle.network_reader.specs.declared.Counts.{Counts}
+use Rattle.counts.specs.declared.Counts.{Counts}
 use Rattle.network_reader.specs.Replies as N
 use Rattle.mission_reader.specs.MissionReplies as M
-use Rattle.reader.specs.declared.RndfReply.{RndfReply}
-use Rattle.reader.specs.declared.RndfReply.the-variants as Reply
-use Rattle.reader.specs.declared.PairReply.{PairReply}
-use Rattle.reader.specs.declared.PairReply.the-variants as Pair
+use Rattle.replies.specs.declared.RndfReply.{RndfReply}
+use Rattle.replies.specs.declared.RndfReply.the-variants as Reply
+use Rattle.replies.specs.declared.PairReply.{PairReply}
+use Rattle.replies.specs.declared.PairReply.the-variants as Pair
 use Rattle.reader.specs.ByStatements as Old
-use Rattle.reader.specs.Replies as New
+use Rattle.replies.specs.Replies as New
 
 -- ## Counts and names
 pub counts-are : (n : Network Field) → N.rows-used (sizes (tables n)) ≡ New.rows-used n

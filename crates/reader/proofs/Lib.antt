@@ -2,6 +2,3 @@
 pub mod Lawful
 pub mod Steps
 pub mod Pairing
-pub mod SettledByStatements
-pub mod PairSettledByStatements
-pub mod Settled

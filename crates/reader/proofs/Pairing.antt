@@ -20,12 +20,12 @@ use Rattle.table_words.specs.Words.{Lent, MissionLent, zeros, mission-zeros, ne
 use Rattle.table_words.specs.FileRows.{network-file, mission-file}
 use Rattle.table_words.proofs.RowsAtMost.{rows-at-most}
 use Rattle.progress.specs.Given.{fitted}
-use Rattle.network_reader.specs.declared.Counts.{Counts}
+use Rattle.counts.specs.declared.Counts.{Counts}
 use Rattle.network_reader.specs.Replies.{rows-used, AcceptsRndf, RefusesRndf}
 use Rattle.network_reader.specs.Reading as N
 use Rattle.network_reader.specs.Reading.{readOf}
 use Rattle.network_reader.proofs.Theorems as NT
-use Rattle.mission_reader.specs.declared.MissionCounts.{MissionCounts}
+use Rattle.counts.specs.declared.MissionCounts.{MissionCounts}
 use Rattle.mission_reader.specs.declared.MissionReply as DM
 use Rattle.mission_reader.specs.declared.MissionReply.the-variants as MissionReply
 use Rattle.mission_reader.specs.MissionReplies.{AcceptsMdf, RefusesMdf, Takes}
@@ -34,10 +34,10 @@ use Rattle.mission_reader.specs.MissionReading as M
 use Rattle.mission_reader.specs.MissionReading.{rndf-of, missionOf}
 use Rattle.mission_reader.proofs.References.{accepted-rndf}
 use Rattle.mission_reader.proofs.Theorems as MT
-use Rattle.reader.specs.declared.PairReply as DP
-use Rattle.reader.specs.declared.PairReply.the-variants as Pair
+use Rattle.replies.specs.declared.PairReply as DP
+use Rattle.replies.specs.declared.PairReply.the-variants as Pair
 use Rattle.reader.specs.ByStatements.{refusal, mission-lent, accepted, rndf-refused, mdf-refused}
-use Rattle.reader.specs.Replies.{ReadsPair}
+use Rattle.replies.specs.Replies.{ReadsPair}
 use Rattle.reader.proofs.Lawful.{pair-reads-to}
 use Rattle.reader.specs.Pairs.{joinedOf, Read, outcome, from-mission, from-network, pairOf}
 use Rattle.reader.specs.Pairs as P

@@ -4,12 +4,12 @@ use Prim.Native.Nat.{ℕ}
 use Rattle.terms.specs.Ascii.{Bytes}
 use Rattle.rows.specs.declared.FileRow.{FileRow}
 use Rattle.table_words.specs.Words.{Lent, zeros}
-use Rattle.network_reader.specs.declared.Counts.{Counts}
+use Rattle.counts.specs.declared.Counts.{Counts}
 use Rattle.network_reader.specs.Reading as N
 use Rattle.network_reader.proofs.Theorems.{Meant, meant}
-use Rattle.reader.specs.declared.RndfReply.the-variants as Reply
+use Rattle.replies.specs.declared.RndfReply.the-variants as Reply
 use Rattle.reader.specs.ByStatements.{accepted, refused}
-use Rattle.reader.specs.Replies.{refusal, ReadsRndf}
+use Rattle.replies.specs.Replies.{refusal, ReadsRndf}
 use Rattle.reader.proofs.Lawful.{rndf-reads-to}
 
 pub accepted-so : (text : Bytes) (t left : Lent) (c : Counts) (file : FileRow) → N.accepted c file left ≡ N.readOf text t → ReadsRndf text t (Reply.Accepted c file) left

@@ -13,13 +13,13 @@ use Rattle.table_words.specs.FileRows.{network-file, mission-file}
 use Rattle.network_reader.specs.Replies.{rows-used, AcceptsRndf, RefusesRndf}
 use Rattle.mission_reader.specs.MissionReplies.{AcceptsMdf, RefusesMdf}
 use Rattle.mission_reader.specs.MissionReplies as M
-use Rattle.reader.specs.declared.Refusal.{Refusal}
-use Rattle.reader.specs.declared.RndfReply.{RndfReply}
-use Rattle.reader.specs.declared.RndfReply.the-variants as Reply
-use Rattle.reader.specs.declared.PairReply.{PairReply}
-use Rattle.reader.specs.declared.PairReply.the-variants as Pair
+use Rattle.refusal.specs.declared.Refusal.{Refusal}
+use Rattle.replies.specs.declared.RndfReply.{RndfReply}
+use Rattle.replies.specs.declared.RndfReply.the-variants as Reply
+use Rattle.replies.specs.declared.PairReply.{PairReply}
+use Rattle.replies.specs.declared.PairReply.the-variants as Pair
 pub use Rattle.law.specs.Tables.{mission-lent}
-pub use Rattle.reader.specs.Replies.{refusal}
+pub use Rattle.replies.specs.Replies.{refusal}
 
 -- ## An RNDF alone: the reply, and what is left in the lent tables. t: these tables as they were lent
 pub data ReadsRndf (text : Bytes) (t : Lent) (reply : RndfReply) (left : Lent) : Type 0 where

@@ -1,4 +1,3 @@
--- The entry points: Replies is what their contracts say.
-pub mod Replies
+-- The entry points, as the proofs need them; what their contracts say is `replies`.
 pub mod ByStatements
 pub mod Pairs

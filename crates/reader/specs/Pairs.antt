@@ -5,18 +5,18 @@ use Rattle.rows.specs.declared.FileRow.{FileRow}
 use Rattle.rows.specs.declared.MissionFileRow.{MissionFileRow}
 use Rattle.table_words.specs.Words.{Lent, MissionLent}
 use Rattle.progress.specs.Given.{fitted}
-use Rattle.network_reader.specs.declared.Counts.{Counts}
+use Rattle.counts.specs.declared.Counts.{Counts}
 use Rattle.network_reader.specs.Reading as N
 use Rattle.network_reader.specs.Reading.{readOf}
-use Rattle.mission_reader.specs.declared.MissionCounts.{MissionCounts}
+use Rattle.counts.specs.declared.MissionCounts.{MissionCounts}
 use Rattle.mission_reader.specs.declared.MissionReply as DM
 use Rattle.mission_reader.specs.declared.MissionReply.the-variants as Mission
 use Rattle.mission_reader.specs.MissionReading as M
 use Rattle.mission_reader.specs.MissionReading.{rndf-of, missionOf}
 use Rattle.law.specs.Tables.{mission-lent}
-use Rattle.reader.specs.Replies.{refusal}
-use Rattle.reader.specs.declared.PairReply as DP
-use Rattle.reader.specs.declared.PairReply.the-variants as Pair
+use Rattle.replies.specs.Replies.{refusal}
+use Rattle.replies.specs.declared.PairReply as DP
+use Rattle.replies.specs.declared.PairReply.the-variants as Pair
 
 abbrev pub joinedOf : Counts → FileRow → DM.MissionReply → DP.PairReply
 joinedOf c file (Mission.Accepted m f) = Pair.Accepted c file m f

@@ -1,40 +1,29 @@
-// The entry points: an RNDF alone, and an RNDF with its MDF, read into lent tables. What they reply, and what every lent table then holds, is specs/Replies: for all texts, and
-// all tables. Nothing is required. A refusal leaves every lent table zero.
+// The entry points: an RNDF alone, and an RNDF with its MDF, read into lent tables. What they reply, and what every lent table then holds, is `replies`/specs/Replies: for all texts,
+// and all tables. Nothing is required. A refusal leaves every lent table zero.
 //
-// specs/Replies: the contracts, what a reader must believe. specs/ByStatements: the same over statements and typed rows, as the proofs have it; proofs/Lawful: that both say the same.
-// specs/Pairs: what a pair gets, executable. proofs/Settled: no second reply and no second memory satisfies the contracts. What follows from the contracts alone is the crate `promises`.
+// specs/ByStatements: the contracts over statements and typed rows, as the proofs have it; proofs/Lawful: that both say the same. specs/Pairs: what a pair gets, executable.
+// That no second reply and no second memory satisfies the contracts is proved in `replies`, without the code. What follows from the contracts alone is the crate `promises`.
 //
-// Rests on `network_reader`, `mission_reader`, `room` and what they rest on. Beside it: `look_up` (a checkpoint number's point), `rows` (names, and how rows lie in a table).
-use mission_reader::MissionCounts;
+// Rests on `replies`, `network_reader`, `mission_reader`, `room` and what they rest on. Beside it: `look_up` (a checkpoint number's point), `rows` (names, and how rows lie in a table).
+use counts::Counts;
+use counts::MissionCounts;
 use mission_reader::MissionReply;
 use mission_reader::read_mission;
-use network_reader::Counts;
 use network_reader::NetworkReply;
 use network_reader::read_network;
+use refusal::Refusal;
+use replies::PairReply;
+use replies::RndfReply;
 use room::clear_tables;
 use room::in_word;
 use rows::FileRow;
-use rows::MissionFileRow;
 use rows::clear;
 ghost use mathlib.Core.Path.{_≡_};
 ghost use Rattle.progress.specs.Given.{fitted};
 ghost use Rattle.law.specs.Tables.{lent, mission-lent};
-ghost use Rattle.reader.specs.Replies.{ReadsRndf, ReadsPair};
+ghost use Rattle.replies.specs.Replies.{ReadsRndf, ReadsPair};
 ghost use Prim.Native.Nat.{_+_};
 ghost use Rattle.reader.specs.Pairs.{joinedOf, outcome, pairOf};
-
-// File (1 RNDF, 2 MDF), line and number, as document 01 lists them.
-pub struct Refusal {
-    pub file: u8,
-    pub line: u32,
-    pub number: u8,
-}
-
-// The rows used of each table and the file's own row; or a refusal.
-pub enum RndfReply {
-    Accepted(Counts, FileRow),
-    Refused(Refusal),
-}
 
 // An RNDF alone.
 pub fn read_rndf(
@@ -81,12 +70,6 @@ pub fn read_rndf(
             })
         }
     }
-}
-
-// The rows used and the file's own row, of the RNDF and of the MDF; or a refusal.
-pub enum PairReply {
-    Accepted(Counts, FileRow, MissionCounts, MissionFileRow),
-    Refused(Refusal),
 }
 
 // How many segments and zones there are. A number that does not fit into 32 bits is the largest that does; no RNDF that is taken has so many.

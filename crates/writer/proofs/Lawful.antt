@@ -10,12 +10,12 @@ use Rattle.law_tables.proofs.SameTables.{zeros-same, mission-zeros-same}
 use Rattle.house_text.specs.HouseText.{house-rndf, house-mdf}
 use Rattle.house_text.proofs.Lawful.{house-rndf-only, house-rndf-is, house-mdf-only, house-mdf-is}
 use Rattle.output.specs.Output.{Fits, filled}
-use Rattle.writer.specs.declared.WriteReply.{WriteReply}
-use Rattle.writer.specs.declared.WriteReply.the-variants as Write
-use Rattle.writer.specs.declared.WriteMdfReply.{WriteMdfReply}
-use Rattle.writer.specs.declared.WriteMdfReply.the-variants as WriteMdf
+use Rattle.writings.specs.declared.WriteReply.{WriteReply}
+use Rattle.writings.specs.declared.WriteReply.the-variants as Write
+use Rattle.writings.specs.declared.WriteMdfReply.{WriteMdfReply}
+use Rattle.writings.specs.declared.WriteMdfReply.the-variants as WriteMdf
 use Rattle.writer.specs.ByStatements as Old
-use Rattle.writer.specs.Writes as New
+use Rattle.writings.specs.Writes as New
 
 module _ (text : Bytes) (t : Lent) (lent : ℕ) (reply : WriteReply) (left : Lent) (out : Bytes) where
   pub rndf-writes-to : Old.WritesRndf text t lent reply left out → New.WritesRndf text t lent reply left out

@@ -4,7 +4,3 @@ pub mod Replied
 pub mod Lawful
 -- What the program does, as the contracts say it.
 pub mod Steps
--- The contracts settle everything, and ask for nothing that cannot be.
-pub mod SettledByStatements
-pub mod MdfSettledByStatements
-pub mod Settled

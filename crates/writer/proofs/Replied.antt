@@ -13,21 +13,21 @@ use Rattle.rows.specs.declared.FileRow.{FileRow}
 use Rattle.rows.specs.declared.MissionFileRow.{MissionFileRow}
 use Rattle.table_words.specs.Words.{Lent, MissionLent, zeros, mission-zeros, network-filled, mission-filled}
 use Rattle.table_words.specs.FileRows.{network-file, mission-file}
-use Rattle.network_reader.specs.declared.Counts.{Counts}
-use Rattle.mission_reader.specs.declared.MissionCounts.{MissionCounts}
+use Rattle.counts.specs.declared.Counts.{Counts}
+use Rattle.counts.specs.declared.MissionCounts.{MissionCounts}
 use Rattle.network_reader.specs.Replies.{rows-used, AcceptsRndf}
 use Rattle.mission_reader.specs.MissionReplies.{AcceptsMdf}
 use Rattle.mission_reader.specs.MissionReplies as M
-use Rattle.reader.specs.declared.Refusal.{Refusal}
-use Rattle.reader.specs.declared.RndfReply.{RndfReply}
-use Rattle.reader.specs.declared.PairReply.{PairReply}
-use Rattle.reader.specs.declared.RndfReply.the-variants as Reply
-use Rattle.reader.specs.declared.PairReply.the-variants as Pair
-use Rattle.reader.specs.Replies.{ReadsRndf, ReadsPair}
+use Rattle.refusal.specs.declared.Refusal.{Refusal}
+use Rattle.replies.specs.declared.RndfReply.{RndfReply}
+use Rattle.replies.specs.declared.PairReply.{PairReply}
+use Rattle.replies.specs.declared.RndfReply.the-variants as Reply
+use Rattle.replies.specs.declared.PairReply.the-variants as Pair
+use Rattle.replies.specs.Replies.{ReadsRndf, ReadsPair}
 use Rattle.reader.specs.ByStatements as R
 use Rattle.reader.proofs.Lawful.{rndf-reads-to, rndf-reads-back, pair-reads-to, pair-reads-back}
 pub use Rattle.text.proofs.Theorems.{one-rndf, one-mdf}
-pub use Rattle.reader.proofs.Settled.{rndf-settled, rndf-some, pair-settled, pair-some}
+pub use Rattle.replies.proofs.Settled.{rndf-settled, rndf-some, pair-settled, pair-some}
 
 -- ## No reply is both
 module _ {c : Counts} {file : FileRow} {why : Refusal} where

@@ -7,26 +7,26 @@ use Rattle.terms.specs.Ascii.{Bytes}
 use Rattle.rows.specs.declared.FileRow.{FileRow}
 use Rattle.rows.specs.declared.MissionFileRow.{MissionFileRow}
 use Rattle.table_words.specs.Words.{Lent, MissionLent, zeros, mission-zeros}
-use Rattle.network_reader.specs.declared.Counts.{Counts}
-use Rattle.mission_reader.specs.declared.MissionCounts.{MissionCounts}
-use Rattle.reader.specs.declared.Refusal.{Refusal}
-use Rattle.reader.specs.declared.RndfReply.{RndfReply}
-use Rattle.reader.specs.declared.RndfReply.the-variants as Reply
-use Rattle.reader.specs.declared.PairReply.{PairReply}
-use Rattle.reader.specs.declared.PairReply.the-variants as Pair
-use Rattle.reader.specs.Replies.{refusal, ReadsRndf, ReadsPair}
+use Rattle.counts.specs.declared.Counts.{Counts}
+use Rattle.counts.specs.declared.MissionCounts.{MissionCounts}
+use Rattle.refusal.specs.declared.Refusal.{Refusal}
+use Rattle.replies.specs.declared.RndfReply.{RndfReply}
+use Rattle.replies.specs.declared.RndfReply.the-variants as Reply
+use Rattle.replies.specs.declared.PairReply.{PairReply}
+use Rattle.replies.specs.declared.PairReply.the-variants as Pair
+use Rattle.replies.specs.Replies.{refusal, ReadsRndf, ReadsPair}
 use Rattle.output.specs.Output.{Fits, Output}
 use Rattle.output.specs.Output as O
 use Rattle.output.specs.declared.Finished.the-variants.{Written, TooLong}
 use Rattle.output.proofs.Whole.{answered-written, answered-too-long}
 use Rattle.house_lines.specs.Arranged.{arrangedText}
 use Rattle.house_arranged.proofs.Theorems.{arranged-rndf, arranged-mdf}
-use Rattle.writer.specs.declared.WriteReply.{WriteReply}
-use Rattle.writer.specs.declared.WriteReply.the-variants as Write
-use Rattle.writer.specs.declared.WriteMdfReply.the-variants as WriteMdf
+use Rattle.writings.specs.declared.WriteReply.{WriteReply}
+use Rattle.writings.specs.declared.WriteReply.the-variants as Write
+use Rattle.writings.specs.declared.WriteMdfReply.the-variants as WriteMdf
 use Rattle.writer.specs.Answers.{Answers, AnswersMdf}
 use Rattle.writer.specs.Answers as A
-use Rattle.writer.specs.Writes.{WritesRndf, WritesMdf}
+use Rattle.writings.specs.Writes.{WritesRndf, WritesMdf}
 use Rattle.writer.specs.ByStatements as W
 use Rattle.writer.proofs.Lawful.{rndf-writes-to, mdf-writes-to}
 use Rattle.writer.proofs.Replied.{accepted-spells, refused-zero, pair-spells, pair-refused-zero}

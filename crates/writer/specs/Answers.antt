@@ -5,19 +5,19 @@ use lib.ListN.{length}
 use Rattle.terms.specs.Ascii.{Bytes}
 use Rattle.rows.specs.declared.FileRow.{FileRow}
 use Rattle.rows.specs.declared.MissionFileRow.{MissionFileRow}
-use Rattle.network_reader.specs.declared.Counts.{Counts}
-use Rattle.mission_reader.specs.declared.MissionCounts.{MissionCounts}
-use Rattle.reader.specs.declared.Refusal.{Refusal}
-use Rattle.reader.specs.declared.RndfReply.{RndfReply}
-use Rattle.reader.specs.declared.RndfReply.the-variants as Reply
-use Rattle.reader.specs.declared.PairReply.{PairReply}
-use Rattle.reader.specs.declared.PairReply.the-variants as Pair
-use Rattle.reader.specs.Replies.{refusal}
+use Rattle.counts.specs.declared.Counts.{Counts}
+use Rattle.counts.specs.declared.MissionCounts.{MissionCounts}
+use Rattle.refusal.specs.declared.Refusal.{Refusal}
+use Rattle.replies.specs.declared.RndfReply.{RndfReply}
+use Rattle.replies.specs.declared.RndfReply.the-variants as Reply
+use Rattle.replies.specs.declared.PairReply.{PairReply}
+use Rattle.replies.specs.declared.PairReply.the-variants as Pair
+use Rattle.replies.specs.Replies.{refusal}
 use Rattle.output.specs.Output.{zeros, Fits, filled}
-use Rattle.writer.specs.declared.WriteReply.{WriteReply}
-use Rattle.writer.specs.declared.WriteReply.the-variants as Write
-use Rattle.writer.specs.declared.WriteMdfReply.{WriteMdfReply}
-use Rattle.writer.specs.declared.WriteMdfReply.the-variants as WriteMdf
+use Rattle.writings.specs.declared.WriteReply.{WriteReply}
+use Rattle.writings.specs.declared.WriteReply.the-variants as Write
+use Rattle.writings.specs.declared.WriteMdfReply.{WriteMdfReply}
+use Rattle.writings.specs.declared.WriteMdfReply.the-variants as WriteMdf
 
 pub data Answers (read : RndfReply) (lent : ℕ) (x out : Bytes) (answer : WriteReply) : Type 0 where
   as-read : (why : Refusal) → read ≡ Reply.Refused why → answer ≡ Write.Refused why → out ≡ zeros lent → Answers read lent x out answer

@@ -1,37 +1,36 @@
 // The writers: the house writing of an RNDF, and of the MDF of a pair, put into a lent output. A writer reads first, as `reader` does, and refuses as it does; then it may refuse
-// with 19. What is replied, and what every lent table and the output then hold, is specs/Writes: for all texts, tables and outputs. Nothing is required. A refusal leaves every
+// with 19. What is replied, and what every lent table and the output then hold, is `writings`/specs/Writes: for all texts, tables and outputs. Nothing is required. A refusal leaves every
 // lent table and the output zero.
 //
 // What is put are the text's own lines in house order (`house_lines`); that they are the house writing of what the text says is `house_arranged`.
 //
-// specs/Writes: the contracts, what a reader must believe. specs/ByStatements: the same over statements, as the proofs have it; proofs/Lawful: that both say the same.
+// specs/ByStatements: the contracts over statements, as the proofs have it; proofs/Lawful: that both say the same.
 // specs/Answers: what is answered once the text was read, executable.
 // proofs/Replied: what is taken from the readers' contracts, and nothing else is. proofs/Steps: what the program does, said as the contracts say it.
-// proofs/Settled: no second reply and no second memory satisfies them, and one does. The return trip, from the contracts alone, is the crate `return_trip`.
+// That no second reply and no second memory satisfies the contracts, and one does, is proved in `writings`, without the code. The return trip, from the contracts alone, is the
+// crate `return_trip`.
 //
-// Rests on `reader`, `house_lines`, `house_arranged`, `house_text`, `output` and what they rest on.
+// Rests on `writings`, `reader`, `house_lines`, `house_arranged`, `house_text`, `output` and what they rest on.
 use house_lines::put_house;
-use mission_reader::MissionCounts;
-use network_reader::Counts;
 use network_reader::clear_tables;
 use output::Finished;
 use output::clear_output;
 use output::finish;
-use reader::PairReply;
-use reader::Refusal;
-use reader::RndfReply;
 use reader::read_pair;
 use reader::read_rndf;
-use rows::FileRow;
-use rows::MissionFileRow;
+use refusal::Refusal;
+use replies::PairReply;
+use replies::RndfReply;
 use rows::clear;
+use writings::WriteMdfReply;
+use writings::WriteReply;
 ghost use mathlib.Core.Path.{_≡_};
 ghost use lib.ListN.{length};
 ghost use Rattle.law.specs.Tables.{lent, mission-lent};
 ghost use Rattle.output.specs.Output.{Output};
 ghost use Rattle.house_lines.specs.Arranged.{arrangedText};
 ghost use Rattle.writer.specs.Answers.{Answers, AnswersMdf};
-ghost use Rattle.writer.specs.Writes.{WritesRndf, WritesMdf};
+ghost use Rattle.writings.specs.Writes.{WritesRndf, WritesMdf};
 
 // ## Once the text was read
 
@@ -42,12 +41,6 @@ fn put_whole(text: &[u8], out: &mut [u8]) -> Finished
     clear_output(out);
     let at = put_house(text, out, 0);
     finish(out, at)
-}
-
-// What the reader replies and how many bytes were written; or a refusal.
-pub enum WriteReply {
-    Written(Counts, FileRow, u32),
-    Refused(Refusal),
 }
 
 // All but the tables of a text that is refused with 19: they are left as they are then.
@@ -71,11 +64,6 @@ fn write_read(text: &[u8], read: RndfReply, out: &mut [u8]) -> WriteReply
             WriteReply::Refused(why)
         }
     }
-}
-
-pub enum WriteMdfReply {
-    Written(Counts, FileRow, MissionCounts, MissionFileRow, u32),
-    Refused(Refusal),
 }
 
 fn write_mdf_read(mdf: &[u8], read: PairReply, out: &mut [u8]) -> WriteMdfReply

@@ -1,3 +1,4 @@
+use mathlib.Core.Path.{_∙_}
 -- `writer::put_whole` meets its contract. Assumes nothing.
 use lib.ListN.{length}
 use Rattle.output.proofs.Whole.{written}
@@ -15,7 +16,7 @@ finish-requires : tie.Need-finish-requires
 finish-requires c κs = tt
 
 same-length : tie.Need-same-length
-same-length c = search needs
+same-length c = c .before .before .finish .kept .0 ∙ c .before .before .before .before .before .before .put-house .kept .1 .0 ∙ c .before .before .before .before .before .before .before .before .before .before .clear-output .kept .0
 
 returns : tie.Need-returns
 returns c = written {lent = length (c .before .before .before .before .before .before .before .before .before .before .before .before .before .before .args .out .now)} (c .before .before .before .before .before .before .before .before .before .before .clear-output .ensures) (c .before .before .before .before .before .before .put-house .ensures) (c .before .before .finish .ensures)

@@ -1,3 +1,4 @@
+use mathlib.Core.Path.{_∙_}
 -- `writer::write_mdf_read` meets its contract. Assumes nothing.
 use mathlib.Core.Path.{refl}
 use lib.ListN.{length}
@@ -29,19 +30,19 @@ clear-output-requires : tie.Need-clear-output-requires
 clear-output-requires c κs = tt
 
 same-length : tie.Need-same-length
-same-length c = search needs
+same-length c = c .before .before .before .before .before .put-whole .kept .1 .0
 
 returns : tie.Need-returns
 returns c = rw (c .before .before .before .before .before .before .before .before .read .given .1) (mdf-put-so (length (c .before .before .before .before .before .before .before .before .before .before .before .before .args .out .now)) _ _ _ _ _ _ _ (rw (c .before .ended .given .1) at (c .before .before .before .before .before .put-whole .ensures)))
 
 same-length-2 : tie.Need-same-length-2
-same-length-2 c = search needs
+same-length-2 c = c .before .before .before .before .put-whole .kept .1 .0
 
 returns-2 : tie.Need-returns-2
 returns-2 c = rw (c .before .before .before .before .before .before .before .read .given .1) (mdf-over-so (length (c .before .before .before .before .before .before .before .before .before .before .before .args .out .now)) _ _ _ _ _ _ (rw (c .enum-told .given .1) at (c .before .before .before .before .put-whole .ensures)))
 
 same-length-3 : tie.Need-same-length-3
-same-length-3 c = search needs
+same-length-3 c = c .before .before .clear-output .kept .0
 
 returns-3 : tie.Need-returns-3
 returns-3 c = as-read _ (c .before .before .before .before .before .read2 .given .1) refl (c .before .before .clear-output .ensures)

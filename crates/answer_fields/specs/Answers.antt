@@ -7,22 +7,22 @@ use Rattle.rows.specs.Read.{stretchOf}
 use Rattle.rows.specs.declared.Stretch.{Stretch}
 use Rattle.rows.specs.declared.FileRow.{FileRow}
 use Rattle.rows.specs.declared.MissionFileRow.{MissionFileRow}
-use Rattle.network_reader.specs.declared.Counts.{Counts}
-use Rattle.mission_reader.specs.declared.MissionCounts.{MissionCounts}
-use Rattle.reader.specs.declared.Refusal.{Refusal}
-use Rattle.reader.specs.declared.RndfReply.{RndfReply}
-use Rattle.reader.specs.declared.RndfReply.the-variants as Rndf
-use Rattle.reader.specs.declared.PairReply.{PairReply}
-use Rattle.reader.specs.declared.PairReply.the-variants as Pair
-use Rattle.reader.specs.Replies.{refusal, ReadsRndf, ReadsPair}
-use Rattle.writer.specs.declared.WriteReply.{WriteReply}
-use Rattle.writer.specs.declared.WriteReply.the-variants as Write
-use Rattle.writer.specs.declared.WriteMdfReply.{WriteMdfReply}
-use Rattle.writer.specs.declared.WriteMdfReply.the-variants as WriteMdf
-use Rattle.writer.specs.Writes.{WritesRndf, WritesMdf}
-use Rattle.yard.specs.declared.Name.{Name}
-use Rattle.yard.specs.declared.Answer.{Answer}
-use Rattle.yard.specs.declared.WriteAnswer.{WriteAnswer}
+use Rattle.counts.specs.declared.Counts.{Counts}
+use Rattle.counts.specs.declared.MissionCounts.{MissionCounts}
+use Rattle.refusal.specs.declared.Refusal.{Refusal}
+use Rattle.replies.specs.declared.RndfReply.{RndfReply}
+use Rattle.replies.specs.declared.RndfReply.the-variants as Rndf
+use Rattle.replies.specs.declared.PairReply.{PairReply}
+use Rattle.replies.specs.declared.PairReply.the-variants as Pair
+use Rattle.replies.specs.Replies.{refusal, ReadsRndf, ReadsPair}
+use Rattle.writings.specs.declared.WriteReply.{WriteReply}
+use Rattle.writings.specs.declared.WriteReply.the-variants as Write
+use Rattle.writings.specs.declared.WriteMdfReply.{WriteMdfReply}
+use Rattle.writings.specs.declared.WriteMdfReply.the-variants as WriteMdf
+use Rattle.writings.specs.Writes.{WritesRndf, WritesMdf}
+use Rattle.answer_fields.specs.declared.Name.{Name}
+use Rattle.answer_fields.specs.declared.Answer.{Answer}
+use Rattle.answer_fields.specs.declared.WriteAnswer.{WriteAnswer}
 
 -- 01: "A name is its start and length in the lent text"
 abbrev pub named : Stretch → Name

@@ -4,12 +4,13 @@ use mathlib.Core.Path.{_≡_, refl, sym, ap, _∙_}
 use Prim.Native.Nat.{ℕ}
 use Rattle.terms.specs.Ascii.{Bytes}
 use Rattle.law.specs.Tables.{Lent, MissionLent}
-use Rattle.reader.proofs.Settled.{rndf-settled, rndf-some}
-use Rattle.reader.proofs.Settled.{pair-settled, pair-some}
-use Rattle.writer.proofs.Settled.{rndf-write-settled, rndf-write-some, mdf-write-settled, mdf-write-some}
-use Rattle.yard.specs.declared.Answer.{Answer}
-use Rattle.yard.specs.declared.WriteAnswer.{WriteAnswer}
-use Rattle.yard.specs.Answers.{rndf-answer, pair-answer, write-answer, write-mdf-answer, AnswersRndf, AnswersPair, AnswersWriteRndf, AnswersWriteMdf}
+use Rattle.replies.proofs.Settled.{rndf-settled, rndf-some}
+use Rattle.replies.proofs.Settled.{pair-settled, pair-some}
+use Rattle.writings.proofs.Settled.{rndf-write-settled, rndf-write-some}
+use Rattle.writings.proofs.MdfSettled.{mdf-write-settled, mdf-write-some}
+use Rattle.answer_fields.specs.declared.Answer.{Answer}
+use Rattle.answer_fields.specs.declared.WriteAnswer.{WriteAnswer}
+use Rattle.answer_fields.specs.Answers.{rndf-answer, pair-answer, write-answer, write-mdf-answer, AnswersRndf, AnswersPair, AnswersWriteRndf, AnswersWriteMdf}
 
 -- no second answer, and no second memory
 pub rndf-answer-settled : (text : Bytes) (t : Lent) (a a′ : Answer) (l l′ : Lent) → AnswersRndf text t a l → AnswersRndf text t a′ l′ → (a ≡ a′) × (l ≡ l′)

@@ -8,16 +8,16 @@ use Rattle.house_text.specs.House.{HouseRndf, HouseMdf}
 use Rattle.output.specs.Output.{zeros, Fits, filled}
 use Rattle.rows.specs.declared.FileRow.{FileRow}
 use Rattle.rows.specs.declared.MissionFileRow.{MissionFileRow}
-use Rattle.network_reader.specs.declared.Counts.{Counts}
-use Rattle.mission_reader.specs.declared.MissionCounts.{MissionCounts}
-use Rattle.reader.specs.declared.Refusal.{Refusal}
-use Rattle.reader.specs.declared.RndfReply.the-variants as Reply
-use Rattle.reader.specs.declared.PairReply.the-variants as Pair
-use Rattle.reader.specs.Replies.{refusal, ReadsRndf, ReadsPair}
-use Rattle.writer.specs.declared.WriteReply.{WriteReply}
-use Rattle.writer.specs.declared.WriteReply.the-variants as Write
-use Rattle.writer.specs.declared.WriteMdfReply.{WriteMdfReply}
-use Rattle.writer.specs.declared.WriteMdfReply.the-variants as WriteMdf
+use Rattle.counts.specs.declared.Counts.{Counts}
+use Rattle.counts.specs.declared.MissionCounts.{MissionCounts}
+use Rattle.refusal.specs.declared.Refusal.{Refusal}
+use Rattle.replies.specs.declared.RndfReply.the-variants as Reply
+use Rattle.replies.specs.declared.PairReply.the-variants as Pair
+use Rattle.replies.specs.Replies.{refusal, ReadsRndf, ReadsPair}
+use Rattle.writings.specs.declared.WriteReply.{WriteReply}
+use Rattle.writings.specs.declared.WriteReply.the-variants as Write
+use Rattle.writings.specs.declared.WriteMdfReply.{WriteMdfReply}
+use Rattle.writings.specs.declared.WriteMdfReply.the-variants as WriteMdf
 
 -- ## An RNDF: the reply, and what is left in the lent tables and the lent output. t: these tables as they were lent; lent: the length of that output; writing: the house writing
 pub data WritesRndf (text : Bytes) (t : Lent) (lent : ℕ) (reply : WriteReply) (left : Lent) (out : Bytes) : Type 0 where

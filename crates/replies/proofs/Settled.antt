@@ -1,0 +1,105 @@
+-- THE THEOREMS of document 01's "Prove that no second reply or memory would satisfy it": the contracts settle the reply and every lent word, for all texts and all lent tables; and some reply and memory satisfy them. Assumes nothing.
+use mathlib.Core.Path.{_≡_, refl, sym, ap, ap₂, subst, _∙_}
+use mathlib.Core.Logic.{_⊎_, inl, inr}
+use Prim.Native.Nat.{ℕ}
+use lib.ListN.{length}
+use Rattle.terms.specs.Ascii.{Bytes}
+use Rattle.line.specs.Content.{Field}
+use Rattle.law.specs.Network.{Network, Mission, AnyOrder, SpellsNetwork, SpellsMission}
+use Rattle.law.specs.Tables.{Lent, MissionLent, HasRoom, MissionHasRoom, filled, mission-filled, zeros, mission-zeros}
+use Rattle.law.specs.Faults.{RndfFault, MdfFault, Sound, Fits}
+use Rattle.replies.specs.declared.RndfReply.{RndfReply}
+use Rattle.replies.specs.declared.RndfReply.the-variants as Reply
+use Rattle.replies.specs.declared.PairReply.{PairReply}
+use Rattle.replies.specs.declared.PairReply.the-variants as Pair
+use Rattle.replies.specs.Replies.{AcceptsRndf, RefusesRndf, AcceptsMdf, RefusesMdf, refusal, rows-used, network-file, mission-file, ReadsRndf, accepted, refused, ReadsPair, rndf-refused, mdf-refused}
+use Rattle.replies.proofs.OneAnswer as One
+use Rattle.replies.proofs.Alone.{rndf-alone, mdf-alone}
+use Rattle.replies.proofs.Decided.{rndf-answered, mdf-answered}
+
+-- ## One file
+module _ (text : Bytes) (t : Lent) where
+  pub rndf-accepts-one : (n n′ : Network Field) → AcceptsRndf text t n → AcceptsRndf text t n′ → n ≡ n′
+  rndf-accepts-one = One.accepts-one (SpellsNetwork AnyOrder) (λ n. HasRoom n t) Sound RndfFault text (rndf-alone text t)
+
+  pub rndf-never-both : (n : Network Field) (line number : ℕ) → AcceptsRndf text t n → RefusesRndf text t line number → ⊥
+  rndf-never-both = One.never-both (SpellsNetwork AnyOrder) (λ n. HasRoom n t) Sound RndfFault text (rndf-alone text t)
+
+  pub rndf-refuses-one : (line number line′ number′ : ℕ) → RefusesRndf text t line number → RefusesRndf text t line′ number′ → (line ≡ line′) × (number ≡ number′)
+  rndf-refuses-one = One.refuses-one (SpellsNetwork AnyOrder) (λ n. HasRoom n t) Sound RndfFault text (rndf-alone text t)
+
+module _ (n : Network Field) (text : Bytes) (u : MissionLent) where
+  pub mdf-accepts-one : (m m′ : Mission Field) → AcceptsMdf n text u m → AcceptsMdf n text u m′ → m ≡ m′
+  mdf-accepts-one = One.accepts-one (SpellsMission AnyOrder) (λ m. MissionHasRoom m u) (Fits n) (λ m. MdfFault n) text (mdf-alone n text u)
+
+  pub mdf-never-both : (m : Mission Field) (line number : ℕ) → AcceptsMdf n text u m → RefusesMdf n text u line number → ⊥
+  mdf-never-both = One.never-both (SpellsMission AnyOrder) (λ m. MissionHasRoom m u) (Fits n) (λ m. MdfFault n) text (mdf-alone n text u)
+
+  pub mdf-refuses-one : (line number line′ number′ : ℕ) → RefusesMdf n text u line number → RefusesMdf n text u line′ number′ → (line ≡ line′) × (number ≡ number′)
+  mdf-refuses-one = One.refuses-one (SpellsMission AnyOrder) (λ m. MissionHasRoom m u) (Fits n) (λ m. MdfFault n) text (mdf-alone n text u)
+
+-- ## An RNDF: no second reply, and no second memory
+pub rndf-settled : (text : Bytes) (t : Lent) (r r′ : RndfReply) (l l′ : Lent) → ReadsRndf text t r l → ReadsRndf text t r′ l′ → (r ≡ r′) × (l ≡ l′)
+rndf-settled text t r r′ l l′ (accepted n a e k) (accepted n′ a′ e′ k′) =
+    let q = rndf-accepts-one text t n n′ a a′ in
+    (e ∙ ap (λ (x : Network Field). Reply.Accepted (rows-used x) (network-file x)) q ∙ sym e′, k ∙ ap (λ (x : Network Field). filled x t) q ∙ sym k′)
+rndf-settled text t r r′ l l′ (accepted n a e k) (refused line number a′ e′ k′) = absurd (rndf-never-both text t n line number a a′)
+rndf-settled text t r r′ l l′ (refused line number a e k) (accepted n a′ e′ k′) = absurd (rndf-never-both text t n line number a′ a)
+rndf-settled text t r r′ l l′ (refused line number a e k) (refused line′ number′ a′ e′ k′) =
+    let q = rndf-refuses-one text t line number line′ number′ a a′ in
+    (e ∙ ap₂ (λ (x y : ℕ). Reply.Refused (refusal 1 x y)) (q .0) (q .1) ∙ sym e′, k ∙ sym k′)
+
+-- ## A pair
+abbrev taken : Network Field → Mission Field → PairReply
+taken n m = Pair.Accepted (rows-used n) (network-file n) (record { goals = length (m .goals); limits = length (m .limits) }) (mission-file m)
+
+module _ (rndf mdf : Bytes) (t : Lent) (u : MissionLent) where
+  -- the RNDF that both speak of is one network
+  network-one : (P : Network Field → Type 0) (n n′ : Network Field) → AcceptsRndf rndf t n → AcceptsRndf rndf t n′ → P n′ → P n
+  network-one P n n′ a a′ = subst P (sym (rndf-accepts-one rndf t n n′ a a′))
+
+  pub pair-settled : (r r′ : PairReply) (l l′ : Lent) (k k′ : MissionLent) → ReadsPair rndf mdf t u r l k → ReadsPair rndf mdf t u r′ l′ k′ → (r ≡ r′) × (l ≡ l′) × (k ≡ k′)
+  pair-settled r r′ l l′ k k′ (accepted n m a b e p q) (accepted n′ m′ a′ b′ e′ p′ q′) =
+      let x = rndf-accepts-one rndf t n n′ a a′ in
+      let y = mdf-accepts-one n mdf u m m′ b (network-one (λ (z : Network Field). AcceptsMdf z mdf u m′) n n′ a a′ b′) in
+      (e ∙ ap₂ taken x y ∙ sym e′, p ∙ ap (λ (z : Network Field). filled z t) x ∙ sym p′, q ∙ ap (λ (z : Mission Field). mission-filled z u) y ∙ sym q′)
+  pair-settled r r′ l l′ k k′ (accepted n m a b e p q) (rndf-refused line number b′ e′ p′ q′) = absurd (rndf-never-both rndf t n line number a b′)
+  pair-settled r r′ l l′ k k′ (accepted n m a b e p q) (mdf-refused n′ line number a′ b′ e′ p′ q′) =
+      absurd (mdf-never-both n mdf u m line number b (network-one (λ (z : Network Field). RefusesMdf z mdf u line number) n n′ a a′ b′))
+  pair-settled r r′ l l′ k k′ (rndf-refused line number b e p q) (accepted n m a′ b′ e′ p′ q′) = absurd (rndf-never-both rndf t n line number a′ b)
+  pair-settled r r′ l l′ k k′ (rndf-refused line number b e p q) (rndf-refused line′ number′ b′ e′ p′ q′) =
+      let x = rndf-refuses-one rndf t line number line′ number′ b b′ in
+      (e ∙ ap₂ (λ (y z : ℕ). Pair.Refused (refusal 1 y z)) (x .0) (x .1) ∙ sym e′, p ∙ sym p′, q ∙ sym q′)
+  pair-settled r r′ l l′ k k′ (rndf-refused line number b e p q) (mdf-refused n line′ number′ a′ b′ e′ p′ q′) = absurd (rndf-never-both rndf t n line number a′ b)
+  pair-settled r r′ l l′ k k′ (mdf-refused n line number a b e p q) (accepted n′ m a′ b′ e′ p′ q′) =
+      absurd (mdf-never-both n mdf u m line number (network-one (λ (z : Network Field). AcceptsMdf z mdf u m) n n′ a a′ b′) b)
+  pair-settled r r′ l l′ k k′ (mdf-refused n line number a b e p q) (rndf-refused line′ number′ b′ e′ p′ q′) = absurd (rndf-never-both rndf t n line′ number′ a b′)
+  pair-settled r r′ l l′ k k′ (mdf-refused n line number a b e p q) (mdf-refused n′ line′ number′ a′ b′ e′ p′ q′) =
+      let x = mdf-refuses-one n mdf u line number line′ number′ b (network-one (λ (z : Network Field). RefusesMdf z mdf u line′ number′) n n′ a a′ b′) in
+      (e ∙ ap₂ (λ (y z : ℕ). Pair.Refused (refusal 2 y z)) (x .0) (x .1) ∙ sym e′, p ∙ sym p′, q ∙ sym q′)
+
+-- ## One there is
+pub rndf-some : (text : Bytes) (t : Lent) → (r : RndfReply) × (l : Lent) × ReadsRndf text t r l
+rndf-some text t = go (rndf-answered text t)
+  where
+    go : ((n : Network Field) × AcceptsRndf text t n) ⊎ ((line : ℕ) × (number : ℕ) × RefusesRndf text t line number) → (r : RndfReply) × (l : Lent) × ReadsRndf text t r l
+    go (inl x) = (Reply.Accepted (rows-used (x .0)) (network-file (x .0)), filled (x .0) t, accepted (x .0) (x .1) refl refl)
+    go (inr x) = (Reply.Refused (refusal 1 (x .0) (x .1)), zeros t, refused (x .0) (x .1) (x .2) refl refl)
+
+module _ (rndf mdf : Bytes) (t : Lent) (u : MissionLent) where
+  pub record Some : Type 0 where
+    pub reply : PairReply
+    pub left : Lent
+    pub mission-left : MissionLent
+    pub reads : ReadsPair rndf mdf t u reply left mission-left
+
+  by-mission : (n : Network Field) → AcceptsRndf rndf t n → ((m : Mission Field) × AcceptsMdf n mdf u m) ⊎ ((line : ℕ) × (number : ℕ) × RefusesMdf n mdf u line number) → Some
+  by-mission n a (inl x) = record { reply = taken n (x .0); left = filled n t; mission-left = mission-filled (x .0) u; reads = accepted n (x .0) a (x .1) refl refl refl }
+  by-mission n a (inr x) = record { reply = Pair.Refused (refusal 2 (x .0) (x .1)); left = zeros t; mission-left = mission-zeros u; reads = mdf-refused n (x .0) (x .1) a (x .2) refl refl refl }
+
+  pub pair-some : Some
+  pair-some = go (rndf-answered rndf t)
+    where
+      go : ((n : Network Field) × AcceptsRndf rndf t n) ⊎ ((line : ℕ) × (number : ℕ) × RefusesRndf rndf t line number) → Some
+      go (inl x) = by-mission (x .0) (x .1) (mdf-answered (x .0) mdf u)
+      go (inr x) = record { reply = Pair.Refused (refusal 1 (x .0) (x .1)); left = zeros t; mission-left = mission-zeros u; reads = rndf-refused (x .0) (x .1) (x .2) refl refl refl }

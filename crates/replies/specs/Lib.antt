@@ -1,0 +1,2 @@
+-- The contracts of the entry points.
+pub mod Replies

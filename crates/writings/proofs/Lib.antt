@@ -1,0 +1,4 @@
+-- That the contracts settle the reply, every lent word and every byte of the output.
+pub mod OneWriting
+pub mod Settled
+pub mod MdfSettled

@@ -1,0 +1,66 @@
+-- A text that spells a network, or a mission, has one house writing; it fits an output, or it does not; and what the reader accepted spells one. Assumes nothing.
+use mathlib.Core.Path.{_≡_, sym, ap, _∙_}
+use mathlib.Core.Logic.{_⊎_, inl, inr}
+use Prim.Native.Nat.{ℕ}
+use Rattle.terms.specs.Ascii.{Bytes}
+use Rattle.line.specs.Content.{Field}
+use Rattle.law.specs.Network.{Network, Mission, AnyOrder, SpellsNetwork, SpellsMission, SpellsText}
+use Rattle.law.specs.Tables.{Lent, MissionLent}
+use Rattle.grammar.proofs.Written.{network-good, mission-good}
+use Rattle.text.proofs.Theorems.{one-rndf, one-mdf}
+use Rattle.law_spelling.proofs.Texts.{rndf-back, mdf-back}
+use Rattle.house_text.specs.House.{HouseRndf, HouseMdf}
+use Rattle.house_text.specs.HouseText.{house-rndf, house-mdf}
+use Rattle.house_text.proofs.Lawful.{house-rndf-only, house-rndf-is, house-mdf-only, house-mdf-is}
+use Rattle.output.specs.Output.{Fits, Output}
+use Rattle.output.specs.declared.Finished as DF
+use Rattle.output.specs.declared.Finished.the-variants as Finished
+use Rattle.output.specs.Pen.{outputOf, answerOf}
+use Rattle.output.proofs.Whole.{output-is, answered-written, answered-too-long}
+use Rattle.rows.specs.declared.FileRow.{FileRow}
+use Rattle.rows.specs.declared.MissionFileRow.{MissionFileRow}
+use Rattle.counts.specs.declared.Counts.{Counts}
+use Rattle.counts.specs.declared.MissionCounts.{MissionCounts}
+use Rattle.replies.specs.declared.RndfReply.the-variants as Reply
+use Rattle.replies.specs.declared.PairReply.the-variants as Pair
+use Rattle.replies.specs.Replies.{ReadsRndf, ReadsPair}
+use Rattle.replies.proofs.Said.{accepted-filled, pair-accepted-filled}
+
+-- ## Writings
+pub record RndfWriting (text : Bytes) : Type 0 where
+  pub net : Network Field
+  pub writing : Bytes
+  pub spelled : SpellsText (SpellsNetwork AnyOrder) net text
+  pub house : HouseRndf net writing
+
+pub record MdfWriting (mdf : Bytes) : Type 0 where
+  pub mission : Mission Field
+  pub writing : Bytes
+  pub spelled : SpellsText (SpellsMission AnyOrder) mission mdf
+  pub house : HouseMdf mission writing
+
+pub rndf-writing-one : (text : Bytes) (x y : RndfWriting text) → x .writing ≡ y .writing
+rndf-writing-one text x y = house-rndf-only (x .net) (x .writing) (x .house) ∙ ap house-rndf (one-rndf (x .net) (y .net) text (rndf-back (x .net) text (x .spelled)) (rndf-back (y .net) text (y .spelled))) ∙ sym (house-rndf-only (y .net) (y .writing) (y .house))
+
+pub mdf-writing-one : (mdf : Bytes) (x y : MdfWriting mdf) → x .writing ≡ y .writing
+mdf-writing-one mdf x y = house-mdf-only (x .mission) (x .writing) (x .house) ∙ ap house-mdf (one-mdf (x .mission) (y .mission) mdf (mdf-back (x .mission) mdf (x .spelled)) (mdf-back (y .mission) mdf (y .spelled))) ∙ sym (house-mdf-only (y .mission) (y .writing) (y .house))
+
+rndf-written : (n : Network Field) (text : Bytes) → SpellsText (SpellsNetwork AnyOrder) n text → RndfWriting text
+rndf-written n text s = let b = rndf-back n text s in record { net = n; writing = house-rndf n; spelled = s; house = house-rndf-is n (network-good n (b .said) (b .net)) }
+
+mdf-written : (m : Mission Field) (mdf : Bytes) → SpellsText (SpellsMission AnyOrder) m mdf → MdfWriting mdf
+mdf-written m mdf s = let b = mdf-back m mdf s in record { mission = m; writing = house-mdf m; spelled = s; house = house-mdf-is m (mission-good m (b .said) (b .net)) }
+
+pub fits-or-not : (lent : ℕ) (x : Bytes) → Fits lent x ⊎ (Fits lent x → ⊥)
+fits-or-not lent x = go (answerOf lent x) (output-is lent x)
+  where
+    go : (answer : DF.Finished) → Output lent x (outputOf lent x) answer → Fits lent x ⊎ (Fits lent x → ⊥)
+    go (Finished.Written k) o = inl (answered-written o .0)
+    go Finished.TooLong o = inr (answered-too-long o .0)
+
+-- ## What the reader accepted has one
+pub accepted-written : (text : Bytes) (t left : Lent) (c : Counts) (file : FileRow) → ReadsRndf text t (Reply.Accepted c file) left → RndfWriting text
+accepted-written text t left c file h = let x = accepted-filled text t left c file h in rndf-written (x .0) text (x .1 .spelled)
+
+pub pair-written : (rndf mdf : Bytes) (t left : Lent) (u mission-left : MissionLent) (c : Counts) (file : FileRow) (d : MissionCounts) (row : MissionFileRow) → ReadsPair rndf mdf t u (Pair.Accepted c file d row) left mission-left → MdfWriting mdf
+pair-written rndf mdf t left u mission-left c file d row h = let x = pair-accepted-filled rndf mdf t left u mission-left c file d row h in mdf-written (x .1) mdf (x .3 .spelled)

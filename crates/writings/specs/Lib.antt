@@ -1,0 +1,2 @@
+-- The contracts of the writers.
+pub mod Writes

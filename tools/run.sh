@@ -1,0 +1,82 @@
+# Sourced by run-summary, run-check and run-house, which set `root`, the repository's folder. The programs are compiled for x86-64 and run under the kit's loader
+# and C library, as `rt` runs them; on Arm the kit's emulator runs them. Whatever can't be done ends the script with status 2.
+self=$(basename "$0")
+
+stop() {
+    echo "$self: $*" >&2
+    exit 2
+}
+
+# Sets `toolchain`, the kit's.
+find_kit() {
+    rt=$(command -v rt) || stop "the kit's rt is not in PATH"
+    while [ -L "$rt" ]; do
+        link=$(readlink "$rt")
+        case $link in /*) rt=$link ;; *) rt=$(dirname "$rt")/$link ;; esac
+    done
+    toolchain=${RATTLE_HOME:-$(cd "$(dirname "$rt")/.." && pwd -P)}/on/$(uname -m)/toolchain
+}
+
+# show_progress NAME MARK: one line on standard error while `rt check NAME` runs, rewritten in place on a terminal, else a new one every ten crates. `rt` leaves
+# target/log/CRATE.res for each crate that it has begun: `failed` until the crate is proved. Those newer than MARK are of this run.
+show_progress() {
+    needed=$(sed -n "s/^$1:/$1/p" "$root/crates.txt")
+    all=0
+    for crate in $needed; do
+        ! grep -q "^$crate:" "$root/crates.txt" || all=$((all + 1))
+    done
+    told=-1
+    while kill -0 $$ 2>/dev/null; do
+        done=0
+        now=
+        for crate in $needed; do
+            result=$root/target/log/$crate.res
+            [ -n "$(find "$result" -newer "$2" 2>/dev/null)" ] || continue
+            case $(cat "$result" 2>/dev/null) in
+                proved | built) done=$((done + 1)) ;;
+                *) now=$crate ;;
+            esac
+        done
+        line="proving $((done < all ? done + 1 : all)) of $all${now:+: $now}"
+        if [ -t 2 ]; then
+            printf '\r\033[K%s' "$line" >&2
+        elif [ $((done / 10)) -ne "$told" ]; then
+            told=$((done / 10))
+            echo "$line" >&2
+        fi
+        sleep 1
+    done
+}
+
+# prove NAME: proves and builds the program NAME and what it rests on, where anything changed. What the checker says goes to a log, which is named where it fails.
+prove() {
+    mkdir -p "$root/target/log"
+    log=$root/target/log/$self.log
+    : >"$log"
+    show_progress "$1" "$log.began" &
+    watcher=$!
+    : >"$log.began"
+    proved=yes
+    (cd "$root" && rt check "$1") >"$log" 2>&1 || proved=no
+    kill "$watcher" 2>/dev/null || true
+    wait "$watcher" 2>/dev/null || true
+    rm -f "$log.began"
+    [ ! -t 2 ] || printf '\r\033[K' >&2
+    if [ "$proved" = no ]; then
+        grep -E '^rt: .*(NOT PROVED \(|run FAILED)' "$log" >&2 || tail -n 3 "$log" >&2
+        stop "$1 is not proved or built; what the checker said is in $log"
+    fi
+}
+
+# find_program NAME: sets `program`, as it was last built.
+find_program() {
+    program=$root/target/bin/$1
+    [ -x "$program" ] || stop "$program is not built"
+}
+
+# run WORDS..: runs `program`.
+run() {
+    emulator=$toolchain/bin/qemu-x86_64
+    [ -x "$emulator" ] || emulator=
+    ${emulator:+"$emulator"} "$toolchain/lib/ld-linux-x86-64.so.2" --library-path "$toolchain/lib" "$program" "$@"
+}
