@@ -13,11 +13,11 @@ use Rattle.terms.specs.Ascii.{Bytes}
 use Rattle.terms.specs.Words.{pick}
 use Rattle.line.specs.Content.{Field}
 use Rattle.line.specs.Lines.{dropCr, trimOf}
-use Rattle.line.specs.Forms.{formOf, fieldsAt, fieldsIn, fieldIn, listed, part, FieldsWithin}
+use Rattle.line.specs.Forms.{formOf, fieldsAt, fieldsIn, fieldIn, listed, part}
 use Rattle.line.specs.declared.Form as Form
 use Rattle.line.specs.declared.Form.the-variants.{Bad, Body}
 use Rattle.line.specs.declared.Fields.{Fields}
-use Rattle.line.proofs.Spans.{fields-within, fields-listed, count-le, count-exact, count-more}
+use Rattle.line.proofs.Spans.{fields-listed, count-le, count-exact, count-more}
 use Rattle.line.proofs.Ends.{trim-take}
 use Rattle.grammar.specs.Language.{Lang, S, say}
 use Rattle.grammar.specs.Machine.{Out, next, refuse, Machine, over, inside, Place, step}
@@ -91,7 +91,7 @@ module _ {L : Lang} (A : Machine L) (X : Lexis L) (J : Judging) where
     pub refuses-is : (p : Pl) → Sound p → (k : Kind) → refuses p (cell p (row k)) ≡ numberOf (stands A (abs p) k)
     pub needs-is : (k : Kind) → needs (row k) ≡ keyed (keyword k) (length (sorts k))
     pub needs-few : (k : Kind) → needs (row k) ≤ 3
-    pub made-is : (k : Kind) (base : ℕ) (s : Bytes) (f : Fields) → FieldsWithin s f
+    pub made-is : (k : Kind) (base : ℕ) (s : Bytes) (f : Fields)
         → told-as meant (made s base f (row k)) ≡ told-as (λ v. moved (say L k (make k v))) (readAll (sorts k) (behind (keyword k) (listed base s f (needs (row k)))))
     pub step-is : (p : Pl) → Sound p → (s : St) (t : S L) → meant s ≡ moved t → mapOut abs (steps p (cell p (row (t .kind))) s) ≡ step A (abs p) t
     pub stays : (p : Pl) → Sound p → (s : St) (t : S L) → meant s ≡ moved t → (q : Pl) → steps p (cell p (row (t .kind))) s ≡ next q → Sound q
@@ -161,7 +161,7 @@ module _ {L : Lang} (A : Machine L) (X : Lexis L) (J : Judging) where
             let n : fieldsIn s .count ≡ needs (row k) = eqb-true (fieldsIn s .count) (needs (row k)) c in
             let fs : listed base s (fieldsIn s) (needs (row k)) ≡ g ∷ gs = ap (listed base s (fieldsIn s)) (sym n) ∙ sym (fields-listed base s) ∙ e in
             rw (alike ∙ c) (valued-is p i k (made s base (fieldsIn s) (row k)) (readAll (sorts k) (args A X (keyword k) g gs))
-            (made-is k base s (fieldsIn s) (fields-within s) ∙ ap (λ (l : List Field). told-as (λ v. moved (say L k (make k v))) (readAll (sorts k) l)) (ap (behind (keyword k)) fs ∙ sym (as-behind (keyword k) g gs))))
+            (made-is k base s (fieldsIn s) ∙ ap (λ (l : List Field). told-as (λ v. moved (say L k (make k v))) (readAll (sorts k) l)) (ap (behind (keyword k)) fs ∙ sym (as-behind (keyword k) g gs))))
         go false c = rw (alike ∙ c)
 
     of-kind : (p : Pl) → Sound p → (base : ℕ) (s : Bytes) (g : Field) (gs : List Field) → fieldsAt base s ≡ g ∷ gs → (k : Kind)
@@ -230,7 +230,7 @@ module _ {L : Lang} (A : Machine L) (X : Lexis L) (J : Judging) where
         let c = pick (eqb (fieldsIn s .count) (needs (row k))) v (bad 7) in
         rw (h, row-in k)
         (pick-sound (eqb (refuses p (cell p (row k))) 0) c (bad (refuses p (cell p (row k))))
-        (pick-sound (eqb (fieldsIn s .count) (needs (row k))) v (bad 7) (valued-sound p i k (made s base (fieldsIn s) (row k)) (readAll (sorts k) (behind (keyword k) (listed base s (fieldsIn s) (needs (row k))))) (made-is k base s (fieldsIn s) (fields-within s))) tt) tt)
+        (pick-sound (eqb (fieldsIn s .count) (needs (row k))) v (bad 7) (valued-sound p i k (made s base (fieldsIn s) (row k)) (readAll (sorts k) (behind (keyword k) (listed base s (fieldsIn s) (needs (row k))))) (made-is k base s (fieldsIn s))) tt) tt)
 
     told-sound : (p : Pl) → Sound p → (base : ℕ) (s : Bytes) → SoundGot (told J s base p)
     unfolding told

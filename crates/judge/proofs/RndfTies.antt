@@ -14,7 +14,7 @@ use Rattle.terms.specs.Words.{pick}
 use Rattle.terms.proofs.Computed.{below}
 use Rattle.line.specs.Content.{Field}
 use Rattle.line.specs.declared.Fields.{Fields}
-use Rattle.line.specs.Forms.{FieldsWithin, listed}
+use Rattle.line.specs.Forms.{listed}
 use Rattle.word.specs.Keywords.{rndf-keywords}
 use Rattle.word.specs.Number.{indexOf, digit-first}
 use Rattle.grammar.specs.Language.{S}
@@ -237,9 +237,9 @@ as-made : {A : Type 0} (k : Kind) (m : A → G.Says Stretch k) (o : Option A) �
 as-made k m none = refl
 as-made k m (some v) = ap some (means k (m v))
 
-pub statement-is : (k : Kind) (base : ℕ) (s : Bytes) (f : Fields) → FieldsWithin s f
+pub statement-is : (k : Kind) (base : ℕ) (s : Bytes) (f : Fields)
     → told-as meant (made-from (madeOf s base f (kind-row k))) ≡ told-as (λ v. statement-named stretch-of (say k (rndf-make k v))) (readAll (rndf-sorts k) (behind (word-at (kind-row k)) (listed base s f (needs-of (getD shapes (kind-row k) 0)))))
-statement-is k base s f w = ap (told-as meant) (made-is base s f w k) ∙ as-made k (λ v. says-named stretch-of k (rndf-make k v)) (readAll (rndf-sorts k) (behind (word-at (kind-row k)) (listed base s f (needs-of (getD shapes (kind-row k) 0)))))
+statement-is k base s f = ap (told-as meant) (made-is base s f k) ∙ as-made k (λ v. says-named stretch-of k (rndf-make k v)) (readAll (rndf-sorts k) (behind (word-at (kind-row k)) (listed base s f (needs-of (getD shapes (kind-row k) 0)))))
 
 -- the step with the cell of the kind that the statement has
 by-kind : (p : Place) (s : Statement) (t : G.Statement Field) → meant s ≡ statement-named stretch-of t → byCell p s (cellOf rndf-table p (kind-row (t .kind))) ≡ stepOf p s

@@ -11,6 +11,7 @@ use line::form_of;
 use line::trimmed;
 use made_out::Made;
 use made_out::fields_needed;
+use made_out::line_fits;
 use made_out::made_out;
 use place::Outcome;
 use place::Place;
@@ -21,8 +22,6 @@ use word::rndf_keyword;
 ghost use mathlib.Core.Path.{_≡_};
 ghost use Prim.Native.Nat.{_≤_, _<_, _+_};
 ghost use lib.ListN.{length};
-ghost use lib.Dec.{ltb};
-ghost use Rattle.line.specs.Forms.{FieldsWithin};
 ghost use Rattle.made_out.specs.Made.{made-from};
 ghost use Rattle.judge.specs.Judging.{taken, valued, ofKind, known, told, content};
 ghost use Rattle.place.specs.Abstract.{seen};
@@ -33,21 +32,6 @@ pub enum Verdict {
     Blank,
     Said(Statement, Place),
     Bad(u8),
-}
-
-// Do 32 bits count the bytes before `base` and `size` more? Where a name starts is told in 32 bits.
-pub fn in_reach(base: usize, size: usize) -> bool
-    ensures { λ r. ⌜ r ≡ ltb (base + size) 4294967296 ⌝ }
-{
-    if base < 4294967296 {
-        if size < 4294967296 - base {
-            true
-        } else {
-            false
-        }
-    } else {
-        false
-    }
 }
 
 // The kind of a line by its first field: its column, of which a point's is the last; no kind for a word that is no keyword.
@@ -90,7 +74,7 @@ fn kind_told(
     p: Place,
     kind: u8,
 ) -> Verdict
-    requires { ⌜ FieldsWithin (now s) f × (base + length (now s) < 4294967296) × (kind < 30) ⌝ }
+    requires { ⌜ (base + length (now s) < 4294967296) × (kind < 30) ⌝ }
     ensures { λ r. ⌜ r ≡ verdict (ofKind (judging (now (table .entry))) (now (s .entry)) base f p kind) ⌝ }
 {
     let cell = p.cell(table, kind);
@@ -141,7 +125,7 @@ fn content_told(table: &[[u8; 30]; 27], s: &[u8], base: usize, p: Place) -> Verd
 pub fn judge_line(table: &[[u8; 30]; 27], s: &[u8], base: usize, p: Place) -> Verdict
     ensures { λ r. ⌜ r ≡ lineBy (now (table .entry)) (now (s .entry)) base p ⌝ }
 {
-    if in_reach(base, s.len()) {
+    if line_fits(base, s.len()) {
         let e = trimmed(s);
         content_told(table, &s[..e], base, p)
     } else {

@@ -159,7 +159,7 @@ fn field(s: &[u8], f: Span) -> &[u8]
 }
 
 // A line's end fits into 32 bits.
-fn line_fits(base: usize, length: usize) -> bool
+pub fn line_fits(base: usize, length: usize) -> bool
     ensures { λ r. ⌜ r ≡ ltb (base + length) 4294967296 ⌝ }
 {
     if length < 4294967296 {

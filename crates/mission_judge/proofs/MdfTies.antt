@@ -14,7 +14,7 @@ use Rattle.terms.specs.Words.{pick}
 use Rattle.terms.proofs.Computed.{below}
 use Rattle.line.specs.Content.{Field}
 use Rattle.line.specs.declared.Fields.{Fields}
-use Rattle.line.specs.Forms.{FieldsWithin, listed}
+use Rattle.line.specs.Forms.{listed}
 use Rattle.word.specs.Keywords.{mdf-keywords}
 use Rattle.word.specs.Number.{indexOf, digit-first}
 use Rattle.grammar.specs.MissionStatements.{Kind, say, MDF-name, RNDF, format-version, creation-date, checkpoints, num-checkpoints, end-checkpoints, speed-limits, num-speed-limits, end-speed-limits, end-file, goal, limit}
@@ -137,9 +137,9 @@ as-made : {A : Type 0} (k : Kind) (m : A → G.Says Stretch k) (o : Option A) �
 as-made k m none = refl
 as-made k m (some v) = ap some (means k (m v))
 
-pub statement-is : (k : Kind) (base : ℕ) (s : Bytes) (f : Fields) → FieldsWithin s f
+pub statement-is : (k : Kind) (base : ℕ) (s : Bytes) (f : Fields)
     → told-as meant (order-from (orderMadeOf s base f (mission-kind-row k))) ≡ told-as (λ v. order-named stretch-of (say k (mdf-make k v))) (readAll (mdf-sorts k) (behind (word-at (mission-kind-row k)) (listed base s f (order-needs (getD order-shapes (mission-kind-row k) 0)))))
-statement-is k base s f w = ap (told-as meant) (order-is base s f w k) ∙ as-made k (λ v. orders-named stretch-of k (mdf-make k v)) (readAll (mdf-sorts k) (behind (word-at (mission-kind-row k)) (listed base s f (order-needs (getD order-shapes (mission-kind-row k) 0)))))
+statement-is k base s f = ap (told-as meant) (order-is base s f k) ∙ as-made k (λ v. orders-named stretch-of k (mdf-make k v)) (readAll (mdf-sorts k) (behind (word-at (mission-kind-row k)) (listed base s f (order-needs (getD order-shapes (mission-kind-row k) 0)))))
 
 -- the step with the cell of the kind that the order has
 by-kind : (p : MissionPlace) (s : Order) (t : G.Statement Field) → meant s ≡ order-named stretch-of t → byCell p s (cellOf mdf-table p (mission-kind-row (t .kind))) ≡ stepOf p s

@@ -4,13 +4,13 @@
 // specs/MdfLine: the same, executable, from what `judge` says for every file. proofs/: it is what `text` says of the line (MdfTies).
 //
 // Rests on `line`, `word`, `made_out`, `mission_place`, `judge`, `statement` and what they rest on.
-use judge::in_reach;
 use line::Fields;
 use line::Form;
 use line::fields_of;
 use line::form_of;
 use line::trimmed;
 use made_out::MadeOrder;
+use made_out::line_fits;
 use made_out::order_fields_needed;
 use made_out::order_made_out;
 use mission_place::MissionOutcome;
@@ -22,7 +22,6 @@ use word::mdf_keyword;
 ghost use mathlib.Core.Path.{_≡_};
 ghost use Prim.Native.Nat.{_≤_, _<_, _+_};
 ghost use lib.ListN.{length};
-ghost use Rattle.line.specs.Forms.{FieldsWithin};
 ghost use Rattle.made_out.specs.MadeOrders.{order-from};
 ghost use Rattle.judge.specs.Judging.{taken, valued, ofKind, known, told, content};
 ghost use Rattle.mission_place.specs.Abstract.{seen};
@@ -75,7 +74,7 @@ fn kind_told(
     p: MissionPlace,
     kind: u8,
 ) -> MissionVerdict
-    requires { ⌜ FieldsWithin (now s) f × (base + length (now s) < 4294967296) × (kind < 13) ⌝ }
+    requires { ⌜ (base + length (now s) < 4294967296) × (kind < 13) ⌝ }
     ensures { λ r. ⌜ r ≡ verdict (ofKind (judging (now (table .entry))) (now (s .entry)) base f p kind) ⌝ }
 {
     let cell = p.cell(table, kind);
@@ -131,7 +130,7 @@ pub fn mission_judge_line(
 ) -> MissionVerdict
     ensures { λ r. ⌜ r ≡ lineBy (now (table .entry)) (now (s .entry)) base p ⌝ }
 {
-    if in_reach(base, s.len()) {
+    if line_fits(base, s.len()) {
         let e = trimmed(s);
         content_told(table, &s[..e], base, p)
     } else {

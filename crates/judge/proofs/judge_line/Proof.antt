@@ -12,8 +12,8 @@ use Rattle.judge.specs.RndfLine.{lineBy}
 use Rattle.judge.proofs.judge_line.Statement.{statement}
 use Rattle.judge.proofs.judge_line.Tie as tie
 
-in-reach-requires : tie.Need-in-reach-requires
-in-reach-requires c κs = search needs
+line-fits-requires : tie.Need-line-fits-requires
+line-fits-requires c κs = search needs
 
 trimmed-requires : tie.Need-trimmed-requires
 trimmed-requires c κs = search needs
@@ -27,23 +27,23 @@ content-told-requires : tie.Need-content-told-requires
 content-told-requires c κs =
     let A = c .before .before .before .before .before .args in
     let s = A .s .now in
-    let reached : A .base + length s < 4294967296 = ltb-true _ _ (sym (c .before .before .before .in-reach .ensures) ∙ c .before .before .if1 .taken) in
+    let reached : A .base + length s < 4294967296 = ltb-true _ _ (sym (c .before .before .before .line-fits .ensures) ∙ c .before .before .if1 .taken) in
     let h : c .before .trimmed .result ≤ length s = rw (c .before .trimmed .ensures) (trim-le s) in
     omega (arith, length-take-le (c .before .trimmed .result) s h)
 
 returns : tie.Need-returns
 unfolding lineBy line
-returns c = rw (← (c .before .before .before .before .in-reach .ensures), c .before .before .before .if1 .taken, ← (c .before .before .trimmed .ensures)) (c .content-told .ensures)
+returns c = rw (← (c .before .before .before .before .line-fits .ensures), c .before .before .before .if1 .taken, ← (c .before .before .trimmed .ensures)) (c .content-told .ensures)
 
 returns-2 : tie.Need-returns-2
 unfolding lineBy
-returns-2 c = rw (← (c .before .in-reach .ensures), c .if1 .left)
+returns-2 c = rw (← (c .before .line-fits .ensures), c .if1 .left)
 
 pub judge-line-spec : {M : Type 1} → statement M
 judge-line-spec =
     tie.close
     (tie.spec
-    in-reach-requires
+    line-fits-requires
     trimmed-requires
     slice-aggregate-content-told
     content-told-requires

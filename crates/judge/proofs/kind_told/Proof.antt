@@ -1,20 +1,11 @@
-use Rattle.judge.specs.RndfLine.{rndfKind, verdict, lineBy}
-use Rattle.judge.specs.Judging.{Got, taken, valued, ofKind, known, told, formed, content, line}
-use borrow.Author.Tests.{eq-eqb, ne-eqb, lt-ltb, le-ltb}
-use lib.Seq.{length-take-le}
-use lib.ListN.{length, take, drop}
-use native.Mathlib.Omega.{arith}
-use Prim.Native.Nat.{ℕ, _+_, _-_, _≤_, _<_}
-use mathlib.Core.Path.{_≡_, refl, sym, ap, _∙_}
+-- `judge::kind_told` meets its contract. Assumes nothing.
+use mathlib.Core.Path.{_≡_, _∙_}
+use borrow.Author.Tests.{eq-eqb, ne-eqb}
 use borrow.Author.Needs.{needs}
+use Rattle.made_out.proofs.Whole.{needed, made}
+use Rattle.judge.specs.Judging.{ofKind}
 use Rattle.judge.proofs.kind_told.Statement.{statement}
 use Rattle.judge.proofs.kind_told.Tie as tie
-use Rattle.judge.proofs.kind_told.Reads as reads
-use Rattle.judge.proofs.kind_told.Lts as lts
-use Rattle.judge.proofs.values_told.Reads as values-told-reads
-use Rattle.made_out.proofs.fields_needed.Reads as fields-needed-reads
-use Rattle.made_out.proofs.made_out.Reads as made-out-reads
-use Rattle.place.proofs.Place.refuses.Reads as refuses-reads
 
 cell-requires : tie.Need-cell-requires
 cell-requires c κs = search needs
@@ -37,11 +28,19 @@ values-told-requires c κs = search needs
 
 returns-2 : tie.Need-returns-2
 unfolding ofKind
-returns-2 c = rw (← (c .before .before .before .before .before .before .before .cell .ensures), ← (c .before .before .before .before .before .before .refuses .ensures), eq-eqb _ 0 (c .before .before .before .before .before .if1 .left), ← (c .before .before .before .before .fields-needed .ensures), eq-eqb _ _ (c .before .before .if2 .taken), ← (c .before .made-out .ensures)) (c .values-told .ensures)
+returns-2 c =
+    let start = c .before .before .before .before .before .before .before .before .before in
+    let A = start .args in
+    let few = c .before .before .before .before .fields-needed .ensures ∙ needed (A .kind) (start .pre .1) in
+    let is = c .before .made-out .ensures ∙ made (A .s .now) (A .base) (A .f) (A .kind) (start .pre .1) (start .pre .0) in
+    rw (← (c .before .before .before .before .before .before .before .cell .ensures), ← (c .before .before .before .before .before .before .refuses .ensures), eq-eqb _ 0 (c .before .before .before .before .before .if1 .left), ← few, eq-eqb _ _ (c .before .before .if2 .taken), ← is) (c .values-told .ensures)
 
 returns-3 : tie.Need-returns-3
 unfolding ofKind
-returns-3 c = rw (← (c .before .before .before .before .before .cell .ensures), ← (c .before .before .before .before .refuses .ensures), eq-eqb _ 0 (c .before .before .before .if1 .left), ← (c .before .before .fields-needed .ensures), ne-eqb _ _ (c .if2 .left))
+returns-3 c =
+    let start = c .before .before .before .before .before .before .before in
+    let few = c .before .before .fields-needed .ensures ∙ needed (start .args .kind) (start .pre .1) in
+    rw (← (c .before .before .before .before .before .cell .ensures), ← (c .before .before .before .before .refuses .ensures), eq-eqb _ 0 (c .before .before .before .if1 .left), ← few, ne-eqb _ _ (c .if2 .left))
 
 pub kind-told-spec : {M : Type 1} → statement M
 kind-told-spec =

@@ -37,7 +37,7 @@ kind-of-requires : tie.Need-kind-of-requires
 kind-of-requires c κs = search needs
 
 kind-told-requires : tie.Need-kind-told-requires
-kind-told-requires c κs = (rw (c .before .before .before .before .before .before .fields-of .ensures) (fields-within (c .before .before .before .before .before .before .before .before .args .s .now)), c .before .before .before .before .before .before .before .before .pre, c .if2 .taken)
+kind-told-requires c κs = (c .before .before .before .before .before .before .before .before .pre, c .if2 .taken)
 
 returns-2 : tie.Need-returns-2
 unfolding told known
