@@ -13,7 +13,6 @@
 use house_lines::put_house;
 use mission_reader::MissionCounts;
 use network_reader::Counts;
-use network_reader::clear_tables;
 use output::Finished;
 use output::clear_output;
 use output::finish;
@@ -22,6 +21,7 @@ use reader::Refusal;
 use reader::RndfReply;
 use reader::read_pair;
 use reader::read_rndf;
+use room::clear_tables;
 use rows::FileRow;
 use rows::MissionFileRow;
 use rows::clear;
