@@ -12,7 +12,6 @@
 //
 // Rests on `writings`, `reader`, `house_lines`, `house_arranged`, `house_text`, `output` and what they rest on.
 use house_lines::put_house;
-use network_reader::clear_tables;
 use output::Finished;
 use output::clear_output;
 use output::finish;
@@ -21,6 +20,7 @@ use reader::read_rndf;
 use refusal::Refusal;
 use replies::PairReply;
 use replies::RndfReply;
+use room::clear_tables;
 use rows::clear;
 use writings::WriteMdfReply;
 use writings::WriteReply;

@@ -2,8 +2,7 @@
 use mathlib.Core.Path.{_∙_}
 use lib.ListN.{length, replicate}
 use lib.IntN.{pos}
-use Rattle.network_reader.specs.Reading.{lent}
-use Rattle.law.specs.Tables.{mission-lent}
+use Rattle.law.specs.Tables.{lent, mission-lent}
 use Rattle.writer.proofs.Steps.{mdf-written-so, mdf-refused-so}
 use borrow.Author.Needs.{needs}
 use Rattle.writer.proofs.write_mdf.Statement.{statement}

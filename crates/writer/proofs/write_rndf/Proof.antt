@@ -2,7 +2,7 @@
 use mathlib.Core.Path.{_∙_}
 use lib.ListN.{length, replicate}
 use lib.IntN.{pos}
-use Rattle.network_reader.specs.Reading.{lent}
+use Rattle.law.specs.Tables.{lent}
 use Rattle.writer.proofs.Steps.{written-so, refused-so}
 use borrow.Author.Needs.{needs}
 use Rattle.writer.proofs.write_rndf.Statement.{statement}
