@@ -7,6 +7,7 @@ use Rattle.line.specs.Content.{Field}
 use Rattle.number.specs.Decimal.{decimal}
 use Rattle.number.specs.House.{houseInteger, housePair, houseTriple}
 use Rattle.law.specs.Network.{Network, Mission, Line}
+use Rattle.law.specs.House.{tabbed}
 use Rattle.grammar.specs.Language.{Stmt}
 use Rattle.grammar.specs.HouseOrder.{GoodNetwork, house-network, house-mission}
 use Rattle.grammar.specs.Mission.{GoodMission}
@@ -17,7 +18,7 @@ use Rattle.text.specs.MdfLines.{mdf-line}
 use Rattle.law_spelling.specs.LineOf.{said-of, law-line, rndf-law-line, mdf-law-line}
 use Rattle.law_spelling.proofs.Fields.{same-word, five}
 use Rattle.law_spelling.proofs.House.{network-house-only, network-house, network-house-good, mission-house-only, mission-house}
-use Rattle.house_text.specs.House.{house-field, tabbed, written, HouseRndf, HouseMdf}
+use Rattle.house_text.specs.House.{house-field, written, HouseRndf, HouseMdf}
 use Rattle.house_text.specs.HouseText.{ended-line, house-text, house-rndf, house-mdf}
 
 -- a field
@@ -35,20 +36,13 @@ fields-same : (l : List Old.Said) → map Old-house.house-field l ≡ map house-
 fields-same [] = refl
 fields-same (s ∷ l) = ap₂ (λ (f : Bytes) (fs : List Bytes). f ∷ fs) (field-same s) (fields-same l)
 
--- a line
-tabbed-same : (l : List Bytes) → Old-house.tabbed l ≡ tabbed l
-unfolding Old-house.tabbed tabbed
-tabbed-same [] = refl
-tabbed-same (f ∷ []) = refl
-tabbed-same (f ∷ g ∷ l) = ap (λ (x : Bytes). f ++ (ascii "\t" ++ x)) (tabbed-same (g ∷ l))
-
 -- all lines
 pub text-same : {Kind : Type 0} {Pay : Kind → Type 0} (line-of : (k : Kind) → Pay k → List Old.Said) (said : List (Stmt Kind Pay)) → house-text line-of said ≡ written (map (law-line line-of) said)
 unfolding house-text written
 text-same line-of [] = refl
 text-same line-of (s ∷ said) =
     ap₂ (λ (x y : Bytes). x ++ ascii "\n" ++ y)
-    (tabbed-same (map Old-house.house-field (line-of (s .kind) (s .val))) ∙ ap tabbed (fields-same (line-of (s .kind) (s .val))))
+    (ap tabbed (fields-same (line-of (s .kind) (s .val))))
     (text-same line-of said)
 
 -- ## What the law calls the house writing is the one of house_text ..

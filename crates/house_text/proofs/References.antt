@@ -1,6 +1,6 @@
 -- Rows and references do not look into names: networks that differ only in what names are told as have as many rows, the same rows but for names, and are right together. Assumes nothing.
 use mathlib.Core.Path.{_≡_, refl, sym, ap, ap₂, subst, _∙_}
-use mathlib.Core.List.{List, [], _∷_, _++_, map}
+use mathlib.Core.List.{List, _∷_, _++_, map}
 use Prim.Native.Nat.{ℕ, _+_}
 use lib.ListN.{length, length-map}
 use Rattle.terms.specs.Words.{Each, perhaps, Between}
@@ -16,7 +16,7 @@ use Rattle.text.specs.Spelling.{Name, bytes, bytes-of}
 use Rattle.fill.specs.Counts.{sizes, mission-sizes}
 use Rattle.table_words.specs.Words.{Lent, MissionLent, filled, mission-filled}
 use Rattle.table_words.specs.Named.{tables-named}
-use Rattle.table_words.proofs.Renamed.{tables-renamed, sizes-named, filled-named}
+use Rattle.table_words.proofs.Renamed.{gather-moved, tables-renamed, sizes-named, filled-named}
 
 -- ## Lists
 nth-map : {A B : Type 0} (g : A → B) {i : ℕ} {a : A} {l : List A} → Nth i a l → Nth i (g a) (map g l)
@@ -27,25 +27,21 @@ nth-from : {A B : Type 0} (g : A → B) {i : ℕ} {b : B} (l : List A) → Nth i
 nth-from g (a ∷ l) first = (a, first, refl)
 nth-from g (a ∷ l) (later t) = let x = nth-from g l t in (x .0, later (x .1), x .2)
 
-gather-same : {A A′ B : Type 0} (g : A → A′) (F : A → List B) (F′ : A′ → List B) → ((a : A) → F′ (g a) ≡ F a) → (l : List A) → gather F′ (map g l) ≡ gather F l
-gather-same g F F′ e [] = refl
-gather-same {B = B} g F F′ e (a ∷ l) = ap₂ (λ (x y : List B). x ++ y) (e a) (gather-same g F F′ e l)
-
 module _ {N N′ : Type 0} (f : N → N′) where
   -- ## Names told in another way
   module _ (n : Network N) where
     lanes-same : all-lanes (network-named f n) ≡ all-lanes n
     unfolding network-named
-    lanes-same = gather-same (segment-named f) (λ s. s .lanes) (λ s. s .lanes) (λ s. refl) (n .segments)
+    lanes-same = gather-moved (segment-named f) (λ s. s .lanes) (λ s. s .lanes) (λ s. refl) (n .segments)
 
     exits-same : all-exits (network-named f n) ≡ all-exits n
     unfolding network-named
-    exits-same = ap₂ (λ (x y : List Exit). x ++ y) (ap (λ (l : List Lane). gather (λ a. a .exits) l) lanes-same) (gather-same (zone-named f) (λ z. z .border .exits) (λ z. z .border .exits) (λ z. refl) (n .zones))
+    exits-same = ap₂ (λ (x y : List Exit). x ++ y) (ap (λ (l : List Lane). gather (λ a. a .exits) l) lanes-same) (gather-moved (zone-named f) (λ z. z .border .exits) (λ z. z .border .exits) (λ z. refl) (n .zones))
 
     numbers-same : all-numbers (network-named f n) ≡ all-numbers n
     unfolding network-named
     numbers-same = ap₂ (λ (x y : List ℕ). x ++ y) (ap (λ (l : List Lane). gather (λ a. map (λ c. c .number) (a .checkpoints)) l) lanes-same)
-        (gather-same (zone-named f) (λ z. gather (λ s. map (λ c. c .number) (perhaps (s .checkpoint))) (z .spots)) (λ z. gather (λ s. map (λ c. c .number) (perhaps (s .checkpoint))) (z .spots)) (λ z. refl) (n .zones))
+        (gather-moved (zone-named f) (λ z. gather (λ s. map (λ c. c .number) (perhaps (s .checkpoint))) (z .spots)) (λ z. gather (λ s. map (λ c. c .number) (perhaps (s .checkpoint))) (z .spots)) (λ z. refl) (n .zones))
 
     declared-told : (e : PointId) → Declared n e → Declared (network-named f n) e
     unfolding network-named

@@ -1,14 +1,13 @@
 -- Every statement of a network, or of a mission, that keeps the ranges and whose names are names can be written. Assumes nothing.
 use mathlib.Core.List.{List, [], _∷_, _++_, map}
-use Prim.Native.Nat.{ℕ, suc, _+_, _≤_, _<_}
+use Prim.Native.Nat.{ℕ, suc, _+_, _≤_}
 use native.Mathlib.Omega.{arith}
-use lib.ListN.{length, getD}
+use lib.ListN.{length}
 use lib.IntN.{natAbs}
 use Rattle.terms.specs.Words.{Each, perhaps, Between}
 use Rattle.terms.proofs.Lists.{each-any, each-map, each-append}
 use Rattle.line.specs.Content.{Field, IsField}
 use Rattle.word.specs.Keywords.{rndf-keywords, mdf-keywords}
-use Rattle.word.proofs.Keywords.{rndf-word-field, mdf-word-field}
 use Rattle.grammar.specs.Statements.{Kind, Says, Statement, Position, say, point-id, point-line, numbered, RNDF-name, num-segments, num-zones, format-version, creation-date, segment, num-lanes, segment-name, end-segment, lane, num-waypoints, lane-width, left-boundary, right-boundary, checkpoint, stop, exit, end-lane, zone, num-spots, zone-name, end-zone, perimeter, num-perimeterpoints, end-perimeter, spot, spot-width, end-spot, end-file, point}
 use Rattle.grammar.specs.MissionStatements as M
 use Rattle.grammar.specs.Network.{largest, Checkpoint, Exit, Lane, Segment, Perimeter, Spot, Zone, Network, checkpoint-of, exit-of, OnEarth, GoodCheckpoint, GoodExit, GoodPerimeterExit, GoodLane, GoodPerimeter, GoodSpot}
@@ -17,7 +16,8 @@ use Rattle.grammar.specs.HouseOrder.{GoodSegment, GoodZone, GoodNetwork, in-tur
 use Rattle.grammar.proofs.Rows.{each-of-map, each-both}
 use Rattle.text.specs.RndfLines.{rndf-line}
 use Rattle.text.specs.MdfLines.{mdf-line}
-use Rattle.text.proofs.HouseLines.{short-field}
+use Rattle.text.proofs.RndfText.{kw}
+use Rattle.text.proofs.MdfText.{kw as kw-m}
 use Rattle.house_text.specs.Names.{IsName, NetworkNames, MissionNames}
 use Rattle.house_text.proofs.Lines.{CanWrite}
 
@@ -75,10 +75,6 @@ InRange spot-width n = n ≤ 99999
 InRange end-spot v = Unit {0}
 InRange end-file v = Unit {0}
 InRange point p = ((p .id .x ≤ 99999) × (p .id .y ≤ 99999) × (p .id .z ≤ 99999)) × (natAbs (p .position .latitude) ≤ 999999999) × (natAbs (p .position .longitude) ≤ 999999999)
-
--- a keyword can be written
-kw : (i : ℕ) → i < 29 → IsField (getD rndf-keywords i []) × (length (getD rndf-keywords i []) ≤ 20)
-kw i h = short-field (getD rndf-keywords i []) (rndf-word-field i h)
 
 in-range : (k : Kind) (v : Says Field k) → InRange k v → CanWrite rndf-line (say k v)
 unfolding rndf-line rndf-keywords
@@ -242,9 +238,6 @@ InRange-m M.end-speed-limits v = Unit {0}
 InRange-m M.end-file v = Unit {0}
 InRange-m M.goal n = n ≤ 99999
 InRange-m M.limit a = (a .id ≤ 99999) × (a .minimum ≤ 99999) × (a .maximum ≤ 99999)
-
-kw-m : (i : ℕ) → i < 11 → IsField (getD mdf-keywords i []) × (length (getD mdf-keywords i []) ≤ 20)
-kw-m i h = short-field (getD mdf-keywords i []) (mdf-word-field i h)
 
 in-range-m : (k : M.Kind) (v : M.Says Field k) → InRange-m k v → CanWrite mdf-line (M.say k v)
 unfolding mdf-line mdf-keywords

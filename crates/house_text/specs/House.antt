@@ -1,10 +1,10 @@
 -- WHAT A READER MUST BELIEVE. The house writing of a network and of a mission. Document 01, "House writing". Assumes nothing.
-use Rattle.terms.specs.Words.{_≡_, List, [], _∷_, _++_, map, Bytes, ascii}
+use Rattle.terms.specs.Words.{_≡_, List, _++_, map, Bytes, ascii}
 use Rattle.line.specs.Line.{Field}
 use Rattle.coordinate.specs.House.{houseCoordinate}
 use Rattle.law.specs.Network.{Network, Mission, Said, word, name, numbers, coordinate, boundary, Line, boundary-word, dotted, SpellsNetwork, SpellsMission}
 use Rattle.law.specs.Tables.{gather}
-use Rattle.law.specs.House.{AsListed}
+use Rattle.law.specs.House.{AsListed, tabbed}
 
 -- the house spelling of a field: its only one, but for coordinates. 01: "`0.000000` has no sign."
 abbrev pub house-field : Said → Bytes
@@ -13,12 +13,6 @@ house-field (name v) = v .bytes
 house-field (numbers l) = dotted l
 house-field (coordinate z) = houseCoordinate z
 house-field (boundary b) = boundary-word b
-
--- 01: "one tab between fields"
-unfoldable pub tabbed : List Bytes → Bytes
-tabbed [] = []
-tabbed (f ∷ []) = f
-tabbed (f ∷ g ∷ fields) = f ++ (ascii "\t" ++ tabbed (g ∷ fields))
 
 -- 01: "LF after every line, no comment, blank line or CR"
 unfoldable pub written : List Line → Bytes

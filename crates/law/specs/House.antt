@@ -1,7 +1,13 @@
--- WHAT A READER MUST BELIEVE. The order of options in the house writing. Document 01, "House writing". Assumes nothing.
-use Rattle.terms.specs.Words.{_≡_, List, [], _∷_, _++_}
+-- WHAT A READER MUST BELIEVE. The order of options in the house writing, and what stands between fields. Document 01, "House writing". Assumes nothing.
+use Rattle.terms.specs.Words.{_≡_, List, [], _∷_, _++_, Bytes, ascii}
 
 -- 01: "options in the order listed above, repeats in file order within their kind"
 abbrev pub AsListed : {A : Type 0} → List (List A) → List A → Type 0
 AsListed [] options = options ≡ []
 AsListed {A} (l ∷ ls) options = (rest : List A) × AsListed ls rest × (options ≡ l ++ rest)
+
+-- 01: "one tab between fields"
+unfoldable pub tabbed : List Bytes → Bytes
+tabbed [] = []
+tabbed (f ∷ []) = f
+tabbed (f ∷ g ∷ fields) = f ++ (ascii "\t" ++ tabbed (g ∷ fields))

@@ -2,7 +2,6 @@
 use mathlib.Core.Path.{_≡_, refl, sym, ap, subst, _∙_}
 use mathlib.Core.List.{List, [], _∷_, _++_, map, head-eq-of-cons-eq}
 use mathlib.Core.Option.{Option, none, some}
-use mathlib.Core.Bool.{Bool, true, false}
 use mathlib.Core.Logic.{_⊎_, inl, inr}
 use Prim.Native.Nat.{ℕ}
 use native.Mathlib.Omega.{arith}
@@ -12,8 +11,8 @@ use Rattle.terms.specs.Words.{Each}
 use Rattle.terms.proofs.Tests.{nothing}
 use Rattle.line.specs.Content.{Field}
 use Rattle.grammar.specs.Language.{Lang, S, say}
-use Rattle.grammar.specs.Machine.{Machine, over, inside, Place, at, step}
-use Rattle.grammar.specs.Stands.{given, asDue, ofRow, stands}
+use Rattle.grammar.specs.Machine.{Machine, Place, at, step}
+use Rattle.grammar.specs.Stands.{stands}
 use Rattle.grammar.proofs.Keeping.{GoodPlace, GoodOut, run-good}
 use Rattle.grammar.proofs.StandLaws.{stands-all}
 use Rattle.text.specs.Said as Said
@@ -21,6 +20,7 @@ use Rattle.text.specs.Judge.{Lexis, kindAt}
 use Rattle.text.specs.Faults.{Fielded, unknown}
 use Rattle.text.specs.Faults as Old
 use Rattle.text.proofs.Telling.{Lawful}
+use Rattle.text.proofs.FaultLaws.{five-or-six}
 use Rattle.law.specs.Network.{Line, SpellFields}
 use Rattle.law.specs.Faults.{sort, Opens, IsOption, Begins, MayStand, GivenAgain, FieldFault, Fault, form, fields, misplaced, given-again, miscounted, misspelt, forbidden}
 use Rattle.law_spelling.specs.LineOf.{law-line}
@@ -36,25 +36,13 @@ one-kind : {K : Type 0} {o : Option K} {j k : K} → o ≡ some j → o ≡ some
 one-kind {o = o} {j = j} {k = k} e f = let h : some j ≡ some k = sym e ∙ f in cc
 
 module _ {L : Lang} (A : Machine L) (X : Lexis L) (line-of : (k : L .Kind) → L .Pay k → List Said.Said) {Net : Type 0} (Said : Net → List (S L) → Type 0) (Spells : Net → List Line → Type 0) (first : A .Base) (N : Needs A X line-of Said Spells first) where
-  open Lang L using (Kind, Pay, disc)
+  open Lang L using (Kind, Pay)
 
   abbrev W : Lawful A X line-of
   W = N .file .lawful
 
   abbrev law : S L → Line
   law = law-line line-of
-
-  -- a kind that may not stand gets 5 or 6
-  five-or-six : (p : Place A) (k : Kind) (n : ℕ) → stands A p k ≡ some n → (n ≡ 5) ⊎ (n ≡ 6)
-  unfolding stands
-  five-or-six over k n e = inl (let z : 5 ≡ n = cc in sym z)
-  five-or-six (inside b g) k n e = go (given L (A .opts b) g k) (disc k (A .due b .on)) e
-    where
-      go : (x : Option Bool) (d : Dec (k ≡ A .due b .on)) → ofRow x (asDue d) ≡ some n → (n ≡ 5) ⊎ (n ≡ 6)
-      go (some true) d e = inr (let z : 6 ≡ n = cc in sym z)
-      go (some false) d e = nothing e
-      go none (yes q) e = nothing e
-      go none (no m) e = inl (let z : 5 ≡ n = cc in sym z)
 
   -- behind statements that lead to a place
   module _ (said : List (S L)) (p : Place A) (came : Came A X line-of Said Spells first N said p) where
@@ -180,7 +168,7 @@ module _ {L : Lang} (A : Machine L) (X : Lexis L) (line-of : (k : L .Kind) → L
             where
               at-kind : (x : Option ℕ) → stands A p k ≡ x → Old.Fault A X line-of p 0 line 5
               at-kind none s = let x = may-to f k q s in absurd (none-stands (law (say L k (x .0))) (x .1))
-              at-kind (some m) s = misplaced-at k q again m s (five-or-six p k m s)
+              at-kind (some m) s = misplaced-at k q again m s (five-or-six A X line-of W p k m s)
 
           go : (n : ℕ) → FieldFault Spells front f fs n → Old.Fault A X line-of p 0 line n
           go n (misplaced m again) = unfit m again (kindAt A X p f) refl

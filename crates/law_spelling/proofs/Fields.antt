@@ -11,15 +11,10 @@ use Rattle.law.specs.Network.{Boundary, double-yellow, solid-yellow, solid-whit
 use Rattle.law.specs.Network as Law
 use Rattle.grammar.specs.Tables.{colour}
 use Rattle.text.specs.Said as Old
+use Rattle.text.proofs.HouseLines.{colours}
 use Rattle.law_spelling.specs.LineOf.{said-of}
 
 -- the boundary words
-colours : (b : Boundary) → Between 1 4 (colour b)
-colours double-yellow = record { low = omega arith; high = omega arith }
-colours solid-yellow = record { low = omega arith; high = omega arith }
-colours solid-white = record { low = omega arith; high = omega arith }
-colours broken-white = record { low = omega arith; high = omega arith }
-
 pub same-word : (b : Boundary) → Word.boundary-of (colour b) ≡ boundary-word b
 unfolding Word.boundary-of Word.boundary-words
 same-word double-yellow = refl

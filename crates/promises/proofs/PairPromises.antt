@@ -124,7 +124,7 @@ module _ (rndf mdf : Bytes) (t : Lent) (u : MissionLent) where
   pair-refusal-only r l k h x (inl b) = pair-settled rndf mdf t u r (Pair.Refused x) l (zeros t) k (mission-zeros u) h (rndf-refused (x .line) (x .number) (b .1) (ap (λ (y : ℕ). Pair.Refused (refusal y (x .line) (x .number))) (b .0)) refl refl)
   pair-refusal-only r l k h x (inr b) = pair-settled rndf mdf t u r (Pair.Refused x) l (zeros t) k (mission-zeros u) h (mdf-refused (b .1 .0) (x .line) (x .number) (b .1 .1) (b .1 .2) (ap (λ (y : ℕ). Pair.Refused (refusal y (x .line) (x .number))) (b .0)) refl refl)
 
-  -- 10 is replied to every such RNDF that is not too long, and to every such MDF with an RNDF that is accepted (each is refused with 10: pair-refused-end)
+  -- 10 is replied to every RNDF that is not too long, whose lines begin some well-formed text, and which is none; to every such MDF with an RNDF that is accepted; and to no other pair (pair-refused-end)
   pub rndf-end-refused : (r : PairReply) (l : Lent) (k : MissionLent) (line : ℕ) → ReadsPair rndf mdf t u r l k → length rndf ≤ most → RefusedEnd Rndf rndf line → (r ≡ Pair.Refused (refusal 1 line 10)) × (l ≡ zeros t) × (k ≡ mission-zeros u)
   rndf-end-refused r l k line h size e = pair-refusal-only r l k h (refusal 1 line 10) (inl (refl, unended size (rndf-end-unended rndf line e)))
 

@@ -89,7 +89,7 @@ module _ (text : Bytes) (t : Lent) where
   pub refusal-only : (r : RndfReply) (l : Lent) (line number : ℕ) → ReadsRndf text t r l → RefusesRndf text t line number → (r ≡ Reply.Refused (refusal 1 line number)) × (l ≡ zeros t)
   refusal-only r l line number x a = rndf-settled text t r (Reply.Refused (refusal 1 line number)) l (zeros t) x (refused line number a refl refl)
 
-  -- 10 is replied to every such text that is not too long (each is refused with 10: refused-end)
+  -- 10 is replied to every text that is not too long, whose lines begin some well-formed text, and which is none; and to no other (refused-end)
   pub end-refused : (r : RndfReply) (l : Lent) (line : ℕ) → ReadsRndf text t r l → length text ≤ most → RefusedEnd Rndf text line → (r ≡ Reply.Refused (refusal 1 line 10)) × (l ≡ zeros t)
   end-refused r l line x size e = refusal-only r l line 10 x (unended size (rndf-end-unended text line e))
 

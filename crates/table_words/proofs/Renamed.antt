@@ -25,7 +25,7 @@ getD-map g [] i d = refl
 getD-map g (a ∷ l) zero d = refl
 getD-map g (a ∷ l) (suc i) d = getD-map g l i d
 
-gather-moved : {A A′ B : Type 0} (g : A → A′) (F : A → List B) (F′ : A′ → List B) → ((a : A) → F′ (g a) ≡ F a) → (l : List A) → gather F′ (map g l) ≡ gather F l
+pub gather-moved : {A A′ B : Type 0} (g : A → A′) (F : A → List B) (F′ : A′ → List B) → ((a : A) → F′ (g a) ≡ F a) → (l : List A) → gather F′ (map g l) ≡ gather F l
 gather-moved g F F′ e [] = refl
 gather-moved {B = B} g F F′ e (a ∷ l) = ap₂ (λ (x y : List B). x ++ y) (e a) (gather-moved g F F′ e l)
 

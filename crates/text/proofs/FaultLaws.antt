@@ -44,7 +44,7 @@ module _ {L : Lang} (A : Machine L) (X : Lexis L) (line-of : (k : L .Kind) → L
   same-fault e = cc
 
   -- a kind that may not stand gets 5 or 6
-  five-or-six : (p : Place A) (k : Kind) (n : ℕ) → stands A p k ≡ some n → (n ≡ 5) ⊎ (n ≡ 6)
+  pub five-or-six : (p : Place A) (k : Kind) (n : ℕ) → stands A p k ≡ some n → (n ≡ 5) ⊎ (n ≡ 6)
   unfolding stands
   five-or-six over k n e = inl (let z : 5 ≡ n = cc in sym z)
   five-or-six (inside b g) k n e = go (given L (A .opts b) g k) (L .disc k (A .due b .on)) e

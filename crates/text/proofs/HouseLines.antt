@@ -44,7 +44,8 @@ unfolding houseCoordinate ascii
 some-coordinate (pos m) = some-degrees m
 some-coordinate (negsuc m) = omega arith
 
-colours : (b : Boundary) → Between 1 4 (colour b)
+-- a boundary is one of four
+pub colours : (b : Boundary) → Between 1 4 (colour b)
 colours double-yellow = record { low = omega arith; high = omega arith }
 colours solid-yellow = record { low = omega arith; high = omega arith }
 colours solid-white = record { low = omega arith; high = omega arith }

@@ -120,7 +120,8 @@ pub mdf-lawful : Lawful (mdf Field) mdf-lexis mdf-line
 mdf-lawful = record { parts = mdf-parts; made = mdf-made; line-made = mdf-line-made; lookup-right = lookup-right 11 mdf-keywords mission-kinds mission-kind-row limit rowed; lookup-only = lookup-only 11 mdf-keywords mission-kinds mission-kind-row limit rowed; no-digit = no-digit 11 mdf-keywords mission-kinds mission-kind-row limit rowed; digit = digit-line; options = options }
 
 -- ## A line that leads on from each place
-kw : (i : ℕ) → i < 11 → IsField (getD mdf-keywords i []) × (length (getD mdf-keywords i []) ≤ 20)
+-- a keyword can be written
+pub kw : (i : ℕ) → i < 11 → IsField (getD mdf-keywords i []) × (length (getD mdf-keywords i []) ≤ 20)
 kw i h = short-field (getD mdf-keywords i []) (mdf-word-field i h)
 
 -- the house line of the sample that the grammar has for a base

@@ -236,7 +236,7 @@ keeps (second-of-spot-due m z n s) y v t = y
 keeps (end-spot-due m z n s) y v t = (y .0, omega arith)
 
 -- a keyword can be written
-kw : (i : ℕ) → i < 29 → IsField (getD rndf-keywords i []) × (length (getD rndf-keywords i []) ≤ 20)
+pub kw : (i : ℕ) → i < 29 → IsField (getD rndf-keywords i []) × (length (getD rndf-keywords i []) ≤ 20)
 kw i h = short-field (getD rndf-keywords i []) (rndf-word-field i h)
 
 -- the house line of the sample that the grammar has for a base

@@ -1,9 +1,10 @@
 -- The house writing of a line. Document 01, "House writing": "one tab between fields". Assumes nothing.
-use mathlib.Core.List.{List, [], _∷_, _++_, map}
-use Rattle.terms.specs.Ascii.{Bytes, ascii}
+use mathlib.Core.List.{List, map}
+use Rattle.terms.specs.Ascii.{Bytes}
 use Rattle.number.specs.House.{houseInteger, housePair, houseTriple}
 use Rattle.coordinate.specs.House.{houseCoordinate}
 use Rattle.word.specs.Keywords.{boundary-of}
+unfoldable pub use Rattle.law.specs.House.{tabbed}
 use Rattle.grammar.specs.Tables.{colour}
 use Rattle.text.specs.Said.{Said, word, name, integer, pair, triple, coordinate, boundary}
 
@@ -15,12 +16,6 @@ house-field (pair i) = housePair (i .m) (i .n)
 house-field (triple i) = houseTriple (i .x) (i .y) (i .z)
 house-field (coordinate z) = houseCoordinate z
 house-field (boundary b) = boundary-of (colour b)
-
--- fields with one tab between them
-unfoldable pub tabbed : List Bytes → Bytes
-tabbed [] = []
-tabbed (f ∷ []) = f
-tabbed (f ∷ g ∷ fields) = f ++ (ascii "\t" ++ tabbed (g ∷ fields))
 
 abbrev pub house-line : List Said → Bytes
 house-line said = tabbed (map house-field said)
