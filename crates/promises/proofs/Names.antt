@@ -16,7 +16,7 @@ use Rattle.law.specs.Short.{SpellsRndf, SpellsMdf}
 use Rattle.law.specs.Tables.{name-words}
 use Rattle.rows.proofs.Names.{name-missing}
 use Rattle.mission_reader.proofs.Standing.{asked}
-use Rattle.reader.specs.Replies.{stretch, network-file, mission-file}
+use Rattle.replies.specs.Replies.{stretch, network-file, mission-file}
 use Rattle.promises.specs.Accepted.{Asked, NamesAsked, MissionNamesAsked}
 
 -- the words of a name in a table's row are its stretch

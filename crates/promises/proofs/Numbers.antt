@@ -9,7 +9,7 @@ use Rattle.line.specs.Text.{Cut}
 use Rattle.line.proofs.Cuts.{cut-one}
 use Rattle.law.specs.Network.{Line}
 use Rattle.law.specs.Faults.{BadLine, Unended}
-use Rattle.reader.specs.Replies.{most, Refuses, too-long, bad-line, unended, no-room, bad-reference}
+use Rattle.replies.specs.Replies.{most, Refuses, too-long, bad-line, unended, no-room, bad-reference}
 use Rattle.promises.specs.Refusals.{Begin, Hopeless, RefusedLine, NoRoom, WrongReference}
 
 -- ## By number. `form`, `reference`: which numbers a bad line and a wrong reference have

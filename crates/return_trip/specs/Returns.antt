@@ -5,7 +5,7 @@ use Rattle.law.specs.Network.{Network, Mission}
 use Rattle.law.specs.Tables.{Lent, MissionLent}
 use Rattle.grammar.specs.Names.{network-named, mission-named}
 use Rattle.text.specs.Spelling.{bytes-of}
-use Rattle.reader.specs.Replies.{AcceptsRndf, AcceptsMdf}
+use Rattle.replies.specs.Replies.{AcceptsRndf, AcceptsMdf}
 
 -- the same, with each name's bytes in place of start and length
 abbrev pub SameNetwork : Network Field → Network Field → Type 0
