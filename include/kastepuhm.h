@@ -4,13 +4,13 @@
  *     rt staticlib yard
  *     cc -std=c11 -Iinclude yours.c target/staticlib/libyard.a
  *
- * The library needs nothing else but the C library's memset. tests/callers/caller.c is a whole caller, tests/callers/caller.rs the same in Rust; tests/callers.sh builds and
- * runs both. The header and the library belong together: build both from the same commit.
+ * The library needs nothing else but memset and perhaps memcpy of the C library, which any C program links anyway (`nm -u target/staticlib/libyard.a` lists what it leaves open);
+ * a program without a C library has to bring its own. tests/callers/caller.c is a whole caller, tests/callers/caller.rs the same in Rust; tests/callers.sh builds and runs both. The header and the library belong together: build both from the same commit.
  *
  * What it does
  *   It reads the text of a route network (RNDF) and of a mission (MDF) in the format of March 14, 2007 as document 01 narrows it, and either fills the tables that you lend and
  *   accepts, or refuses with file, line and one number. It also puts the house writing of either file into an output that you lend. That it does so for all texts, all tables
- *   and all outputs is proved of its source (crates/yard, crates/reader/specs/Replies.antt, crates/writer/specs/Writes.antt); the compiler, the declarations below and your
+ *   and all outputs is proved of its source (crates/yard, crates/replies/specs/Replies.antt, crates/writings/specs/Writes.antt); the compiler, the declarations below and your
  *   calls are not part of that proof.
  *
  * What you hand over
@@ -51,7 +51,8 @@ extern "C" {
  *
  * After an acceptance the rows used (they are in the answer) hold what the text says, and every number behind them is 0. After a refusal every number of every lent table is 0.
  *
- * A table never needs more rows than its text has lines: lend that many, and refusal 11 never comes.
+ * A table never needs more rows than its text has lines: lend that many, and refusal 11 never comes. (That is counted by hand from the format and not proved; that 11 comes just
+ * where a table has fewer rows than needed is.)
  *
  * Each list below ends with its stride.
  */

@@ -1,21 +1,51 @@
--- A number that no refusal has, as the last arm of the table of reasons meets it. Assumes nothing.
-use mathlib.Core.Path.{_≡_, refl, ap}
+-- A number that one part of the table of reasons does not have, as its last arm meets it: the next part has it, or none. Assumes nothing.
+use mathlib.Core.Path.{_≡_, refl, sym, _∙_}
+use mathlib.Core.Bool.{Bool, true, false}
 use mathlib.Core.Logic.{_⊎_, inl, inr, ⊎-elim}
-use Prim.Native.Nat.{ℕ, zero, suc, _<_}
+use Prim.Native.Nat.{ℕ, zero, suc, _+_, _<_, _≤_}
 use native.Mathlib.Omega.{arith}
+use lib.Dec.{ltb}
 use lib.ListN.{List·getD-eq-default}
+use borrow.Author.Tests.{ltb-true, ltb-false, lt-ltb, le-ltb}
 use Rattle.answers.specs.Reasons.{reason, reasons, no-reason}
+use Rattle.answers.specs.Parts.{reason-from}
 
--- none of 1 to m
-abbrev pub NoneTo : ℕ → ℕ → Type 0
-NoneTo zero n = Unit {0}
-NoneTo (suc m) n = NoneTo m n × (n ≡ suc m → ⊥)
+-- none of so many numbers from this one on
+abbrev pub NoneOf : (first many n : ℕ) → Type 0
+NoneOf first zero n = Unit {0}
+NoneOf first (suc many) n = NoneOf first many n × (n ≡ first + many → ⊥)
 
-outside : (m n : ℕ) → NoneTo m n → (n ≡ 0) ⊎ (m < n)
-outside zero zero h = inl refl
-outside zero (suc n) h = inr (omega arith)
-outside (suc m) n h = ⊎-elim (λ (e : n ≡ 0). inl e) (λ (l : m < n). inr (omega (arith, h .1))) (outside m n (h .0))
+below-or-not : (n first : ℕ) → (n < first) ⊎ (first ≤ n)
+below-or-not n first = go (ltb n first) refl
+  where
+    go : (x : Bool) → ltb n first ≡ x → (n < first) ⊎ (first ≤ n)
+    go true e = inl (ltb-true n first e)
+    go false e = inr (ltb-false n first e)
 
-pub others : (n : ℕ) → NoneTo 19 n → reason n ≡ no-reason
+outside : (first many n : ℕ) → NoneOf first many n → (n < first) ⊎ (first + many ≤ n)
+outside first zero n h = ⊎-elim (λ (l : n < first). inl l) (λ (l : first ≤ n). inr (omega arith)) (below-or-not n first)
+outside first (suc many) n h = ⊎-elim (λ (l : n < first). inl l) (λ (l : first + many ≤ n). inr (let d = h .1 in omega (arith, d))) (outside first many n (h .0))
+
+-- the next part has what this one does not have
+pub handed-on : (first many n : ℕ) → NoneOf first many n → reason-from (first + many) n ≡ reason-from first n
+unfolding reason-from
+handed-on first many n h =
+    ⊎-elim
+    (λ (l : n < first). let k : n < first + many = omega arith in rw (lt-ltb n first l, lt-ltb n (first + many) k) refl)
+    (λ (l : first + many ≤ n). let k : first ≤ n = omega arith in rw (le-ltb n first k, le-ltb n (first + many) l) refl)
+    (outside first many n h)
+
+-- the whole table begins at 1
+pub from-one : (n : ℕ) → reason-from 1 n ≡ reason n
+unfolding reason-from reason reasons
+from-one zero = refl
+from-one (suc n) = let l : 1 ≤ suc n = omega arith in rw (le-ltb (suc n) 1 l) refl
+
+-- and ends before 20
+behind : (n : ℕ) → 20 ≤ n → reason n ≡ no-reason
 unfolding reason reasons
-others n h = ⊎-elim (λ (e : n ≡ 0). ap reason e) (λ (l : 19 < n). List·getD-eq-default reasons no-reason {n = n} (omega arith)) (outside 19 n h)
+behind n l = List·getD-eq-default reasons no-reason {n = n} (omega arith)
+
+pub none-behind : (n : ℕ) → reason-from 20 n ≡ no-reason
+unfolding reason-from
+none-behind n = ⊎-elim (λ (l : n < 20). rw (lt-ltb n 20 l) refl) (λ (l : 20 ≤ n). rw (le-ltb n 20 l) (behind n l)) (below-or-not n 20)

@@ -5,8 +5,8 @@ use Prim.Native.Nat.{ℕ}
 use Rattle.terms.specs.Ascii.{Bytes}
 use Rattle.output.specs.Pen.{Pen, pen, put, Wrote}
 use Rattle.output.proofs.Writing.{wrote-one}
-use Rattle.reader.specs.declared.RndfReply.{RndfReply}
-use Rattle.reader.specs.declared.PairReply.{PairReply}
+use Rattle.replies.specs.declared.RndfReply.{RndfReply}
+use Rattle.replies.specs.declared.PairReply.{PairReply}
 use Rattle.answers.specs.Reasons.{reason}
 use Rattle.answers.specs.Answers.{sentence, rndf-answer, pair-answer}
 

@@ -1,23 +1,27 @@
 // The readers' replies in plain words, one sentence each: `network.rndf, line 9: the entry is no declared lane waypoint or perimeter point (12)`, or
 // the rows used. What is put are the definitions of specs/ (Reasons: the words of each refusal number; Answers: the sentences), for every name and
-// every reply; nothing is required. Rests on `output` (each put ensures `Wrote`) and `reader` (the replies).
-use mission_reader::MissionCounts;
-use network_reader::Counts;
+// every reply; nothing is required. Rests on `output` (each put ensures `Wrote`) and `replies`.
+use counts::Counts;
+use counts::MissionCounts;
 use output::put_byte;
 use output::put_bytes;
 use output::put_integer;
-use reader::PairReply;
-use reader::Refusal;
-use reader::RndfReply;
+use refusal::Refusal;
+use replies::PairReply;
+use replies::RndfReply;
 ghost use mathlib.Core.List.{_++_};
 ghost use Rattle.terms.specs.Ascii.{ascii};
 ghost use Rattle.output.specs.Pen.{pen, Wrote};
 ghost use Rattle.answers.specs.Reasons.{reason};
+ghost use Rattle.answers.specs.Parts.{reason-from};
 ghost use Rattle.answers.specs.Answers.{at-line, sentence, refused, counted, next, network-counts, mission-counts, rndf-answer, pair-answer};
 
 // ## Refusals
 
-// THE TABLE of reasons. README.md's table of refusal numbers has the same words (tests/reasons.py).
+// THE TABLE of reasons, in four parts, each of which hands on the numbers that it does not have: to check a `match` whose arms each call something takes as long as the square of
+// the arms. README.md's table of refusal numbers has the same words (tests/reasons.py).
+
+// 1 to 4: the text's bytes. The others: see below.
 pub fn put_reason(out: &mut [u8], at: usize, number: u8) -> usize
     ensures { λ r. ⌜ Wrote (pen (now (out .entry)) at) (reason number) (pen (now (out .exit)) r) ⌝ }
 {
@@ -30,6 +34,15 @@ pub fn put_reason(out: &mut [u8], at: usize, number: u8) -> usize
             b"the comment is not closed, or something other than tabs follows it",
         ),
         4 => put_bytes(out, at, b"a byte that is not allowed"),
+        _ => put_reason_from_5(out, at, number),
+    }
+}
+
+// 5 to 9: a statement and its fields.
+fn put_reason_from_5(out: &mut [u8], at: usize, number: u8) -> usize
+    ensures { λ r. ⌜ Wrote (pen (now (out .entry)) at) (reason-from 5 number) (pen (now (out .exit)) r) ⌝ }
+{
+    match number {
         5 => put_bytes(
             out,
             at,
@@ -47,6 +60,15 @@ pub fn put_reason(out: &mut [u8], at: usize, number: u8) -> usize
             at,
             b"a value that is not permitted here: range, not the due identifier, a point of another part, minimum above maximum",
         ),
+        _ => put_reason_from_10(out, at, number),
+    }
+}
+
+// 10 to 14: the end, room for the rows, references of the RNDF, the name of the MDF's RNDF.
+fn put_reason_from_10(out: &mut [u8], at: usize, number: u8) -> usize
+    ensures { λ r. ⌜ Wrote (pen (now (out .entry)) at) (reason-from 10 number) (pen (now (out .exit)) r) ⌝ }
+{
+    match number {
         10 => put_bytes(out, at, b"the text ends before `end_file`"),
         11 => put_bytes(out, at, b"a table has fewer rows than needed"),
         12 => put_bytes(
@@ -56,6 +78,15 @@ pub fn put_reason(out: &mut [u8], at: usize, number: u8) -> usize
         ),
         13 => put_bytes(out, at, b"the checkpoint number is already declared"),
         14 => put_bytes(out, at, b"the MDF names another RNDF"),
+        _ => put_reason_from_15(out, at, number),
+    }
+}
+
+// 15 to 18: references of the MDF; 19: the writers. No reply has another number.
+fn put_reason_from_15(out: &mut [u8], at: usize, number: u8) -> usize
+    ensures { λ r. ⌜ Wrote (pen (now (out .entry)) at) (reason-from 15 number) (pen (now (out .exit)) r) ⌝ }
+{
+    match number {
         15 => put_bytes(out, at, b"the goal is no checkpoint of the RNDF"),
         16 => put_bytes(out, at, b"the limit's id is not in the RNDF"),
         17 => put_bytes(out, at, b"the limit's id was already given"),

@@ -5,11 +5,11 @@
 //
 // `data/` is yard B with every option and a mission for it, both as untidy as a text may be; `stdout` was written by hand from it.
 use libc::STDOUT_FILENO;
-use reader::Refusal;
-use writer::WriteMdfReply;
-use writer::WriteReply;
+use refusal::Refusal;
 use writer::write_mdf;
 use writer::write_rndf;
+use writings::WriteMdfReply;
+use writings::WriteReply;
 
 const MOST_BYTES: usize = 8192;
 

@@ -25,7 +25,7 @@ use Rattle.law_spelling.specs.LineOf.{rndf-law-line, mdf-law-line}
 use Rattle.law_spelling.proofs.RndfParts.{network-back}
 use Rattle.law_spelling.proofs.MdfParts.{mission-back}
 use Rattle.network_reader.specs.Replies as N
-use Rattle.reader.specs.Replies.{rows-used}
+use Rattle.replies.specs.Replies.{rows-used}
 use Rattle.reader.proofs.Lawful.{counts-are}
 use Rattle.promises.specs.Accepted.{mission-rows-used}
 use Rattle.promises.specs.Declared.{begins-with, numbers-in, lines-with, together, how-many, declared, mission-declared}

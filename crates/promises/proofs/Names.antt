@@ -18,7 +18,7 @@ use Rattle.law.specs.Tables.{name-words}
 use Rattle.rows.specs.Read.{stretchOf}
 use Rattle.rows.specs.Name.{nameOf}
 use Rattle.rows.proofs.Names.{name-fits, name-missing}
-use Rattle.reader.specs.Replies.{stretch, network-file, mission-file}
+use Rattle.replies.specs.Replies.{stretch, network-file, mission-file}
 use Rattle.promises.specs.Accepted.{Asked, NamesAsked, MissionNamesAsked}
 
 -- the words of a name in a table's row are its stretch

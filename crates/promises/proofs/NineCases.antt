@@ -8,9 +8,9 @@ use lib.ListN.{length}
 use Rattle.terms.specs.Ascii.{Bytes, ascii}
 use Rattle.law.specs.Tables.{Lent, MissionLent, HasRoom, MissionHasRoom, filled, mission-filled}
 use Rattle.law.specs.Faults.{Fits}
-use Rattle.reader.specs.declared.PairReply.{PairReply}
-use Rattle.reader.specs.declared.PairReply.the-variants as Pair
-use Rattle.reader.specs.Replies.{most, AcceptsMdf, RefusesRndf, RefusesMdf, bad-line, bad-reference, refusal, mission-file, ReadsPair}
+use Rattle.replies.specs.declared.PairReply.{PairReply}
+use Rattle.replies.specs.declared.PairReply.the-variants as Pair
+use Rattle.replies.specs.Replies.{most, AcceptsMdf, RefusesRndf, RefusesMdf, bad-line, bad-reference, refusal, mission-file, ReadsPair}
 use Rattle.promises.specs.Yards.{yard, round, goal-8, limit-10-5, network, network-twice, mission, mission-goal-8, counts, mission-counts, yard-file, round-file, used, mission-used, yard-words, round-words}
 use Rattle.promises.specs.Cases.{PairRefused, nine, AllRefused}
 use Rattle.promises.proofs.PairPromises.{spelled-pair-accepted, pair-refusal-only}

@@ -11,7 +11,7 @@ use Rattle.refusal.specs.Numbers.{OfForm, OfReference}
 use Rattle.refusal.proofs.Apart.{form-or-reference, form-not-size, form-not-end, form-not-room, reference-not-size, reference-not-end, reference-not-room}
 use Rattle.law.specs.Network.{Line}
 use Rattle.law.specs.Faults.{BadLine, Unended}
-use Rattle.reader.specs.Replies.{most, Refuses, too-long, bad-line, unended, no-room, bad-reference}
+use Rattle.replies.specs.Replies.{most, Refuses, too-long, bad-line, unended, no-room, bad-reference}
 use Rattle.promises.specs.Refusals as Numbers
 use Rattle.promises.specs.Refusals.{OneOfFive, Begin, Hopeless, RefusedLine, NoRoom, WrongReference}
 

@@ -13,13 +13,13 @@ use Rattle.law.specs.Tables.{Lent, MissionLent, HasRoom, MissionHasRoom, filled
 use Rattle.law.specs.Faults.{Sound, RndfFault, MdfFault, Fits}
 use Rattle.rows.specs.declared.FileRow.{FileRow}
 use Rattle.rows.specs.declared.MissionFileRow.{MissionFileRow}
-use Rattle.network_reader.specs.declared.Counts.{Counts}
-use Rattle.mission_reader.specs.declared.MissionCounts.{MissionCounts}
-use Rattle.reader.specs.declared.Refusal.{Refusal}
-use Rattle.reader.specs.declared.PairReply.{PairReply}
-use Rattle.reader.specs.declared.PairReply.the-variants as Pair
-use Rattle.reader.specs.Replies.{most, AcceptsRndf, AcceptsMdf, unended, refusal, rows-used, network-file, mission-file, ReadsPair, accepted, rndf-refused, mdf-refused}
-use Rattle.reader.proofs.Settled.{pair-settled}
+use Rattle.counts.specs.declared.Counts.{Counts}
+use Rattle.counts.specs.declared.MissionCounts.{MissionCounts}
+use Rattle.refusal.specs.declared.Refusal.{Refusal}
+use Rattle.replies.specs.declared.PairReply.{PairReply}
+use Rattle.replies.specs.declared.PairReply.the-variants as Pair
+use Rattle.replies.specs.Replies.{most, AcceptsRndf, AcceptsMdf, unended, refusal, rows-used, network-file, mission-file, ReadsPair, accepted, rndf-refused, mdf-refused}
+use Rattle.replies.proofs.Settled.{pair-settled}
 use Rattle.promises.specs.Accepted.{IsPairAccepted, PairAcceptable, mission-rows-used, Meant, NamesAsked, MissionNamesAsked}
 use Rattle.promises.specs.Declared.{declared, mission-declared}
 use Rattle.promises.specs.Refusals.{Rndf, Mdf, OneOfFive, RefusedLine, RefusedEnd, NoRoom, WrongReference, OfFile, PairRefuses}

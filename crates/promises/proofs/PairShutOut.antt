@@ -11,13 +11,13 @@ use Rattle.law.specs.Short.{SpellsRndf, SpellsMdf}
 use Rattle.law.specs.Tables.{Lent, MissionLent, zeros, mission-zeros}
 use Rattle.rows.specs.declared.FileRow.{FileRow}
 use Rattle.rows.specs.declared.MissionFileRow.{MissionFileRow}
-use Rattle.network_reader.specs.declared.Counts.{Counts}
-use Rattle.mission_reader.specs.declared.MissionCounts.{MissionCounts}
-use Rattle.reader.specs.declared.Refusal.{Refusal}
-use Rattle.reader.specs.declared.PairReply.{PairReply}
-use Rattle.reader.specs.declared.PairReply.the-variants as Pair
-use Rattle.reader.specs.Replies.{rows-used, ReadsPair}
-use Rattle.reader.proofs.Settled.{pair-some}
+use Rattle.counts.specs.declared.Counts.{Counts}
+use Rattle.counts.specs.declared.MissionCounts.{MissionCounts}
+use Rattle.refusal.specs.declared.Refusal.{Refusal}
+use Rattle.replies.specs.declared.PairReply.{PairReply}
+use Rattle.replies.specs.declared.PairReply.the-variants as Pair
+use Rattle.replies.specs.Replies.{rows-used, ReadsPair}
+use Rattle.replies.proofs.Settled.{pair-some}
 use Rattle.promises.specs.Accepted.{IsPairAccepted, PairAcceptable, mission-rows-used}
 use Rattle.promises.specs.Cases.{PairRefused}
 use Rattle.promises.specs.Readers.{PairReader, PairMeets, done, On}

@@ -10,12 +10,12 @@ use Rattle.law.specs.Short.{SpellsRndf}
 use Rattle.law.specs.Tables.{Lent, HasRoom, filled, zeros}
 use Rattle.law.specs.Faults.{Sound, RndfFault}
 use Rattle.rows.specs.declared.FileRow.{FileRow}
-use Rattle.network_reader.specs.declared.Counts.{Counts}
-use Rattle.reader.specs.declared.Refusal.{Refusal}
-use Rattle.reader.specs.declared.RndfReply.{RndfReply}
-use Rattle.reader.specs.declared.RndfReply.the-variants as Reply
-use Rattle.reader.specs.Replies.{most, AcceptsRndf, RefusesRndf, unended, refusal, rows-used, network-file, ReadsRndf, accepted, refused}
-use Rattle.reader.proofs.Settled.{rndf-settled}
+use Rattle.counts.specs.declared.Counts.{Counts}
+use Rattle.refusal.specs.declared.Refusal.{Refusal}
+use Rattle.replies.specs.declared.RndfReply.{RndfReply}
+use Rattle.replies.specs.declared.RndfReply.the-variants as Reply
+use Rattle.replies.specs.Replies.{most, AcceptsRndf, RefusesRndf, unended, refusal, rows-used, network-file, ReadsRndf, accepted, refused}
+use Rattle.replies.proofs.Settled.{rndf-settled}
 use Rattle.promises.specs.Accepted.{IsAccepted, Acceptable, NamesAsked}
 use Rattle.promises.specs.Declared.{declared}
 use Rattle.promises.specs.Refusals.{Rndf, OneOfFive, RefusedLine, RefusedEnd, NoRoom, WrongReference}

@@ -9,12 +9,12 @@ use Rattle.law.specs.Network.{Network}
 use Rattle.law.specs.Short.{SpellsRndf}
 use Rattle.law.specs.Tables.{Lent, zeros}
 use Rattle.rows.specs.declared.FileRow.{FileRow}
-use Rattle.network_reader.specs.declared.Counts.{Counts}
-use Rattle.reader.specs.declared.Refusal.{Refusal}
-use Rattle.reader.specs.declared.RndfReply.{RndfReply}
-use Rattle.reader.specs.declared.RndfReply.the-variants as Reply
-use Rattle.reader.specs.Replies.{RefusesRndf, rows-used, ReadsRndf}
-use Rattle.reader.proofs.Settled.{rndf-some}
+use Rattle.counts.specs.declared.Counts.{Counts}
+use Rattle.refusal.specs.declared.Refusal.{Refusal}
+use Rattle.replies.specs.declared.RndfReply.{RndfReply}
+use Rattle.replies.specs.declared.RndfReply.the-variants as Reply
+use Rattle.replies.specs.Replies.{RefusesRndf, rows-used, ReadsRndf}
+use Rattle.replies.proofs.Settled.{rndf-some}
 use Rattle.promises.specs.Accepted.{IsAccepted, Acceptable}
 use Rattle.promises.specs.Readers.{Reader, Meets}
 use Rattle.promises.specs.Yards.{yard, second-line, second-lane, second-segment, network, counts, yard-file, used, yard-words}

@@ -8,9 +8,9 @@ use lib.ListN.{length}
 use Rattle.terms.specs.Ascii.{Bytes, ascii}
 use Rattle.law.specs.Tables.{Lent, HasRoom, filled}
 use Rattle.law.specs.Faults.{Sound, waypoint, first}
-use Rattle.reader.specs.declared.RndfReply.{RndfReply}
-use Rattle.reader.specs.declared.RndfReply.the-variants as Reply
-use Rattle.reader.specs.Replies.{most, AcceptsRndf, RefusesRndf, bad-line, unended, bad-reference, rows-used, network-file, ReadsRndf}
+use Rattle.replies.specs.declared.RndfReply.{RndfReply}
+use Rattle.replies.specs.declared.RndfReply.the-variants as Reply
+use Rattle.replies.specs.Replies.{most, AcceptsRndf, RefusesRndf, bad-line, unended, bad-reference, rows-used, network-file, ReadsRndf}
 use Rattle.promises.specs.Yards.{yard, entry-3, exit-from-3, three-waypoints, one-waypoint, without-end, line-8-twice, second-line, second-lane, second-segment, network, network-entry-3, network-twice, counts, yard-file, used, yard-words}
 use Rattle.promises.specs.Cases.{Refused}
 use Rattle.promises.proofs.Promises.{spelled-accepted, refusal-only}

@@ -1,11 +1,11 @@
 -- WHAT A READER MUST BELIEVE. The table of yard A's nine cases, and what it is that a text, or a pair, is refused. Document 01, "Yard A". Assumes nothing.
 use Rattle.terms.specs.Words.{_≡_, List, [], _∷_, ℕ, Bytes, Each}
 use Rattle.law.specs.Tables.{Lent, MissionLent, zeros, mission-zeros}
-use Rattle.reader.specs.declared.RndfReply.{RndfReply}
-use Rattle.reader.specs.declared.RndfReply.the-variants as Reply
-use Rattle.reader.specs.declared.PairReply.{PairReply}
-use Rattle.reader.specs.declared.PairReply.the-variants as Pair
-use Rattle.reader.specs.Replies.{refusal, ReadsRndf, ReadsPair}
+use Rattle.replies.specs.declared.RndfReply.{RndfReply}
+use Rattle.replies.specs.declared.RndfReply.the-variants as Reply
+use Rattle.replies.specs.declared.PairReply.{PairReply}
+use Rattle.replies.specs.declared.PairReply.the-variants as Pair
+use Rattle.replies.specs.Replies.{refusal, ReadsRndf, ReadsPair}
 use Rattle.promises.specs.Yards.{yard, entry-3, exit-from-3, three-waypoints, one-waypoint, without-end, line-8-twice, round, goal-8, limit-10-5}
 
 -- whatever meets the contract gives this reply, and leaves all lent tables zero

@@ -3,8 +3,8 @@ use Rattle.terms.specs.Words.{List, [], _∷_, Bool, false, ℕ, _+_, _*_, Stri
 use Rattle.scan.specs.Reach.{sameBytes}
 use Rattle.law.specs.Network.{Said, Line, word, name, numbers, coordinate, boundary}
 use Rattle.law.specs.Tables.{gather, total}
-use Rattle.network_reader.specs.declared.Counts.{Counts}
-use Rattle.mission_reader.specs.declared.MissionCounts.{MissionCounts}
+use Rattle.counts.specs.declared.Counts.{Counts}
+use Rattle.counts.specs.declared.MissionCounts.{MissionCounts}
 
 -- the line's keyword is this word
 abbrev pub begins-with : String → Line → Bool

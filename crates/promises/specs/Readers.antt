@@ -1,9 +1,9 @@
 -- WHAT A READER MUST BELIEVE. What a reader does, and that it meets its contract on some texts and lent tables. Document 01, "The contracts have to shut out". Assumes nothing.
 use Rattle.terms.specs.Words.{Bytes}
 use Rattle.law.specs.Tables.{Lent, MissionLent}
-use Rattle.reader.specs.declared.RndfReply.{RndfReply}
-use Rattle.reader.specs.declared.PairReply.{PairReply}
-use Rattle.reader.specs.Replies.{ReadsRndf, ReadsPair}
+use Rattle.replies.specs.declared.RndfReply.{RndfReply}
+use Rattle.replies.specs.declared.PairReply.{PairReply}
+use Rattle.replies.specs.Replies.{ReadsRndf, ReadsPair}
 use Rattle.promises.specs.Yards.{used, mission-used}
 
 -- its reply to a text, and what it leaves in the tables that it was lent

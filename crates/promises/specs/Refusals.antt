@@ -5,8 +5,8 @@ use Rattle.refusal.specs.Numbers.{OfForm, OfReference}
 use Rattle.law.specs.Network.{Network, Mission, Line, AnyOrder, SpellsNetwork, SpellsMission, SpellsText}
 use Rattle.law.specs.Tables.{Lent, MissionLent}
 use Rattle.law.specs.Faults.{LineAt, Fault, BadLine, Unended, FirstFault}
-use Rattle.reader.specs.declared.Refusal.{Refusal}
-use Rattle.reader.specs.Replies.{AcceptsRndf, RefusesRndf, RefusesMdf}
+use Rattle.refusal.specs.declared.Refusal.{Refusal}
+use Rattle.replies.specs.Replies.{AcceptsRndf, RefusesRndf, RefusesMdf}
 
 -- how an RNDF is spelled, and an MDF
 abbrev pub Rndf : Network Field → List Line → Type 0

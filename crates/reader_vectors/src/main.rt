@@ -5,15 +5,15 @@
 // Printed are the label, the reply (the rows used and each file's own row, or file, line and number), and of each table the words lent and those up to
 // the last that is not zero, so that a row too many or one that was not cleared shows. Coordinates are printed as they stand in a text.
 // The file `stdout` was not copied from a run: the oracle in tests/oracle, written from document 01 alone, wrote it (tests/reader_vectors.py).
+use counts::Counts;
+use counts::MissionCounts;
 use libc::STDOUT_FILENO;
-use mission_reader::MissionCounts;
-use network_reader::Counts;
 use output::put_coordinate;
-use reader::PairReply;
-use reader::Refusal;
-use reader::RndfReply;
 use reader::read_pair;
 use reader::read_rndf;
+use refusal::Refusal;
+use replies::PairReply;
+use replies::RndfReply;
 use rows::FileRow;
 use rows::MissionFileRow;
 use rows::Stretch;

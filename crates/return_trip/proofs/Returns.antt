@@ -18,13 +18,13 @@ use Rattle.law_spelling.proofs.Texts.{rndf-to, mdf-to}
 use Rattle.law_spelling.proofs.Texts as Texts
 use Rattle.law_tables.proofs.SameTables.{room-to, room-back, mission-room-to, mission-room-back, mission-counts-same, mission-filled-same}
 use Rattle.law_tables.proofs.SameFits.{fits-to, fits-back}
-use Rattle.network_reader.specs.declared.Counts as Declared
+use Rattle.counts.specs.declared.Counts as Declared
 use Rattle.network_reader.specs.Replies as N
-use Rattle.reader.specs.declared.RndfReply.{RndfReply}
-use Rattle.reader.specs.declared.RndfReply.the-variants as Reply
-use Rattle.reader.specs.declared.PairReply.{PairReply}
-use Rattle.reader.specs.declared.PairReply.the-variants as Pair
-use Rattle.reader.specs.Replies.{most, AcceptsRndf, AcceptsMdf, rows-used, network-file, mission-file, ReadsRndf, ReadsPair}
+use Rattle.replies.specs.declared.RndfReply.{RndfReply}
+use Rattle.replies.specs.declared.RndfReply.the-variants as Reply
+use Rattle.replies.specs.declared.PairReply.{PairReply}
+use Rattle.replies.specs.declared.PairReply.the-variants as Pair
+use Rattle.replies.specs.Replies.{most, AcceptsRndf, AcceptsMdf, rows-used, network-file, mission-file, ReadsRndf, ReadsPair}
 use Rattle.reader.proofs.Lawful.{counts-are}
 use Rattle.promises.specs.Accepted.{mission-rows-used}
 use Rattle.promises.proofs.Promises.{spelled-accepted}

@@ -20,19 +20,19 @@ use Rattle.law_tables.proofs.SameTables.{filled-same}
 use Rattle.rows.specs.declared.FileRow.{FileRow}
 use Rattle.rows.specs.declared.MissionFileRow.{MissionFileRow}
 use Rattle.rows.specs.Name.{nameOf}
-use Rattle.network_reader.specs.declared.Counts.{Counts}
-use Rattle.mission_reader.specs.declared.MissionCounts.{MissionCounts}
-use Rattle.reader.specs.declared.RndfReply.{RndfReply}
-use Rattle.reader.specs.declared.RndfReply.the-variants as Reply
-use Rattle.reader.specs.declared.PairReply.{PairReply}
-use Rattle.reader.specs.declared.PairReply.the-variants as Pair
-use Rattle.reader.specs.Replies.{most, AcceptsRndf, AcceptsMdf, stretch, rows-used, network-file, mission-file, ReadsRndf, ReadsPair}
-use Rattle.writer.specs.declared.WriteReply.{WriteReply}
-use Rattle.writer.specs.declared.WriteReply.the-variants as Write
-use Rattle.writer.specs.declared.WriteMdfReply.{WriteMdfReply}
-use Rattle.writer.specs.declared.WriteMdfReply.the-variants as WriteMdf
-use Rattle.writer.specs.Writes.{WritesRndf, WritesMdf}
-use Rattle.writer.specs.Writes as W
+use Rattle.counts.specs.declared.Counts.{Counts}
+use Rattle.counts.specs.declared.MissionCounts.{MissionCounts}
+use Rattle.replies.specs.declared.RndfReply.{RndfReply}
+use Rattle.replies.specs.declared.RndfReply.the-variants as Reply
+use Rattle.replies.specs.declared.PairReply.{PairReply}
+use Rattle.replies.specs.declared.PairReply.the-variants as Pair
+use Rattle.replies.specs.Replies.{most, AcceptsRndf, AcceptsMdf, stretch, rows-used, network-file, mission-file, ReadsRndf, ReadsPair}
+use Rattle.writings.specs.declared.WriteReply.{WriteReply}
+use Rattle.writings.specs.declared.WriteReply.the-variants as Write
+use Rattle.writings.specs.declared.WriteMdfReply.{WriteMdfReply}
+use Rattle.writings.specs.declared.WriteMdfReply.the-variants as WriteMdf
+use Rattle.writings.specs.Writes.{WritesRndf, WritesMdf}
+use Rattle.writings.specs.Writes as W
 use Rattle.writer.proofs.Steps.{wrote-or-not, mdf-wrote-or-not}
 use Rattle.promises.specs.Accepted.{name-bytes, Asked, Meant}
 use Rattle.promises.proofs.Forms.{one-spelled, one-mission}

@@ -17,16 +17,16 @@ use Rattle.rows.specs.declared.FileRow.{FileRow}
 use Rattle.rows.specs.declared.MissionFileRow.{MissionFileRow}
 use Rattle.table_words.specs.Words.{Lent, MissionLent, HasRoom, MissionHasRoom}
 use Rattle.table_words.specs.FileRows as Rows
-use Rattle.network_reader.specs.declared.Counts.{Counts}
+use Rattle.counts.specs.declared.Counts.{Counts}
 use Rattle.network_reader.specs.Replies.{rows-used, AcceptsRndf}
-use Rattle.mission_reader.specs.declared.MissionCounts.{MissionCounts}
+use Rattle.counts.specs.declared.MissionCounts.{MissionCounts}
 use Rattle.mission_reader.specs.MissionReplies.{AcceptsMdf}
 use Rattle.mission_reader.specs.MissionReplies as M
-use Rattle.reader.specs.declared.RndfReply.{RndfReply}
-use Rattle.reader.specs.declared.RndfReply.the-variants as Reply
-use Rattle.reader.specs.declared.PairReply.{PairReply}
-use Rattle.reader.specs.declared.PairReply.the-variants as Pair
-use Rattle.reader.specs.Replies.{ReadsRndf, ReadsPair}
+use Rattle.replies.specs.declared.RndfReply.{RndfReply}
+use Rattle.replies.specs.declared.RndfReply.the-variants as Reply
+use Rattle.replies.specs.declared.PairReply.{PairReply}
+use Rattle.replies.specs.declared.PairReply.the-variants as Pair
+use Rattle.replies.specs.Replies.{ReadsRndf, ReadsPair}
 use Rattle.output.specs.Output.{zeros, Fits, filled}
 use Rattle.house_text.specs.HouseText.{house-rndf, house-mdf}
 use Rattle.house_text.proofs.References.{sizes-alike, mission-sizes-alike}
@@ -35,11 +35,11 @@ use Rattle.same.specs.Same.{SameNetwork}
 use Rattle.return_trip.specs.ByStatements.{RndfReturns, MdfReturns}
 use Rattle.return_trip.proofs.ByStatements.{rndf-returns-in, mdf-returns}
 use Rattle.law_spelling.proofs.Texts.{rndf-to, mdf-to}
-use Rattle.writer.specs.declared.WriteReply.{WriteReply}
-use Rattle.writer.specs.declared.WriteReply.the-variants as Write
-use Rattle.writer.specs.declared.WriteMdfReply.{WriteMdfReply}
-use Rattle.writer.specs.declared.WriteMdfReply.the-variants as WriteMdf
-use Rattle.writer.specs.Writes.{WritesRndf, WritesMdf}
+use Rattle.writings.specs.declared.WriteReply.{WriteReply}
+use Rattle.writings.specs.declared.WriteReply.the-variants as Write
+use Rattle.writings.specs.declared.WriteMdfReply.{WriteMdfReply}
+use Rattle.writings.specs.declared.WriteMdfReply.the-variants as WriteMdf
+use Rattle.writings.specs.Writes.{WritesRndf, WritesMdf}
 use Rattle.writer.specs.ByStatements as W
 use Rattle.writer.proofs.Lawful.{rndf-writes-back, mdf-writes-back}
 use Rattle.return_trip.specs.ReadBack.{RoomFor, MissionRoomFor, RndfReadBack, PairReadBack}

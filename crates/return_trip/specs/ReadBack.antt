@@ -7,12 +7,12 @@ use Rattle.law.specs.Short.{SpellsRndf, SpellsMdf}
 use Rattle.rows.specs.declared.FileRow.{FileRow}
 use Rattle.rows.specs.declared.MissionFileRow.{MissionFileRow}
 use Rattle.law.specs.Tables.{Lent, MissionLent}
-use Rattle.network_reader.specs.declared.Counts.{Counts}
-use Rattle.mission_reader.specs.declared.MissionCounts.{MissionCounts}
-use Rattle.reader.specs.declared.RndfReply.{RndfReply}
-use Rattle.reader.specs.declared.RndfReply.the-variants as Reply
-use Rattle.reader.specs.declared.PairReply.{PairReply}
-use Rattle.reader.specs.declared.PairReply.the-variants as Pair
+use Rattle.counts.specs.declared.Counts.{Counts}
+use Rattle.counts.specs.declared.MissionCounts.{MissionCounts}
+use Rattle.replies.specs.declared.RndfReply.{RndfReply}
+use Rattle.replies.specs.declared.RndfReply.the-variants as Reply
+use Rattle.replies.specs.declared.PairReply.{PairReply}
+use Rattle.replies.specs.declared.PairReply.the-variants as Pair
 use Rattle.same.specs.Same.{SameNetwork, SameMission}
 
 -- lent tables with room for so many rows as were replied

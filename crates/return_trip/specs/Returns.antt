@@ -4,7 +4,7 @@ use Rattle.line.specs.Line.{Field}
 use Rattle.law.specs.Network.{Network, Mission}
 use Rattle.law.specs.Tables.{Lent, MissionLent}
 use Rattle.same.specs.Same.{SameNetwork, SameMission}
-use Rattle.reader.specs.Replies.{AcceptsRndf, AcceptsMdf}
+use Rattle.replies.specs.Replies.{AcceptsRndf, AcceptsMdf}
 
 -- an RNDF alone: these bytes are accepted in these tables, and spell the same network again
 pub record RndfReturns (n : Network Field) (house : Bytes) (t : Lent) : Type 0 where

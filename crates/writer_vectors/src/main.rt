@@ -5,17 +5,17 @@
 // Printed are the label; the reply (the rows used, each file's own row and the bytes written, or file, line and number); of the segments, the points
 // and, behind an MDF, the limits how many words there are up to the last that is not zero; and of the output the same, and these bytes.
 // The file `stdout` was not copied from a run: the oracle in tests/oracle, written from document 01 alone, wrote it (tests/writer_vectors.py).
+use counts::Counts;
+use counts::MissionCounts;
 use libc::STDOUT_FILENO;
-use mission_reader::MissionCounts;
-use network_reader::Counts;
-use reader::Refusal;
+use refusal::Refusal;
 use rows::FileRow;
 use rows::MissionFileRow;
 use rows::Stretch;
-use writer::WriteMdfReply;
-use writer::WriteReply;
 use writer::write_mdf;
 use writer::write_rndf;
+use writings::WriteMdfReply;
+use writings::WriteReply;
 ghost use Prim.Native.Nat.{_≤_};
 ghost use lib.ListN.{length};
 

@@ -27,7 +27,7 @@ ghost use mathlib.Core.Path.{_≡_};
 ghost use lib.ListN.{length};
 ghost use Rattle.law.specs.Tables.{lent, mission-lent};
 ghost use Rattle.look_up.specs.LookUp.{PointOf};
-ghost use Rattle.yard.specs.Answers.{named, laid-out, taken, refused, rndf-answer, pair-answer, write-answer, write-mdf-answer, AnswersRndf, AnswersPair, AnswersWriteRndf, AnswersWriteMdf};
+ghost use Rattle.answer_fields.specs.Answers.{named, laid-out, taken, refused, rndf-answer, pair-answer, write-answer, write-mdf-answer, AnswersRndf, AnswersPair, AnswersWriteRndf, AnswersWriteMdf};
 
 // A name: its start and length in the lent text. A missing name is 0, 0.
 #[repr(C)]

@@ -6,10 +6,10 @@ use Rattle.terms.specs.Ascii.{Bytes}
 use Rattle.line.specs.Content.{Field}
 use Rattle.grammar.specs.Network.{Network}
 use Rattle.law.specs.Tables.{Lent, MissionLent, zeros, mission-zeros}
-use Rattle.reader.specs.declared.RndfReply.the-variants as Rndf
-use Rattle.reader.specs.declared.PairReply.the-variants as Pair
-use Rattle.reader.specs.Replies.{AcceptsRndf, RefusesRndf, RefusesMdf, refusal, refused, rndf-refused, mdf-refused}
-use Rattle.reader.proofs.Settled.{rndf-settled, pair-settled}
+use Rattle.replies.specs.declared.RndfReply.the-variants as Rndf
+use Rattle.replies.specs.declared.PairReply.the-variants as Pair
+use Rattle.replies.specs.Replies.{AcceptsRndf, RefusesRndf, RefusesMdf, refusal, refused, rndf-refused, mdf-refused}
+use Rattle.replies.proofs.Settled.{rndf-settled, pair-settled}
 use Rattle.output.specs.Pen.{pen, Wrote}
 use Rattle.output.proofs.Writing.{same}
 use Rattle.answers.specs.Answers as A

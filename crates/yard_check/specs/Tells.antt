@@ -2,9 +2,9 @@
 use Prim.Native.Nat.{ℕ}
 use Rattle.terms.specs.Ascii.{Bytes}
 use Rattle.law.specs.Tables.{Lent, MissionLent}
-use Rattle.reader.specs.declared.RndfReply.{RndfReply}
-use Rattle.reader.specs.declared.PairReply.{PairReply}
-use Rattle.reader.specs.Replies.{ReadsRndf, ReadsPair}
+use Rattle.replies.specs.declared.RndfReply.{RndfReply}
+use Rattle.replies.specs.declared.PairReply.{PairReply}
+use Rattle.replies.specs.Replies.{ReadsRndf, ReadsPair}
 use Rattle.answers.specs.Answers.{rndf-answer, pair-answer}
 use Rattle.output.specs.Pen.{pen, Wrote}
 
