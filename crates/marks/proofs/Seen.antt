@@ -6,7 +6,7 @@ use Prim.Native.Nat.{ℕ, zero, suc, pred, _-_, _<_, _≤_}
 use native.Mathlib.Omega.{arith}
 use lib.Dec.{eqb}
 use borrow.Author.Tests.{eqb-true, eqb-false, eq-eqb, ne-eqb}
-use Rattle.terms.specs.Words.{pick, Between}
+use Rattle.terms.specs.Words.{pick}
 use Rattle.terms.proofs.Tests.{clash}
 use Rattle.units.specs.Range.{largest}
 use Rattle.units.specs.Made.{within}

@@ -10,7 +10,6 @@ use lib.Dec.{ltb, leb}
 use lib.ListN.{length, getD, take, drop, length-append, List·getD-append}
 use lib.Seq.{take-all, take-append-le, getD-at}
 use borrow.Author.Tests.{ltb-true, ltb-false, leb-true, leb-false, le-leb, lt-leb}
-use Rattle.terms.specs.Words.{pick}
 use Rattle.fill.specs.FirstFaults.{Fault, fault, or-behind, first-fault, in-parts}
 use Rattle.fill.proofs.FaultLaws.{first-end, first-hit, first-step}
 use Rattle.marks.specs.Rows.{said}

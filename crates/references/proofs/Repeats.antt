@@ -1,5 +1,5 @@
 -- THE LAW of 13 over rows: over a table of given rows with checkpoint numbers the answer is the row of `fill`'s first repeat. Assumes nothing.
-use mathlib.Core.Path.{_≡_, refl, sym, ap, ap₂, _∙_}
+use mathlib.Core.Path.{_≡_, refl, ap, ap₂, _∙_}
 use mathlib.Core.List.{List, [], _∷_, _++_}
 use mathlib.Core.Bool.{Bool}
 use Prim.Native.Nat.{ℕ, _*_, _≤_}

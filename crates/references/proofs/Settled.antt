@@ -1,7 +1,7 @@
 -- No second answer: what an answer stands for tells the answer. So the contracts that read `found r ≡ ..` and `told r t ≡ ..` leave one answer. Assumes nothing.
 use mathlib.Core.Path.{_≡_, refl, sym, ap, _∙_}
 use mathlib.Core.List.{List}
-use mathlib.Core.Option.{Option, none, some}
+use mathlib.Core.Option.{Option}
 use Prim.Native.Nat.{ℕ}
 use native.Mathlib.Omega.{arith}
 use Rattle.terms.proofs.Tests.{nothing}

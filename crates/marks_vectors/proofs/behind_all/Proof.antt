@@ -1,7 +1,6 @@
 -- `marks_vectors::behind_all` is safe and ends. Assumes nothing.
 use mathlib.Core.Path.{_≡_}
 use Prim.Native.Nat.{ℕ, _≤_, _-_}
-use native.Mathlib.Omega.{arith}
 use lib.ListN.{length, length-replicate}
 use borrow.Author.Needs.{needs}
 use Rattle.marks_vectors.proofs.behind_all.Statement.{statement}

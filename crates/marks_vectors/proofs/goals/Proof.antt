@@ -1,6 +1,5 @@
 -- `marks_vectors::goals` is safe and ends. Assumes nothing.
 use Prim.Native.Nat.{_≤_, _-_}
-use native.Mathlib.Omega.{arith}
 use borrow.Author.Needs.{needs}
 use Rattle.marks_vectors.proofs.goals.Statement.{statement}
 use Rattle.marks_vectors.proofs.goals.Tie as tie
