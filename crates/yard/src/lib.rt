@@ -1,74 +1,34 @@
 // The library for C and Rust engineers: `rt staticlib yard` writes target/staticlib/libyard.a, include/kastepuhm.h declares it for C, tests/callers/caller.rs for Rust.
 // Every function here takes plain slices (C hands over a pointer, then how many elements) and numbers, requires nothing of them, keeps nothing and allocates nothing.
 //
-// specs/Answers: the fields of an answer, for each case of a reader's or writer's reply: what a reader must believe, with their own contracts (reader/specs/Replies, writer/specs/Writes,
-// look_up/specs/LookUp).
-// proofs/Settled: no second answer and no second memory satisfies them, and one does. proofs/Whole: an answer tells the whole reply.
+// The answers and the contracts are `answer_fields`, with their laws; what a reader must believe beside them: replies/specs/Replies, writings/specs/Writes, look_up/specs/LookUp.
 //
 // Left out: asking for a name (`rows::name_of`), since a part of a slice cannot be returned to C. There a name is `text + start` for `length` bytes.
 //
-// Rests on `reader`, `writer`, `look_up` and what they rest on.
+// Rests on `answer_fields`, `reader`, `writer`, `look_up` and what they rest on.
+use answer_fields::Answer;
+use answer_fields::Name;
+use answer_fields::WriteAnswer;
+use counts::Counts;
+use counts::MissionCounts;
 use look_up::point_of_word;
-use mission_reader::MissionCounts;
-use network_reader::Counts;
-use reader::PairReply;
-use reader::Refusal;
-use reader::RndfReply;
 use reader::read_pair;
 use reader::read_rndf;
+use refusal::Refusal;
+use replies::PairReply;
+use replies::RndfReply;
 use rows::FileRow;
 use rows::MissionFileRow;
 use rows::Stretch;
-use writer::WriteMdfReply;
-use writer::WriteReply;
 use writer::write_mdf;
 use writer::write_rndf;
+use writings::WriteMdfReply;
+use writings::WriteReply;
 ghost use mathlib.Core.Path.{_≡_};
 ghost use lib.ListN.{length};
 ghost use Rattle.law.specs.Tables.{lent, mission-lent};
 ghost use Rattle.look_up.specs.LookUp.{PointOf};
 ghost use Rattle.answer_fields.specs.Answers.{named, laid-out, taken, refused, rndf-answer, pair-answer, write-answer, write-mdf-answer, AnswersRndf, AnswersPair, AnswersWriteRndf, AnswersWriteMdf};
-
-// A name: its start and length in the lent text. A missing name is 0, 0.
-#[repr(C)]
-pub struct Name {
-    pub start: u32,
-    pub length: u32,
-}
-
-// accepted is 1 or 0. Where it is 0, file, line and number are the refusal's and all else is 0; where it is 1, they are 0.
-// Where no MDF was read, its fields are 0.
-#[repr(C)]
-pub struct Answer {
-    pub accepted: u32,
-    pub file: u32,
-    pub line: u32,
-    pub number: u32,
-    pub segments: u32,
-    pub lanes: u32,
-    pub zones: u32,
-    pub spots: u32,
-    pub points: u32,
-    pub checkpoints: u32,
-    pub stops: u32,
-    pub exits: u32,
-    pub goals: u32,
-    pub limits: u32,
-    pub rndf_name: Name,
-    pub rndf_version: Name,
-    pub rndf_date: Name,
-    pub mdf_name: Name,
-    pub mdf_rndf: Name,
-    pub mdf_version: Name,
-    pub mdf_date: Name,
-}
-
-// What a writer answers: as the reader of these texts, or 19; and how many bytes it wrote, 0 where it refused.
-#[repr(C)]
-pub struct WriteAnswer {
-    pub answer: Answer,
-    pub length: u32,
-}
 
 fn named(s: Stretch) -> Name
     ensures { λ r. ⌜ r ≡ named s ⌝ }
