@@ -28,6 +28,7 @@ pub fn point_of_word(checkpoints: &[u32], wanted: u32) -> u32
     NO_POINT
 }
 
+// For callers in Rattle, who have the number as its own kind.
 pub fn point_of(checkpoints: &[u32], number: CheckpointNumber) -> u32
     ensures { λ r. ⌜ PointOf (now (checkpoints .entry)) (number .0) r ⌝ }
 {
