@@ -19,6 +19,8 @@ use number::triple_of;
 use statement::Id;
 use statement::Order;
 use statement::Statement;
+use statement::kinds;
+use statement::orders;
 use word::boundary_word;
 ghost use mathlib.Core.Path.{_≡_};
 ghost use Prim.Native.Nat.{_<_, _+_};
@@ -83,11 +85,11 @@ fn bare(kind: u8) -> Statement
     ensures { λ r. ⌜ r ≡ bareOf kind ⌝ }
 {
     match kind {
-        8 => Statement::EndSegment,
-        17 => Statement::EndLane,
-        21 => Statement::EndZone,
-        24 => Statement::EndPerimeter,
-        27 => Statement::EndSpot,
+        kinds::END_SEGMENT => Statement::EndSegment,
+        kinds::END_LANE => Statement::EndLane,
+        kinds::END_ZONE => Statement::EndZone,
+        kinds::END_PERIMETER => Statement::EndPerimeter,
+        kinds::END_SPOT => Statement::EndSpot,
         _ => Statement::EndFile,
     }
 }
@@ -96,10 +98,10 @@ fn named(kind: u8, start: u32, length: u32) -> Statement
     ensures { λ r. ⌜ r ≡ namedOf kind start length ⌝ }
 {
     match kind {
-        0 => Statement::RndfName(start, length),
-        3 => Statement::FormatVersion(start, length),
-        4 => Statement::CreationDate(start, length),
-        7 => Statement::SegmentName(start, length),
+        kinds::RNDF_NAME => Statement::RndfName(start, length),
+        kinds::FORMAT_VERSION => Statement::FormatVersion(start, length),
+        kinds::CREATION_DATE => Statement::CreationDate(start, length),
+        kinds::SEGMENT_NAME => Statement::SegmentName(start, length),
         _ => Statement::ZoneName(start, length),
     }
 }
@@ -108,15 +110,15 @@ fn numbered(kind: u8, n: u32) -> Statement
     ensures { λ r. ⌜ r ≡ numberedOf kind n ⌝ }
 {
     match kind {
-        1 => Statement::NumSegments(n),
-        2 => Statement::NumZones(n),
-        5 => Statement::Segment(n),
-        6 => Statement::NumLanes(n),
-        10 => Statement::NumWaypoints(n),
-        11 => Statement::LaneWidth(n),
-        18 => Statement::Zone(n),
-        19 => Statement::NumSpots(n),
-        23 => Statement::NumPerimeterpoints(n),
+        kinds::NUM_SEGMENTS => Statement::NumSegments(n),
+        kinds::NUM_ZONES => Statement::NumZones(n),
+        kinds::SEGMENT => Statement::Segment(n),
+        kinds::NUM_LANES => Statement::NumLanes(n),
+        kinds::NUM_WAYPOINTS => Statement::NumWaypoints(n),
+        kinds::LANE_WIDTH => Statement::LaneWidth(n),
+        kinds::ZONE => Statement::Zone(n),
+        kinds::NUM_SPOTS => Statement::NumSpots(n),
+        kinds::NUM_PERIMETERPOINTS => Statement::NumPerimeterpoints(n),
         _ => Statement::SpotWidth(n),
     }
 }
@@ -125,8 +127,8 @@ fn paired(kind: u8, m: u32, n: u32) -> Statement
     ensures { λ r. ⌜ r ≡ pairedOf kind m n ⌝ }
 {
     match kind {
-        9 => Statement::Lane(m, n),
-        22 => Statement::Perimeter(m, n),
+        kinds::LANE => Statement::Lane(m, n),
+        kinds::PERIMETER => Statement::Perimeter(m, n),
         _ => Statement::Spot(m, n),
     }
 }
@@ -364,10 +366,10 @@ fn bare_order(kind: u8) -> Order
     ensures { λ r. ⌜ r ≡ bareOrder kind ⌝ }
 {
     match kind {
-        4 => Order::Checkpoints,
-        6 => Order::EndCheckpoints,
-        7 => Order::SpeedLimits,
-        9 => Order::EndSpeedLimits,
+        orders::CHECKPOINTS => Order::Checkpoints,
+        orders::END_CHECKPOINTS => Order::EndCheckpoints,
+        orders::SPEED_LIMITS => Order::SpeedLimits,
+        orders::END_SPEED_LIMITS => Order::EndSpeedLimits,
         _ => Order::EndFile,
     }
 }
@@ -376,9 +378,9 @@ fn named_order(kind: u8, start: u32, length: u32) -> Order
     ensures { λ r. ⌜ r ≡ namedOrder kind start length ⌝ }
 {
     match kind {
-        0 => Order::MdfName(start, length),
-        1 => Order::Rndf(start, length),
-        2 => Order::FormatVersion(start, length),
+        orders::MDF_NAME => Order::MdfName(start, length),
+        orders::RNDF => Order::Rndf(start, length),
+        orders::FORMAT_VERSION => Order::FormatVersion(start, length),
         _ => Order::CreationDate(start, length),
     }
 }
@@ -387,8 +389,8 @@ fn numbered_order(kind: u8, n: u32) -> Order
     ensures { λ r. ⌜ r ≡ numberedOrder kind n ⌝ }
 {
     match kind {
-        5 => Order::NumCheckpoints(n),
-        8 => Order::NumSpeedLimits(n),
+        orders::NUM_CHECKPOINTS => Order::NumCheckpoints(n),
+        orders::NUM_SPEED_LIMITS => Order::NumSpeedLimits(n),
         _ => Order::Goal(n),
     }
 }

@@ -30,6 +30,7 @@ use rows::Stretch;
 use rows::clear;
 use rows::name_of;
 use scan::same;
+use statement::orders;
 ghost use mathlib.Core.Path.{_≡_};
 ghost use Rattle.mission.specs.Storing.{memory};
 ghost use Rattle.mission_reader.specs.MissionReading.{rndf-of, room, sameName, limitsFault, referOf, answeredOf, judgedOf, outcome, missionOf};
@@ -39,15 +40,6 @@ pub enum MissionReply {
     Accepted(MissionCounts, MissionFileRow),
     Refused(Fault),
 }
-
-// The columns of the statements that 14 to 18 are found at.
-const RNDF: u8 = 1;
-
-const END_SPEED_LIMITS: u8 = 9;
-
-const GOAL: u8 = 11;
-
-const LIMIT: u8 = 12;
 
 // 14: is the name that the MDF gives the RNDF's, byte for byte?
 fn same_name(rndf: &[u8], name: Stretch, mdf: &[u8], given: Stretch) -> bool
@@ -63,11 +55,11 @@ fn limits_fault(mdf: &[u8], limits: &[u32], limit_count: u32, parts: u32) -> Ref
     let bad = first_bad_limit(limits, limit_count, parts);
     match bad {
         BadLimit::NotThere(row) => References::Wrong(Fault {
-            line: mdf_line(mdf, LIMIT, row),
+            line: mdf_line(mdf, orders::LIMIT, row),
             number: 16,
         }),
         BadLimit::Again(row) => References::Wrong(Fault {
-            line: mdf_line(mdf, LIMIT, row),
+            line: mdf_line(mdf, orders::LIMIT, row),
             number: 17,
         }),
         BadLimit::Nothing => {
@@ -75,7 +67,7 @@ fn limits_fault(mdf: &[u8], limits: &[u32], limit_count: u32, parts: u32) -> Ref
                 References::Right
             } else {
                 References::Wrong(Fault {
-                    line: mdf_line(mdf, END_SPEED_LIMITS, 0),
+                    line: mdf_line(mdf, orders::END_SPEED_LIMITS, 0),
                     number: 18,
                 })
             }
@@ -101,14 +93,14 @@ fn refer(
         let foreign = first_foreign_goal(checkpoints, checkpoint_count, goals, gained.goals);
         match foreign {
             FirstRow::At(row) => References::Wrong(Fault {
-                line: mdf_line(mdf, GOAL, row),
+                line: mdf_line(mdf, orders::GOAL, row),
                 number: 15,
             }),
             FirstRow::Nothing => limits_fault(mdf, limits, gained.limits, parts),
         }
     } else {
         References::Wrong(Fault {
-            line: mdf_line(mdf, RNDF, 0),
+            line: mdf_line(mdf, orders::RNDF, 0),
             number: 14,
         })
     }

@@ -27,6 +27,7 @@ use rows::SEGMENT_STRIDE;
 use rows::SPOT_STRIDE;
 use rows::STOP_STRIDE;
 use rows::ZONE_STRIDE;
+use statement::kinds;
 ghost use mathlib.Core.Path.{_≡_};
 ghost use Rattle.network.specs.Storing.{memory};
 ghost use Rattle.law.specs.Tables.{lent};
@@ -38,21 +39,16 @@ pub enum NetworkReply {
     Refused(Fault),
 }
 
-// The columns of the statements that 12 and 13 are found at.
-const CHECKPOINT: u8 = 14;
-
-const EXIT: u8 = 16;
-
 // 12 or 13, whichever stands on the earlier line.
 fn fault_line(text: &[u8], undeclared: FirstRow, repeated: FirstRow) -> References
     ensures { λ r. ⌜ r ≡ faultLine (now (text .entry)) undeclared repeated ⌝ }
 {
     match undeclared {
         FirstRow::At(e) => {
-            let exit_line = rndf_line(text, EXIT, e);
+            let exit_line = rndf_line(text, kinds::EXIT, e);
             match repeated {
                 FirstRow::At(k) => {
-                    let checkpoint_line = rndf_line(text, CHECKPOINT, k);
+                    let checkpoint_line = rndf_line(text, kinds::CHECKPOINT, k);
                     if exit_line < checkpoint_line {
                         References::Wrong(Fault {
                             line: exit_line,
@@ -73,7 +69,7 @@ fn fault_line(text: &[u8], undeclared: FirstRow, repeated: FirstRow) -> Referenc
         }
         FirstRow::Nothing => match repeated {
             FirstRow::At(k) => References::Wrong(Fault {
-                line: rndf_line(text, CHECKPOINT, k),
+                line: rndf_line(text, kinds::CHECKPOINT, k),
                 number: 13,
             }),
             FirstRow::Nothing => References::Right,
