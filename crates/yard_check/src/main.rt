@@ -5,7 +5,7 @@
 // bytes are the file's, and that the output is what is printed, no contract can say.
 //
 // Memory: there is no heap, a program can't raise its stack, and the usual stack has 8 MiB. So a text may have 1,048,576 bytes, and every table has the
-// rows that a text of so many bytes can fill: 11 never comes of it. A larger file is too big for this program; of an RNDF over 16,777,215 bytes the
+// rows that a text of so many bytes can fill, so 11 should never come of it (counted by hand below, not proved; if it came, it would be told). A larger file is too big for this program; of an RNDF over 16,777,215 bytes the
 // readers' answer is known without them: 1. (An MDF's 1 would come behind everything about the RNDF.)
 use answers::put_pair_answer;
 use answers::put_rndf_answer;
@@ -54,14 +54,14 @@ fn tell_rndf(
     out: &mut [u8],
     name: &[u8],
     text: &[u8],
-    segments: &mut [u32],
-    lanes: &mut [u32],
-    zones: &mut [u32],
-    spots: &mut [u32],
-    points: &mut [i32],
-    checkpoints: &mut [u32],
-    stops: &mut [u32],
-    exits: &mut [u32],
+    segments: &mut [u32; SEGMENT_WORDS],
+    lanes: &mut [u32; LANE_WORDS],
+    zones: &mut [u32; ZONE_WORDS],
+    spots: &mut [u32; SPOT_WORDS],
+    points: &mut [i32; POINT_WORDS],
+    checkpoints: &mut [u32; CHECKPOINT_WORDS],
+    stops: &mut [u32; STOP_WORDS],
+    exits: &mut [u32; EXIT_WORDS],
 ) -> usize
     ensures { λ r. ⌜ TellsRndf (now (name .entry)) (now (text .entry)) (lent (now (segments .entry)) (now (lanes .entry)) (now (zones .entry)) (now (spots .entry)) (now (points .entry)) (now (checkpoints .entry)) (now (stops .entry)) (now (exits .entry))) (lent (now (segments .exit)) (now (lanes .exit)) (now (zones .exit)) (now (spots .exit)) (now (points .exit)) (now (checkpoints .exit)) (now (stops .exit)) (now (exits .exit))) (now (out .entry)) (now (out .exit)) r ⌝ }
 {
@@ -86,16 +86,16 @@ fn tell_pair(
     mdf_name: &[u8],
     rndf: &[u8],
     mdf: &[u8],
-    segments: &mut [u32],
-    lanes: &mut [u32],
-    zones: &mut [u32],
-    spots: &mut [u32],
-    points: &mut [i32],
-    checkpoints: &mut [u32],
-    stops: &mut [u32],
-    exits: &mut [u32],
-    goals: &mut [u32],
-    limits: &mut [u32],
+    segments: &mut [u32; SEGMENT_WORDS],
+    lanes: &mut [u32; LANE_WORDS],
+    zones: &mut [u32; ZONE_WORDS],
+    spots: &mut [u32; SPOT_WORDS],
+    points: &mut [i32; POINT_WORDS],
+    checkpoints: &mut [u32; CHECKPOINT_WORDS],
+    stops: &mut [u32; STOP_WORDS],
+    exits: &mut [u32; EXIT_WORDS],
+    goals: &mut [u32; GOAL_WORDS],
+    limits: &mut [u32; LIMIT_WORDS],
 ) -> usize
     ensures { λ r. ⌜ TellsPair (now («rndf_name» .entry)) (now («mdf_name» .entry)) (now (rndf .entry)) (now (mdf .entry)) (lent (now (segments .entry)) (now (lanes .entry)) (now (zones .entry)) (now (spots .entry)) (now (points .entry)) (now (checkpoints .entry)) (now (stops .entry)) (now (exits .entry))) (mission-lent (now (goals .entry)) (now (limits .entry))) (lent (now (segments .exit)) (now (lanes .exit)) (now (zones .exit)) (now (spots .exit)) (now (points .exit)) (now (checkpoints .exit)) (now (stops .exit)) (now (exits .exit))) (mission-lent (now (goals .exit)) (now (limits .exit))) (now (out .entry)) (now (out .exit)) r ⌝ }
 {

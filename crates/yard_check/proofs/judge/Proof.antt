@@ -21,41 +21,11 @@ slice-aggregate-tell-pair c = sym (length-replicate {0} {A = ℕ} 8704 0)
 first-requires : tie.Need-first-requires
 first-requires c κs = tt
 
-slice-aggregate-tell-pair-2 : tie.Need-slice-aggregate-tell-pair-2
-slice-aggregate-tell-pair-2 c = sym (length-replicate {0} {A = ℕ} 45592 0)
-
-slice-aggregate-tell-pair-3 : tie.Need-slice-aggregate-tell-pair-3
-slice-aggregate-tell-pair-3 c = sym (length-replicate {0} {A = ℕ} 90395 0)
-
-slice-aggregate-tell-pair-4 : tie.Need-slice-aggregate-tell-pair-4
-slice-aggregate-tell-pair-4 c = sym (length-replicate {0} {A = ℕ} 61686 0)
-
-slice-aggregate-tell-pair-5 : tie.Need-slice-aggregate-tell-pair-5
-slice-aggregate-tell-pair-5 c = sym (length-replicate {0} {A = ℕ} 31776 0)
-
-slice-aggregate-tell-pair-6 : tie.Need-slice-aggregate-tell-pair-6
-slice-aggregate-tell-pair-6 c = sym (length-replicate {0} {A = ℤ} 87382 (pos 0))
-
-slice-aggregate-tell-pair-7 : tie.Need-slice-aggregate-tell-pair-7
-slice-aggregate-tell-pair-7 c = sym (length-replicate {0} {A = ℕ} 110378 0)
-
-slice-aggregate-tell-pair-8 : tie.Need-slice-aggregate-tell-pair-8
-slice-aggregate-tell-pair-8 c = sym (length-replicate {0} {A = ℕ} 95326 0)
-
-slice-aggregate-tell-pair-9 : tie.Need-slice-aggregate-tell-pair-9
-slice-aggregate-tell-pair-9 c = sym (length-replicate {0} {A = ℕ} 123362 0)
-
-slice-aggregate-tell-pair-10 : tie.Need-slice-aggregate-tell-pair-10
-slice-aggregate-tell-pair-10 c = sym (length-replicate {0} {A = ℕ} 32768 0)
-
-slice-aggregate-tell-pair-11 : tie.Need-slice-aggregate-tell-pair-11
-slice-aggregate-tell-pair-11 c = sym (length-replicate {0} {A = ℕ} 98304 0)
-
 tell-pair-requires : tie.Need-tell-pair-requires
 tell-pair-requires c κs = tt
 
 slice-aggregate-first : tie.Need-slice-aggregate-first
-slice-aggregate-first c = sym (c .before .before .before .before .before .before .before .before .before .before .before .before .tell-pair .kept .0 ∙ length-replicate {0} {A = ℕ} 8704 0)
+slice-aggregate-first c = sym (c .before .before .tell-pair .kept .0 ∙ length-replicate {0} {A = ℕ} 8704 0)
 
 first-requires-2 : tie.Need-first-requires-2
 first-requires-2 c κs = tt
@@ -66,35 +36,11 @@ say-requires c κs = tt
 slice-aggregate-tell-rndf : tie.Need-slice-aggregate-tell-rndf
 slice-aggregate-tell-rndf c = sym (length-replicate {0} {A = ℕ} 8704 0)
 
-slice-aggregate-tell-rndf-2 : tie.Need-slice-aggregate-tell-rndf-2
-slice-aggregate-tell-rndf-2 c = sym (length-replicate {0} {A = ℕ} 45592 0)
-
-slice-aggregate-tell-rndf-3 : tie.Need-slice-aggregate-tell-rndf-3
-slice-aggregate-tell-rndf-3 c = sym (length-replicate {0} {A = ℕ} 90395 0)
-
-slice-aggregate-tell-rndf-4 : tie.Need-slice-aggregate-tell-rndf-4
-slice-aggregate-tell-rndf-4 c = sym (length-replicate {0} {A = ℕ} 61686 0)
-
-slice-aggregate-tell-rndf-5 : tie.Need-slice-aggregate-tell-rndf-5
-slice-aggregate-tell-rndf-5 c = sym (length-replicate {0} {A = ℕ} 31776 0)
-
-slice-aggregate-tell-rndf-6 : tie.Need-slice-aggregate-tell-rndf-6
-slice-aggregate-tell-rndf-6 c = sym (length-replicate {0} {A = ℤ} 87382 (pos 0))
-
-slice-aggregate-tell-rndf-7 : tie.Need-slice-aggregate-tell-rndf-7
-slice-aggregate-tell-rndf-7 c = sym (length-replicate {0} {A = ℕ} 110378 0)
-
-slice-aggregate-tell-rndf-8 : tie.Need-slice-aggregate-tell-rndf-8
-slice-aggregate-tell-rndf-8 c = sym (length-replicate {0} {A = ℕ} 95326 0)
-
-slice-aggregate-tell-rndf-9 : tie.Need-slice-aggregate-tell-rndf-9
-slice-aggregate-tell-rndf-9 c = sym (length-replicate {0} {A = ℕ} 123362 0)
-
 tell-rndf-requires : tie.Need-tell-rndf-requires
 tell-rndf-requires c κs = tt
 
 slice-aggregate-first-2 : tie.Need-slice-aggregate-first-2
-slice-aggregate-first-2 c = sym (c .before .before .before .before .before .before .before .before .before .before .tell-rndf .kept .0 ∙ length-replicate {0} {A = ℕ} 8704 0)
+slice-aggregate-first-2 c = sym (c .before .before .tell-rndf .kept .0 ∙ length-replicate {0} {A = ℕ} 8704 0)
 
 first-requires-3 : tie.Need-first-requires-3
 first-requires-3 c κs = tt
@@ -115,29 +61,11 @@ judge-spec =
     enum-known-loaded
     slice-aggregate-tell-pair
     first-requires
-    slice-aggregate-tell-pair-2
-    slice-aggregate-tell-pair-3
-    slice-aggregate-tell-pair-4
-    slice-aggregate-tell-pair-5
-    slice-aggregate-tell-pair-6
-    slice-aggregate-tell-pair-7
-    slice-aggregate-tell-pair-8
-    slice-aggregate-tell-pair-9
-    slice-aggregate-tell-pair-10
-    slice-aggregate-tell-pair-11
     tell-pair-requires
     slice-aggregate-first
     first-requires-2
     say-requires
     slice-aggregate-tell-rndf
-    slice-aggregate-tell-rndf-2
-    slice-aggregate-tell-rndf-3
-    slice-aggregate-tell-rndf-4
-    slice-aggregate-tell-rndf-5
-    slice-aggregate-tell-rndf-6
-    slice-aggregate-tell-rndf-7
-    slice-aggregate-tell-rndf-8
-    slice-aggregate-tell-rndf-9
     tell-rndf-requires
     slice-aggregate-first-2
     first-requires-3
