@@ -6,24 +6,30 @@
 # times (ours by theirs; best of several runs), the stack that each wrote, and whether a byte takes longer in a long text than in a short one. All replies and tables have to be the
 # same; else it fails. BENCH_SECONDS (0.5) is the time for each text and reader; all sizes take half a minute, with as much memory as 600 MB.
 #
-# Both readers are x86-64 code, built for any such processor. Needs a C compiler (Debian: gcc). On Arm: gcc-x86-64-linux-gnu, and the kit's emulator runs both; there the ratios alone
-# mean something.
+# Both readers are built for any x86-64 processor; on Arm for this machine, ours from the code that the kit makes of the library (bench/arm-library.sh; --built does not go there).
+# Needs a C compiler (Debian: gcc).
 set -eu
 root=$(cd "$(dirname "$0")/.." && pwd -P)
 here=$root/bench
-if [ "${1:-}" = --built ]; then shift; else (cd "$root" && rt staticlib yard) >&2; fi
-library=$root/target/staticlib/libyard.a
-[ -f "$library" ] || { echo "bench/run.sh: $library is not built" >&2; exit 2; }
-[ $# -gt 0 ] || set -- 65536 1048576 16777215
 work=$(mktemp -d)
 trap 'rm -rf "$work"' EXIT
-
 . "$root/tests/need.sh"
-find_compiler
-[ -z "$emulator" ] || echo "emulated: only the ratios mean something"
+if [ "$(uname -m)" = x86_64 ]; then
+    if [ "${1:-}" = --built ]; then shift; else (cd "$root" && rt staticlib yard) >&2; fi
+    find_compiler
+    library=$root/target/staticlib/libyard.a
+    [ -f "$library" ] || { echo "bench/run.sh: $library is not built" >&2; exit 2; }
+else
+    [ "${1:-}" != --built ] || shift
+    need gcc gcc
+    compiler=gcc
+    library=$work/yard.o
+    "$here/arm-library.sh" "$library"
+fi
+[ $# -gt 0 ] || set -- 65536 1048576 16777215
 
 compile() { "$compiler" -std=c11 -O2 -Wall -Wextra -I"$root/include" "$@"; }
 compile -c "$here/creader/creader.c" -o "$work/creader.o"
 compile -DCR_NO_SHORTCUTS -Dread_rndf=plain_read_rndf -Dread_pair=plain_read_pair -c "$here/creader/creader.c" -o "$work/plain.o"
 compile -static "$here/bench.c" "$here/texts.c" "$work/creader.o" "$work/plain.o" "$library" -o "$work/bench"
-${emulator:+"$emulator"} "$work/bench" "${BENCH_SECONDS:-0.5}" "$@"
+"$work/bench" "${BENCH_SECONDS:-0.5}" "$@"

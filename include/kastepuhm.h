@@ -4,7 +4,7 @@
  *     rt staticlib yard
  *     cc -std=c11 -Iinclude yours.c target/staticlib/libyard.a
  *
- * The library needs nothing else but memset and perhaps memcpy of the C library, which any C program links anyway (`nm -u target/staticlib/libyard.a` lists what it leaves open);
+ * The library needs nothing else but memset of the C library, which any C program links anyway (`nm -u target/staticlib/libyard.a` lists what it leaves open);
  * a program without a C library has to bring its own. tests/callers/caller.c is a whole caller, tests/callers/caller.rs the same in Rust; tests/callers.sh builds and runs both. The header and the library belong together: build both from the same commit.
  *
  * What it does
