@@ -73,8 +73,9 @@ fn load_open(fd: i32, text: &mut [u8]) -> Loaded {
     }
 }
 
-fn load(path: &[u8], text: &mut [u8]) -> Loaded {
-    let fd = os::open_read(path);
+// An open file, or -1. It is opened where this is called, at two places: `os::open_read` called here alone would be compiled into this function, with two copies of the path of
+// 4,096 bytes each.
+fn load(fd: i32, text: &mut [u8]) -> Loaded {
     if fd < 0 {
         return Loaded::NoFile;
     }
@@ -117,7 +118,7 @@ fn summarise(rndf: &[u8], mdf: &[u8]) {
 
 fn with_network(rndf: &[u8]) {
     let mut mission = [0u8; MOST_BYTES];
-    let loaded = load(b"mission.mdf", &mut mission);
+    let loaded = load(os::open_read(b"mission.mdf"), &mut mission);
     match loaded {
         Loaded::Bytes(n) => summarise(rndf, first(&mission, n)),
         Loaded::TooBig => put(b"file too big\n"),
@@ -127,7 +128,7 @@ fn with_network(rndf: &[u8]) {
 
 fn main() {
     let mut network = [0u8; MOST_BYTES];
-    let loaded = load(b"network.rndf", &mut network);
+    let loaded = load(os::open_read(b"network.rndf"), &mut network);
     match loaded {
         Loaded::Bytes(n) => with_network(first(&network, n)),
         Loaded::TooBig => put(b"file too big\n"),
