@@ -2,7 +2,7 @@
 use mathlib.Core.Path.{_≡_, refl, sym, ap, subst, _∙_}
 use mathlib.Core.List.{List, [], _∷_, _++_, append-assoc, append-nil}
 use mathlib.Core.Bool.{Bool, true, false, not}
-use Prim.Native.Nat.{ℕ, zero, suc, pred, _-_, _<_, _≤_}
+use Prim.Native.Nat.{ℕ, zero, suc, pred, _-_, _*_, _<_, _≤_}
 use native.Mathlib.Omega.{arith}
 use lib.Dec.{eqb}
 use borrow.Author.Tests.{eqb-true, eqb-false, eq-eqb, ne-eqb}
@@ -45,12 +45,12 @@ same-place (suc i) (suc j) l h = go (eqb i j) refl
     go true q = sym (eq-eqb (suc i) (suc j) (ap suc (eqb-true i j q)))
     go false q = let n = eqb-false i j q in sym (ne-eqb (suc i) (suc j) (λ (e : suc i ≡ suc j). n (omega arith)))
 
-pub none-marked : (size : ℕ) → size ≡ largest → Marked [] (cleared size)
+pub none-marked : (bytes : ℕ) → bytes * 8 ≡ largest → Marked [] (cleared bytes)
 unfolding isMarked is-among
-none-marked size e = record { kept = rw (← e) (kept-cleared size); tells = λ a. go a (within 1 a) refl }
+none-marked bytes e = record { kept = rw (← e) (kept-cleared bytes); tells = λ a. go a (within 1 a) refl }
   where
-    go : (a : ℕ) (t : Bool) → within 1 a ≡ t → pick t (markAt (cleared size) (pred a)) false ≡ pick t false false
-    go a true q = cleared-at size (pred a) (rw e (has-place a q))
+    go : (a : ℕ) (t : Bool) → within 1 a ≡ t → pick t (markAt (cleared bytes) (pred a)) false ≡ pick t false false
+    go a true q = cleared-at bytes (pred a) (rw e (has-place a q))
     go a false q = refl
 
 module _ {numbers : List ℕ} {marks : Marks} (M : Marked numbers marks) (a : ℕ) where

@@ -1,6 +1,6 @@
 // Was this number there already? The tests over filled tables that ask it: the first checkpoint number that stood before (13), the first goal that is no
 // checkpoint's number (15), the first limit whose id the RNDF has not (16) or that was given before (17). Answers are rows.
-// Each test goes once over each table. It keeps a mark for each number from 1 to 32,768; the marks are its own, cleared before it begins.
+// Each test goes once over each table. It keeps a mark for each number from 1 to 32,768, eight to a byte; the marks are its own, cleared before it begins.
 //
 // specs/Rows and specs/Tests are what others cite: what rows say, and each test over the numbers that were there; neither knows of marks. specs/Marks: the marks, which
 // only contracts of private functions here cite. Only that file, proofs/Marks, `mark` and `is_marked` with their proofs, and the marks' type below know how marks are kept.
@@ -33,26 +33,30 @@ pub enum BadLimit {
 }
 
 // ## Marks
-// Only the numbers 1 to 32,768 have a mark; the mark of a number stands at the number - 1.
-fn is_marked(marks: &[bool; 32768], number: u16) -> bool
+// Only the numbers 1 to 32,768 have a mark; that of a number is bit (number - 1) % 8, the lowest bit first, of byte (number - 1) / 8.
+fn is_marked(marks: &[u8; 4096], number: u16) -> bool
     ensures { λ r. ⌜ r ≡ isMarked (now (marks .entry)) number ⌝ }
 {
     if 1 <= number {
         if number <= 32768 {
             let at = (number - 1) as usize;
-            return marks[at];
+            let eight = marks[at / 8];
+            return (eight >> (at % 8)) % 2 == 1;
         }
     }
     false
 }
 
-fn mark(marks: &mut [bool; 32768], number: u16)
+fn mark(marks: &mut [u8; 4096], number: u16)
     ensures { λ _. ⌜ now (marks .exit) ≡ withMark (now (marks .entry)) number ⌝ }
 {
     if 1 <= number {
         if number <= 32768 {
             let at = (number - 1) as usize;
-            marks[at] = true;
+            let byte = at / 8;
+            let eight = marks[byte];
+            let bit: u8 = 1 << (at % 8);
+            marks[byte] = eight | bit;
         }
     }
 }
@@ -62,7 +66,7 @@ fn mark(marks: &mut [bool; 32768], number: u16)
 pub fn first_repeat(checkpoints: &[u32], count: u32) -> FirstRow
     ensures { λ r. ⌜ r ≡ firstRepeat (now (checkpoints .entry)) count ⌝ }
 {
-    let mut marks = [false; 32768];
+    let mut marks = [0; 4096];
     for row in 0..count {
         let checkpoint = checkpoint_at(checkpoints, row as usize);
         if is_marked(&marks, checkpoint.number.0) {
@@ -75,7 +79,7 @@ pub fn first_repeat(checkpoints: &[u32], count: u32) -> FirstRow
 
 // ## Goals
 // The numbers that the checkpoints declare.
-fn mark_checkpoints(marks: &mut [bool; 32768], checkpoints: &[u32], count: u32)
+fn mark_checkpoints(marks: &mut [u8; 4096], checkpoints: &[u32], count: u32)
     ensures { λ _. ⌜ now (marks .exit) ≡ markAll (now (marks .entry)) (said (checkpointSays (now (checkpoints .entry))) count) ⌝ }
 {
     for row in 0..count {
@@ -85,7 +89,7 @@ fn mark_checkpoints(marks: &mut [bool; 32768], checkpoints: &[u32], count: u32)
 }
 
 // The first goal whose number has no mark.
-fn first_unmarked_goal(marks: &[bool; 32768], goals: &[u32], count: u32) -> FirstRow
+fn first_unmarked_goal(marks: &[u8; 4096], goals: &[u32], count: u32) -> FirstRow
     ensures { λ r. ⌜ r ≡ firstUnmarked (now (marks .entry)) (goalSays (now (goals .entry))) count ⌝ }
 {
     for row in 0..count {
@@ -106,7 +110,7 @@ pub fn first_foreign_goal(
 ) -> FirstRow
     ensures { λ r. ⌜ r ≡ firstForeignGoal (now (checkpoints .entry)) «checkpoint_count» (now (goals .entry)) «goal_count» ⌝ }
 {
-    let mut marks = [false; 32768];
+    let mut marks = [0; 4096];
     mark_checkpoints(&mut marks, checkpoints, checkpoint_count);
     first_unmarked_goal(&marks, goals, goal_count)
 }
@@ -130,7 +134,7 @@ fn is_there(id: SegmentId, parts: u32) -> bool
 pub fn first_bad_limit(limits: &[u32], limit_count: u32, parts: u32) -> BadLimit
     ensures { λ r. ⌜ r ≡ firstBadLimit (now (limits .entry)) «limit_count» parts ⌝ }
 {
-    let mut marks = [false; 32768];
+    let mut marks = [0; 4096];
     for row in 0..limit_count {
         let limit = limit_at(limits, row as usize);
         if is_there(limit.id, parts) {

@@ -6,7 +6,6 @@ use Prim.Native.Nat.{_-_, _≤_, zero-le}
 use native.Mathlib.Numerals.{add-one}
 use native.Mathlib.Omega.{arith}
 use borrow.Author.Needs.{needs}
-use Rattle.units.specs.Range.{largest}
 use Rattle.fill.specs.FirstFaults.{first-fault, in-parts}
 use Rattle.marks.specs.Rows.{limitSays, said}
 use Rattle.marks.specs.Tests.{seen, idsTo, unfitting, badLimit, firstBadLimit}
@@ -25,7 +24,7 @@ loop-holds : tie.Need-loop-holds Inv-loop μ-loop
 unfolding said
 loop-holds c =
     let a = c .before .args in
-    (zero-le, none-marked largest refl, whole (unfitting (a .parts)) (limitSays (a .limits .now)) (a .limit-count))
+    (zero-le, none-marked 4096 refl, whole (unfitting (a .parts)) (limitSays (a .limits .now)) (a .limit-count))
 
 cast-limit-at : tie.Need-cast-limit-at Inv-loop μ-loop
 cast-limit-at c = search needs

@@ -2,7 +2,6 @@
 use mathlib.Core.Path.{refl, ap, _∙_}
 use mathlib.Core.List.{[]}
 use borrow.Author.Needs.{needs}
-use Rattle.units.specs.Range.{largest}
 use Rattle.marks.specs.Rows.{checkpointSays, goalSays, said}
 use Rattle.marks.specs.Tests.{rowOf, firstForeignGoal}
 use Rattle.marks.proofs.Marks.{cleared}
@@ -21,7 +20,7 @@ unfolding firstForeignGoal
 returns c =
     let a = c .before .before .before .before .before .before .args in
     let numbers = said (checkpointSays (a .checkpoints .now)) (a .checkpoint-count) in
-    c .first-unmarked-goal .ensures ∙ ap rowOf (goals-by-marks (c .before .before .mark-checkpoints .last .0) numbers (said (goalSays (a .goals .now)) (a .goal-count)) (rw (c .before .before .mark-checkpoints .ensures) (all-marked [] numbers (cleared largest) (none-marked largest refl))))
+    c .first-unmarked-goal .ensures ∙ ap rowOf (goals-by-marks (c .before .before .mark-checkpoints .last .0) numbers (said (goalSays (a .goals .now)) (a .goal-count)) (rw (c .before .before .mark-checkpoints .ensures) (all-marked [] numbers (cleared 4096) (none-marked 4096 refl))))
 
 pub first-foreign-goal-spec : {M : Type 1} → statement M
 first-foreign-goal-spec =

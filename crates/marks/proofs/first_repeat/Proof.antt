@@ -6,7 +6,6 @@ use Prim.Native.Nat.{_-_, _≤_, zero-le}
 use native.Mathlib.Numerals.{add-one}
 use native.Mathlib.Omega.{arith}
 use borrow.Author.Needs.{needs}
-use Rattle.units.specs.Range.{largest}
 use Rattle.fill.specs.FirstFaults.{first-fault}
 use Rattle.marks.specs.Rows.{checkpointSays, said}
 use Rattle.marks.specs.Tests.{seen, rowOf, repeated, firstRepeat}
@@ -25,7 +24,7 @@ loop-holds : tie.Need-loop-holds Inv-loop μ-loop
 unfolding said
 loop-holds c =
     let a = c .before .args in
-    (zero-le, none-marked largest refl, whole repeated (checkpointSays (a .checkpoints .now)) (a .count))
+    (zero-le, none-marked 4096 refl, whole repeated (checkpointSays (a .checkpoints .now)) (a .count))
 
 cast-checkpoint-at : tie.Need-cast-checkpoint-at Inv-loop μ-loop
 cast-checkpoint-at c = search needs

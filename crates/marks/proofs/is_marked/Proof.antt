@@ -9,8 +9,14 @@ use Rattle.marks.proofs.is_marked.Tie as tie
 cast-at : tie.Need-cast-at
 cast-at c = search needs
 
-element-copy-out-result : tie.Need-element-copy-out-result
-element-copy-out-result c = search needs
+element-copy-out-eight : tie.Need-element-copy-out-eight
+element-copy-out-eight c = search needs
+
+cast-result : tie.Need-cast-result
+cast-result c = search needs
+
+shr-result : tie.Need-shr-result
+shr-result c = search needs
 
 returns : tie.Need-returns
 unfolding isMarked markAt
@@ -25,4 +31,6 @@ unfolding isMarked
 returns-3 c = rw (lt-leb 1 _ (c .if1 .left))
 
 pub is-marked-spec : {M : Type 1} → statement M
-is-marked-spec = tie.close (tie.spec cast-at element-copy-out-result returns returns-2 returns-3)
+is-marked-spec =
+    tie.close
+    (tie.spec cast-at element-copy-out-eight cast-result shr-result returns returns-2 returns-3)
