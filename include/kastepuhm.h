@@ -25,9 +25,8 @@
  *   returns. Calls in several threads at once do not disturb each other as long as no two of them write the same tables or output; texts may be shared.
  *
  * Stack, as the kit's compiler builds it (tests/stack.py measures it)
- *   kastepuhm_read_rndf and kastepuhm_write_rndf take less than 36 KiB: 32,768 bytes of marks for checkpoint numbers and under 4 KiB beside them. kastepuhm_read_pair and
- *   kastepuhm_write_mdf take less than 68 KiB, since the compiler sets the marks of both files aside at once. kastepuhm_point_of takes a few words. Give a thread that calls them a
- *   stack to match.
+ *   kastepuhm_read_rndf and kastepuhm_write_rndf take less than 8 KiB, kastepuhm_read_pair and kastepuhm_write_mdf less than 12 KiB: 4,096 bytes of marks for each file are in it.
+ *   kastepuhm_point_of takes a few words. Give a thread that calls them a stack to match.
  *
  * Time
  *   Linear in the length of the texts, of the lent tables and of the lent output.
