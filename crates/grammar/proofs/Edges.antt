@@ -54,13 +54,17 @@ abbrev limit : ℕ → ℕ → ℕ → Limit
 limit i a b = record { id = i; minimum = a; maximum = b }
 
 pub limit-ends : GoodLimit (limit 32768 32768 32768)
-limit-ends = record { id = record { low = omega arith; high = omega arith }; minimum = omega arith; maximum = omega arith; in-order = omega arith }
+limit-ends = record { id = record { low = omega arith; high = omega arith }; minimum = omega arith; maximum = omega arith; in-order = λ m. omega arith }
 
 pub limit-none : GoodLimit (limit 1 0 0)
-limit-none = record { id = record { low = omega arith; high = omega arith }; minimum = omega arith; maximum = omega arith; in-order = omega arith }
+limit-none = record { id = record { low = omega arith; high = omega arith }; minimum = omega arith; maximum = omega arith; in-order = λ m. omega arith }
+
+-- a maximum of 0 is no ceiling
+pub limit-open : GoodLimit (limit 1 32768 0)
+limit-open = record { id = record { low = omega arith; high = omega arith }; minimum = omega arith; maximum = omega arith; in-order = λ m. omega arith }
 
 pub limit-fast : GoodLimit (limit 1 0 32769) → ⊥
 limit-fast h = omega (arith, h .maximum)
 
 pub limit-crossed : GoodLimit (limit 1 6 5) → ⊥
-limit-crossed h = omega (arith, h .in-order)
+limit-crossed h = omega (arith, h .in-order (omega arith))

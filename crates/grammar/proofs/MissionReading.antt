@@ -170,7 +170,7 @@ module _ (N : Type 0) where
   slow = record { id = 1; minimum = 0; maximum = 0 }
 
   pub slow-is : T (tested limited slow)
-  slow-is = pass limited slow (record { id = record { low = omega arith; high = omega arith }; minimum = omega arith; maximum = omega arith; in-order = omega arith })
+  slow-is = pass limited slow (record { id = record { low = omega arith; high = omega arith }; minimum = omega arith; maximum = omega arith; in-order = λ m. omega arith })
 
   -- N has some name
   module _ (some-name : N) where

@@ -8,7 +8,7 @@ abbrev pub yes? : {A : Type 0} → Dec A → Bool
 yes? (yes a) = true
 yes? (no n) = false
 
--- ## Decisions that compute: by a test, by another decision, both of two
+-- ## Decisions that compute: by a test, by another decision, both of two, the second where the first holds
 abbrev pub by : {A : Type 0} (b : Bool) → (T b → A) → (A → T b) → Dec A
 by true f g = yes (f tt)
 by false f g = no g
@@ -21,6 +21,11 @@ abbrev pub and? : {A B : Type 0} → Dec A → Dec B → Dec (A × B)
 and? (yes a) (yes b) = yes (a, b)
 and? (yes a) (no n) = no (λ x. n (x .1))
 and? (no n) d = no (λ x. n (x .0))
+
+abbrev pub where? : {A B : Type 0} → Dec A → Dec B → Dec (A → B)
+where? (yes a) (yes b) = yes (λ x. b)
+where? (yes a) (no n) = no (λ f. n (f a))
+where? (no n) d = yes (λ a. absurd (n a))
 
 abbrev pub le? : (m n : ℕ) → Dec (m ≤ n)
 le? m n = by (leb m n) (leb→le m n) (le→leb m n)

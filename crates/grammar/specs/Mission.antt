@@ -2,7 +2,7 @@
 use mathlib.Core.Path.{_≡_}
 use mathlib.Core.List.{List, [], _∷_, _++_, map}
 use mathlib.Core.Option.{Option}
-use Prim.Native.Nat.{ℕ, _≤_}
+use Prim.Native.Nat.{ℕ, _≤_, _<_}
 use lib.ListN.{length}
 use Rattle.terms.specs.Words.{Each, perhaps, Between}
 use Rattle.grammar.specs.Network.{largest}
@@ -11,7 +11,7 @@ pub use Rattle.law.specs.Network.{Mission, GoodLimit, GoodMission}
 
 -- law/specs/Network.GoodLimit's last test
 abbrev pub NotAbove : (minimum maximum : ℕ) → Type 0
-NotAbove minimum maximum = minimum ≤ maximum
+NotAbove minimum maximum = 0 < maximum → minimum ≤ maximum
 
 -- ## How a mission is spelled
 module _ {N : Type 0} where

@@ -5,16 +5,16 @@ use mathlib.Core.Bool.{Bool, true, false, _&&_}
 use Prim.Native.Nat.{ℕ, zero, suc}
 use lib.Dec.{T}
 use Rattle.grammar.specs.Machine.{Opt, Due, Machine, lacks, distinct}
-use Rattle.grammar.specs.Forms.{via, and?, le?, Form, tested, free, within}
+use Rattle.grammar.specs.Forms.{via, and?, where?, le?, Form, tested, free, within}
 use Rattle.grammar.specs.Choices.{Choice, opts as row}
 use Rattle.grammar.specs.Network.{largest}
 use Rattle.grammar.specs.Permitted.{between?, counted}
 use Rattle.grammar.specs.MissionStatements.{Limit, Kind, Says, orders, MDF-name, RNDF, format-version, creation-date, checkpoints, num-checkpoints, end-checkpoints, speed-limits, num-speed-limits, end-speed-limits, end-file, goal, limit}
 use Rattle.grammar.specs.Mission.{NotAbove, GoodLimit}
 
--- 01: "A speed limit's minimum is not above its maximum"
+-- L1: "minimum above maximum is a fault only where the maximum is not 0"
 abbrev pub not-above? : (minimum maximum : ℕ) → Dec (NotAbove minimum maximum)
-not-above? = le?
+not-above? minimum maximum = where? (le? 1 maximum) (le? minimum maximum)
 
 abbrev pub limit? : (a : Limit) → Dec (GoodLimit a)
 limit? a = via (λ x. record { id = x .0; minimum = x .1 .0; maximum = x .1 .1 .0; in-order = x .1 .1 .1 }) (λ x. (x .id, (x .minimum, (x .maximum, x .in-order))))

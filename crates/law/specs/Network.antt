@@ -1,5 +1,5 @@
 -- WHAT A READER MUST BELIEVE. What an RNDF and an MDF say, which values are permitted, and how they are spelled: the lines of each part, and what a text spells. Document 01, "Lines, comments, fields", "The order of an RNDF", "The order of an MDF". Assumes nothing.
-use Rattle.terms.specs.Words.{_≡_, List, [], _∷_, _++_, map, Option, ℕ, suc, _+_, _≤_, String, length, ℤ, natAbs, Bytes, ascii, Each, perhaps, Between, InTurn}
+use Rattle.terms.specs.Words.{_≡_, List, [], _∷_, _++_, map, Option, ℕ, suc, _+_, _≤_, _<_, String, length, ℤ, natAbs, Bytes, ascii, Each, perhaps, Between, InTurn}
 use Rattle.line.specs.Line.{Cut, Ended, Field, Content}
 use Rattle.number.specs.Decimal.{decimal}
 use Rattle.coordinate.specs.Spelling.{SpellsCoordinate}
@@ -123,12 +123,12 @@ pub record Mission (N : Type 0) : Type 0 where
   pub goals : List ℕ
   pub limits : List Limit
 
--- 01: "id > 0, minimum, maximum (miles per hour)"; "A speed limit's minimum is not above its maximum"
+-- 01: "id > 0, minimum, maximum (miles per hour)"; L1: "0 means undefined, for either figure, so minimum above maximum is a fault only where the maximum is not 0"
 pub record GoodLimit (a : Limit) : Type 0 where
   pub id : Between 1 largest (a .id)
   pub minimum : a .minimum ≤ largest
   pub maximum : a .maximum ≤ largest
-  pub in-order : a .minimum ≤ a .maximum
+  pub in-order : 0 < a .maximum → a .minimum ≤ a .maximum
 
 -- 01: "`num_checkpoints` > 0; so many numbers > 0"; "`num_speed_limits` > 0; so many lines"; "A goal may come again."
 pub record GoodMission {N : Type 0} (a : Mission N) : Type 0 where

@@ -1,8 +1,10 @@
 -- What the tests of specs/ compute to. Assumes nothing.
-use mathlib.Core.Path.{_≡_, refl, sym, ap, _∙_}
-use mathlib.Core.Bool.{Bool, _&&_}
-use Prim.Native.Nat.{ℕ, _+_}
+use mathlib.Core.Path.{_≡_, refl, sym, ap, ap₂, _∙_}
+use mathlib.Core.Bool.{Bool, not, _&&_, _||_}
+use Prim.Native.Nat.{ℕ, zero, suc, _+_}
+use native.Mathlib.Omega.{arith}
 use lib.Dec.{leb, eqb}
+use borrow.Author.Tests.{le-leb, ne-eqb}
 use lib.IntN.{ℤ, natAbs}
 use Rattle.grammar.specs.Statements.{PartId, PointId, Position, PointLine, part-id, point-id}
 use Rattle.grammar.specs.Network.{largest}
@@ -14,7 +16,7 @@ use Rattle.statement.specs.declared.Id.{Id}
 use Rattle.statement.specs.Meaning.{point-of}
 use Rattle.permitted.specs.Tests.{isCounted, isAtMost, isUpTo, isTheNumber, isThePart, isPoint, isNumbered, isLatitude, isLongitude, isThePoint, isOwnStop, isOwnCheckpoint, isEntry, isInnerEntry, isOwnExit, isPerimeterExit}
 use Rattle.permitted.specs.MissionTests.{isNotAbove, isLimit}
-use Rattle.permitted.proofs.Decided.{yes-by, yes-via, yes-and, both, and-assoc, and-true, yes-within}
+use Rattle.permitted.proofs.Decided.{yes-by, yes-via, yes-and, yes-where, both, and-assoc, and-true, yes-within}
 
 at-most : (m n : ℕ) → yes? (le? m n) ≡ leb m n
 at-most m n = yes-by (leb m n) _ _
@@ -119,9 +121,13 @@ perimeter-exit-is m w i e =
     own-then m 0 w i _ _ (isInnerEntry e) (perimeter-exit? w (record { waypoint = i .z; entry = point-of e }))
     (yes-via _ _ (and? a (and? x (and? y z))) ∙ yes-and a (and? x (and? y z)) ∙ both (refl {a = yes? a}) (yes-and x (and? y z) ∙ both (counted-between (e .x)) (yes-and y z ∙ both (counted-between (e .y)) (counted-between (e .z)))))
 
-pub not-above-is : (a b : ℕ) → isNotAbove a b ≡ leb a b
+none-or-some : (b : ℕ) → not (leb 1 b) ≡ eqb b 0
+none-or-some zero = refl
+none-or-some (suc b) = rw (le-leb 1 (suc b) (omega arith), ne-eqb (suc b) 0 (λ e. omega arith))
+
+pub not-above-is : (a b : ℕ) → isNotAbove a b ≡ (eqb b 0 || leb a b)
 unfolding isNotAbove
-not-above-is a b = at-most a b
+not-above-is a b = yes-where (le? 1 b) (le? a b) ∙ ap₂ (λ (x y : Bool). not x || y) (at-most 1 b) (at-most a b) ∙ ap (λ (x : Bool). x || leb a b) (none-or-some b)
 
 pub limit-is : (i a b : ℕ) → isLimit i a b ≡ (isCounted i && (isAtMost a && (isAtMost b && isNotAbove a b)))
 unfolding isLimit isNotAbove

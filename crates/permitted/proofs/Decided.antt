@@ -1,8 +1,8 @@
 -- The answer of a decision, by the way it was put together; the answer of a program's two tests, one behind the other. Assumes nothing.
 use mathlib.Core.Path.{_≡_, refl, sym, _∙_}
-use mathlib.Core.Bool.{Bool, true, false, _&&_}
+use mathlib.Core.Bool.{Bool, true, false, not, _&&_, _||_}
 use lib.Dec.{T}
-use Rattle.grammar.specs.Forms.{yes?, by, via, and?}
+use Rattle.grammar.specs.Forms.{yes?, by, via, and?, where?}
 
 pub yes-by : {A : Type 0} (b : Bool) (f : T b → A) (g : A → T b) → yes? (by b f g) ≡ b
 yes-by true f g = refl
@@ -16,6 +16,11 @@ pub yes-and : {A B : Type 0} (a : Dec A) (b : Dec B) → yes? (and? a b) ≡ (ye
 yes-and (yes a) (yes b) = refl
 yes-and (yes a) (no n) = refl
 yes-and (no n) b = refl
+
+pub yes-where : {A B : Type 0} (a : Dec A) (b : Dec B) → yes? (where? a b) ≡ (not (yes? a) || yes? b)
+yes-where (yes a) (yes b) = refl
+yes-where (yes a) (no n) = refl
+yes-where (no n) b = refl
 
 pub yes-within : {A B : Type 0} (a : A) (d : Dec B) → yes? (and? (yes a) d) ≡ yes? d
 yes-within a (yes b) = refl

@@ -4,7 +4,7 @@ use mathlib.Core.Bool.{Bool}
 use Rattle.grammar.specs.Forms.{yes?, tested}
 use Rattle.grammar.specs.MissionPlaces.{not-above?, limited}
 
--- 01: "A speed limit's minimum is not above its maximum"
+-- L1: "minimum above maximum is a fault only where the maximum is not 0"
 unfoldable pub isNotAbove : (minimum maximum : ℕ) → Bool
 isNotAbove minimum maximum = yes? (not-above? minimum maximum)
 

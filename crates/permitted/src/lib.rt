@@ -166,14 +166,14 @@ pub fn perimeter_exit(m: u32, w: u32, i: Id, e: Id) -> bool
     }
 }
 
-// The one test of a speed limit's minimum against its maximum.
+// The one test of a speed limit's minimum against its maximum: a maximum of 0 is none.
 fn not_above(minimum: u32, maximum: u32) -> bool
     ensures { λ r. ⌜ r ≡ isNotAbove minimum maximum ⌝ }
 {
-    minimum <= maximum
+    (maximum == 0) | (minimum <= maximum)
 }
 
-// Two speeds, the minimum not above the maximum.
+// Two speeds, the minimum not above the maximum where there is one.
 fn speeds(minimum: u32, maximum: u32) -> bool
     ensures { λ r. ⌜ r ≡ (isAtMost minimum && (isAtMost maximum && isNotAbove minimum maximum)) ⌝ }
 {

@@ -1,10 +1,11 @@
 -- Yard A's MDF and one change of it each, by computation: the missions that the well-formed ones spell, and the faults of the others. Document 01, "Yard A". Assumes nothing.
 use mathlib.Core.Path.{_≡_, refl, sym, subst, _∙_}
 use mathlib.Core.List.{List, [], _∷_}
-use Prim.Native.Nat.{ℕ}
+use Prim.Native.Nat.{ℕ, _≤_, _<_}
 use native.Mathlib.Omega.{arith}
-use lib.Dec.{lit<}
+use lib.Dec.{lit≤, lit<}
 use Rattle.terms.specs.Ascii.{Bytes, ascii}
+use Rattle.terms.specs.Words.{Between}
 use Rattle.scan.specs.Allowed as Allowed
 use Rattle.scan.specs.Reach as Reach
 use Rattle.line.specs.Content.{Field}
@@ -39,40 +40,44 @@ use Rattle.find_line.specs.FoundLines.{mdfLineOf}
 use Rattle.find_line.proofs.Theorems.{mdf-line-there}
 use Rattle.fault_lines.specs.FaultLines.{FirstMdfFault}
 use Rattle.fault_lines.proofs.MdfFaults.{foreign-goal-line}
-use Rattle.law.specs.Network.{AnyOrder}
+use Rattle.law.specs.Network.{largest, AnyOrder}
 use Rattle.law.specs.Network as Law
 use Rattle.law.specs.Short.{SpellsMdf}
 use Rattle.law.specs.Faults.{BadLine, FirstFault, MdfFault}
 use Rattle.law_spelling.proofs.Texts.{mdf-to}
 use Rattle.law_faults.proofs.Theorems.{mdf-bad-to}
 use Rattle.law_tables.proofs.MdfFirst.{mdf-first-to}
-use Rattle.promises.specs.Yards.{round, goal-8, limit-10-5, network, mission, mission-goal-8}
+use Rattle.promises.specs.Yards.{round, goal-8, limit-10-5, limit-5-0, network, mission-with, mission, mission-goal-8, mission-5-0}
 
-abbrev lines-with : ℕ → List (Statement Field)
-lines-with g =
+abbrev lines-with : (g minimum maximum : ℕ) → List (Statement Field)
+lines-with g minimum maximum =
     say MDF-name (mission .name) ∷ say RNDF (mission .rndf) ∷ say checkpoints tt ∷ say num-checkpoints 1 ∷ say goal g ∷ say end-checkpoints tt
-    ∷ say speed-limits tt ∷ say num-speed-limits 1 ∷ say limit (record { id = 1; minimum = 0; maximum = 15 }) ∷ say end-speed-limits tt ∷ say end-file tt ∷ []
+    ∷ say speed-limits tt ∷ say num-speed-limits 1 ∷ say limit (record { id = 1; minimum = minimum; maximum = maximum }) ∷ say end-speed-limits tt ∷ say end-file tt ∷ []
 
 abbrev round-lines : List (Statement Field)
-round-lines = lines-with 7
+round-lines = lines-with 7 0 15
 
 abbrev goal-8-lines : List (Statement Field)
-goal-8-lines = lines-with 8
+goal-8-lines = lines-with 8 0 15
+
+abbrev lines-5-0 : List (Statement Field)
+lines-5-0 = lines-with 7 5 0
 
 -- their statements are the missions' house writing
-house : (house-mission mission ≡ round-lines) × (house-mission mission-goal-8 ≡ goal-8-lines)
+house : (house-mission mission ≡ round-lines) × (house-mission mission-goal-8 ≡ goal-8-lines) × (house-mission mission-5-0 ≡ lines-5-0)
 unfolding house-mission mission-options
-house = (refl, refl)
+house = (refl, refl, refl)
 
 -- ## What is read, by computation
 record Answered : Type 0 where
   pub round : read-mdf round ≡ read round-lines
   pub goal-8 : read-mdf goal-8 ≡ read goal-8-lines
   pub limit-10-5 : read-mdf limit-10-5 ≡ faulty 9 9
+  pub limit-5-0 : read-mdf limit-5-0 ≡ read lines-5-0
 
 answered : Answered
 unfolding ascii Answers.readText Answers.walk Lines.linesOf Judge.judge Lines.dropCr Forms.formOf Forms.closes Forms.noteOf Forms.outerOf Forms.fieldsAt Content.parted Allowed.separates Allowed.all Reach.two Reach.sameBytes Reach.begins Reach.first Reach.upTo Reach.stopsBy Judge.tell Judge.read Judge.numbered Number.integerOf Number.plainOf Number.plain Number.worth Number.numberOf Word.indexOf Keywords.mdf-keywords Machine.step Machine.guard Stands.stands
-answered = record { round = refl; goal-8 = refl; limit-10-5 = refl }
+answered = record { round = refl; goal-8 = refl; limit-10-5 = refl; limit-5-0 = refl }
 
 -- ## What is spelled
 spelled-by : (text : Bytes) (m : Mission Field) (ss : List (Statement Field)) → read-mdf text ≡ read ss → GoodMission m → house-mission m ≡ ss → Old.SpellsMdf m text
@@ -80,15 +85,22 @@ spelled-by text m ss e good h =
     let x = subst (Means (mdf Field) mdf-lexis mdf-line SpellsMission At.name-due mdf-file text) e (mdf-means text) in
     subst (λ (y : Mission Field). Old.SpellsMdf y text) (mission-unique (x .0) m (x .1 .said) (house-mission m) (x .1 .net) (mission-written m good) (x .2 ∙ sym h)) (x .1)
 
+-- good if its goal and its speeds are
+good : (g minimum maximum : ℕ) → Between 1 largest g → (minimum ≤ largest) × (maximum ≤ largest) × (0 < maximum → minimum ≤ maximum) → GoodMission (mission-with g minimum maximum)
+good g minimum maximum in-range speeds =
+    let one : Between 1 largest 1 = record { low = lit≤ tt; high = lit≤ tt } in
+    record { some-goals = one; goals = (in-range, tt); some-limits = one; limits = (record { id = one; minimum = speeds .0; maximum = speeds .1; in-order = speeds .2 }, tt) }
+
 goal-8-read : Old.SpellsMdf mission-goal-8 goal-8
-goal-8-read = spelled-by goal-8 mission-goal-8 goal-8-lines (answered .goal-8) (omega arith) (house .1)
+goal-8-read = spelled-by goal-8 mission-goal-8 goal-8-lines (answered .goal-8) (good 8 0 15 (omega arith) (omega arith, omega arith, λ m. omega arith)) (house .1)
 
 pub record Spelled : Type 0 where
   pub round : SpellsMdf mission round
   pub goal-8 : SpellsMdf mission-goal-8 goal-8
+  pub limit-5-0 : SpellsMdf mission-5-0 limit-5-0
 
 pub spelled : Spelled
-spelled = record { round = mdf-to mission round (spelled-by round mission round-lines (answered .round) (omega arith) (house .0)); goal-8 = mdf-to mission-goal-8 goal-8 goal-8-read }
+spelled = record { round = mdf-to mission round (spelled-by round mission round-lines (answered .round) (good 7 0 15 (omega arith) (omega arith, omega arith, λ m. omega arith)) (house .0)); goal-8 = mdf-to mission-goal-8 goal-8 goal-8-read; limit-5-0 = mdf-to mission-5-0 limit-5-0 (spelled-by limit-5-0 mission-5-0 lines-5-0 (answered .limit-5-0) (good 7 5 0 (omega arith) (omega arith, omega arith, λ m. omega arith)) (house .2)) }
 
 -- ## What has a fault
 goal-on-5 : mdfLineOf goal-8 11 0 ≡ 5

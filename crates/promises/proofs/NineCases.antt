@@ -1,4 +1,4 @@
--- THE NINE CASES of yard A, and yard A itself, from the contract of `read_pair` alone. Document 01, "Yard A": "The nine cases marked P stand together in a single table under one theorem." Assumes nothing.
+-- THE NINE CASES of yard A, yard A itself, and yard A with L1's limit, from the contract of `read_pair` alone. Document 01, "Yard A": "The nine cases marked P stand together in a single table under one theorem." Assumes nothing.
 use mathlib.Core.Path.{_≡_, refl, _∙_}
 use mathlib.Core.Logic.{inl, inr}
 use Prim.Native.Nat.{ℕ, _≤_}
@@ -11,7 +11,7 @@ use Rattle.law.specs.Faults.{Fits}
 use Rattle.replies.specs.declared.PairReply.{PairReply}
 use Rattle.replies.specs.declared.PairReply.the-variants as Pair
 use Rattle.replies.specs.Replies.{most, AcceptsMdf, RefusesRndf, RefusesMdf, bad-line, bad-reference, refusal, mission-file, ReadsPair}
-use Rattle.promises.specs.Yards.{yard, round, goal-8, limit-10-5, network, network-twice, mission, mission-goal-8, counts, mission-counts, yard-file, round-file, used, mission-used, yard-words, round-words}
+use Rattle.promises.specs.Yards.{yard, round, goal-8, limit-10-5, limit-5-0, network, network-twice, mission-with, mission, mission-goal-8, mission-5-0, counts, mission-counts, yard-file, round-file, used, mission-used, yard-words, round-words, words-5-0}
 use Rattle.promises.specs.Cases.{PairRefused, nine, AllRefused}
 use Rattle.promises.proofs.PairPromises.{spelled-pair-accepted, pair-refusal-only}
 use Rattle.promises.proofs.YardA.{yard-taken, replied, room-in-used, words-are, less-room, seven}
@@ -22,13 +22,14 @@ record Small : Type 0 where
   pub round : length round ≤ most
   pub goal-8 : length goal-8 ≤ most
   pub limit-10-5 : length limit-10-5 ≤ most
+  pub limit-5-0 : length limit-5-0 ≤ most
 
 small : Small
 unfolding ascii
-small = record { round = lit≤ tt; goal-8 = lit≤ tt; limit-10-5 = lit≤ tt }
+small = record { round = lit≤ tt; goal-8 = lit≤ tt; limit-10-5 = lit≤ tt; limit-5-0 = lit≤ tt }
 
-fitting : Fits network mission
-fitting = record {
+fitting : (minimum maximum : ℕ) → Fits network (mission-with 7 minimum maximum)
+fitting minimum maximum = record {
   name = refl;
   goals = (inl refl, tt);
   known = (record { low = lit≤ tt; high = lit≤ tt }, tt);
@@ -37,7 +38,7 @@ fitting = record {
 }
 
 pub round-taken : (u : MissionLent) → MissionHasRoom mission u → AcceptsMdf network round u mission
-round-taken u room = record { size = small .round; spelled = spelled .round; room = room; right = fitting }
+round-taken u room = record { size = small .round; spelled = spelled .round; room = room; right = fitting 0 15 }
 
 -- ## Pairs that are refused
 -- by the RNDF, with any MDF
@@ -80,15 +81,25 @@ nine-cases t u room mission-room =
     )
 
 -- ## Yard A is taken: 01's `ok 1 0 1 2 0 1 0 1 1 1`
-its-file : mission-file mission ≡ round-file
+its-file : (minimum maximum : ℕ) → mission-file (mission-with 7 minimum maximum) ≡ round-file
 unfolding ascii
-its-file = refl
+its-file minimum maximum = refl
+
+-- with any limit of segment 1
+taken-with : (mdf : Bytes) (minimum maximum : ℕ) (t : Lent) (u : MissionLent) → HasRoom network t → AcceptsMdf network mdf u (mission-with 7 minimum maximum) → (r : PairReply) (l : Lent) (k : MissionLent) → ReadsPair yard mdf t u r l k
+    → (r ≡ Pair.Accepted counts yard-file mission-counts round-file) × (l ≡ filled network t) × (k ≡ mission-filled (mission-with 7 minimum maximum) u)
+taken-with mdf minimum maximum t u room a r l k x =
+    let s = spelled-pair-accepted yard mdf t u r l k x network (mission-with 7 minimum maximum) (yard-taken t room) a in
+    (s .0 ∙ (λ i. Pair.Accepted (replied .0 i) (replied .1 i) mission-counts (its-file minimum maximum i)), s .1, s .2)
 
 pub yard-a : (t : Lent) (u : MissionLent) → HasRoom network t → MissionHasRoom mission u → (r : PairReply) (l : Lent) (k : MissionLent) → ReadsPair yard round t u r l k
     → (r ≡ Pair.Accepted counts yard-file mission-counts round-file) × (l ≡ filled network t) × (k ≡ mission-filled mission u)
-yard-a t u room mission-room r l k x =
-    let s = spelled-pair-accepted yard round t u r l k x network mission (yard-taken t room) (round-taken u mission-room) in
-    (s .0 ∙ (λ i. Pair.Accepted (replied .0 i) (replied .1 i) mission-counts (its-file i)), s .1, s .2)
+yard-a t u room mission-room = taken-with round 0 15 t u room (round-taken u mission-room)
+
+-- L1: "`1>5>0` is then accepted"
+pub minimum-without-maximum : (t : Lent) (u : MissionLent) → HasRoom network t → MissionHasRoom mission-5-0 u → (r : PairReply) (l : Lent) (k : MissionLent) → ReadsPair yard limit-5-0 t u r l k
+    → (r ≡ Pair.Accepted counts yard-file mission-counts round-file) × (l ≡ filled network t) × (k ≡ mission-filled mission-5-0 u)
+minimum-without-maximum t u room mission-room = taken-with limit-5-0 5 0 t u room (record { size = small .limit-5-0; spelled = spelled .limit-5-0; room = mission-room; right = fitting 5 0 })
 
 -- every word, in tables that were in use and are longer than needed
 mission-words-are : mission-filled mission mission-used ≡ round-words
@@ -98,3 +109,12 @@ pub yard-a-read : (r : PairReply) (l : Lent) (k : MissionLent) → ReadsPair yar
 yard-a-read r l k x =
     let a = yard-a used mission-used room-in-used (record { goals = lit≤ tt; limits = lit≤ tt }) r l k x in
     (a .0, a .1 ∙ words-are, a .2 ∙ mission-words-are)
+
+-- the maximum is kept as 0
+zero-kept : mission-filled mission-5-0 mission-used ≡ words-5-0
+zero-kept = refl
+
+pub minimum-without-maximum-read : (r : PairReply) (l : Lent) (k : MissionLent) → ReadsPair yard limit-5-0 used mission-used r l k → (r ≡ Pair.Accepted counts yard-file mission-counts round-file) × (l ≡ yard-words) × (k ≡ words-5-0)
+minimum-without-maximum-read r l k x =
+    let a = minimum-without-maximum used mission-used room-in-used (record { goals = lit≤ tt; limits = lit≤ tt }) r l k x in
+    (a .0, a .1 ∙ words-are, a .2 ∙ zero-kept)
