@@ -9,7 +9,7 @@
 # Builds the library first (`rt staticlib yard`), unless --built is given. Needs python3 and a C compiler (Debian: gcc; on Arm gcc-x86-64-linux-gnu, and the kit's emulator runs it);
 # what is missing it installs, where it may.
 # It runs on all cores that it may use: 4,000 pairs take some 6 seconds on two, 200,000 some 4 minutes. `python3 tests/damage/compare.py --mutants COUNT SEED` tells whether these
-# pairs notice each of 115 small mistakes in a copy of the oracle (4,000 notice all but two or three, 20,000 all).
+# pairs notice each of the small mistakes of tests/oracle/mutate.py in a copy of the oracle (4,000 notice all but two or three, 20,000 all).
 set -eu
 root=$(cd "$(dirname "$0")/.." && pwd -P)
 if [ "${1:-}" = --built ]; then shift; else (cd "$root" && rt staticlib yard) >&2; fi

@@ -4,7 +4,8 @@
 The answers are the oracle's (tests/oracle), written from document 01 and the readings alone; it shares nothing with
 the product. Cases that carry an answer worked out by hand are held to it. Everything is from a fixed seed.
 Run it again after a change of the corpus:  python3 tests/reader_vectors.py
-With --mutants it writes nothing, and puts each small mistake of tests/oracle/mutate.py into the oracle to see whether
+With --check it writes nothing, and says which cases differ from their answer by hand.
+With --mutants it writes nothing either, and puts each small mistake of tests/oracle/mutate.py into the oracle to see whether
 some case notices.
 
 A case is a line of fixed length, its label and an LF, the RNDF, the MDF and an LF. That line is `1` (the RNDF alone) or
@@ -363,7 +364,7 @@ def edges():
     """One line changed: a value at each edge, an identifier wrong in each of its parts, the bytes next to the allowed."""
     for n, line, want in ((2, "num_segments>0", 9), (2, "num_segments>32769", 9), (3, "num_zones>32768", 9), (4, "segment>2", 9),
                           (4, "segment>1\\", 4), (4, "segment>1\x7f", 4), (4, "segment>1/*\x7f*/", 4),
-                          (4, "segment>1/*\x1f*/", 4), (4, "segment>1/*\x80*/", 4), (4, "segment>1 ", 4),
+                          (4, "segment>1/*/", 3), (4, "segment>1/*/*/", "ok"), (4, "segment>1/*\x1f*/", 4), (4, "segment>1/*\x80*/", 4), (4, "segment>1 ", 4),
                           (4, "segment>1/*~ !>*/", "ok"), (1, "RNDF_name>!~", "ok"), (5, "num_lanes>0", 9), (6, "lane>2.1", 9), (6, "lane>1.2", 9),
                           (7, "num_waypoints>0", 9), (8, "checkpoint>1.1.0>7", 9), (8, "checkpoint>1.1.3>7", 9),
                           (8, "checkpoint>2.1.1>7", 9), (8, "checkpoint>1.2.1>7", 9), (9, "stop>1.1.0", 9),
@@ -377,7 +378,7 @@ def edges():
                           (28, "3.1.1>1.000000>1.000000", 9), (31, "spot>2.1", 9), (31, "spot>3.2", 9),
                           (32, "checkpoint>3.1.0>1", 9), (32, "checkpoint>3.1.3>1", 9), (33, "3.1.2>1.000000>1.000000", 9)):
         run("yard D, line %d is %s" % (n, line), put(YARD_D, n, line), None, "1 %d %d" % (n, want))
-    for n, line, want in ((4, "num_checkpoints>0", 9), (5, "0", 9), (8, "num_speed_limits>0", 9), (9, "0>0>15", 9),
+    for n, line, want in ((4, "num_checkpoints>0", 9), (5, "0", 9), (8, "num_speed_limits>0", 9), (9, "0>0>15", 9), (9, "0>5>0", 9), (9, "1>10>5", 9),
                           (9, "32769>0>15", 9)):
         run("mission A, line %d is %s" % (n, line), YARD_A, put(ROUND_1, n, line), "2 %d %d" % (n, want))
     for segments, zones, want in ((32768, 0, "1 4 10"), (32767, 1, "1 4 10"), (32768, 1, "1 3 9"), (1, 32768, "1 3 9"),
@@ -436,8 +437,9 @@ def missions():
             run("%d and %d" % (a, b), YARD_D, faults[a](faults[b](M)), "2 %d %d" % (lines_of[a], a))
     run("14, 15, 16 and 17", YARD_D, faults[14](faults[15](faults[16](faults[17](M)))), "2 2 14")
     run("15, 16, 17 and 18", YARD_D, put(faults[15](faults[16](faults[17](M))), 11, "1>0>0"), "2 5 15")
-    for low, high, want in ((0, 32768, "ok"), (32768, 32768, "ok"), (1, 0, "2 12 9"), (0, 32769, "2 12 9"),
-                            (32769, 32769, "2 12 9"), (5, 4, "2 12 9")):
+    # L1: a maximum of 0 is no ceiling
+    for low, high, want in ((0, 32768, "ok"), (32768, 32768, "ok"), (1, 0, "ok"), (5, 0, "ok"), (32768, 0, "ok"), (32769, 0, "2 12 9"),
+                            (2, 1, "2 12 9"), (0, 32769, "2 12 9"), (32769, 32769, "2 12 9"), (5, 4, "2 12 9")):
         run("limit %d to %d" % (low, high), YARD_D, put(M, 12, "2>%d>%d" % (low, high)), want)
     run("a late MDF fault leaves no row of the RNDF", YARD_D, put(M, 14, "end"), "2 14 5")
     run("yard D with mission B", YARD_D, MISSION_B, "2 2 14")
@@ -538,6 +540,8 @@ def main():
     for line in collect.wrong + cases.wrong:
         print("WRONG:", line)
     assert len(files) == FILES, "the program opens %d files" % FILES
+    if sys.argv[1:] == ["--check"]:
+        return 1 if collect.wrong + cases.wrong else 0
     crate = os.path.join(here, "..", "crates", "reader_vectors")
     os.makedirs(os.path.join(crate, "data"), exist_ok=True)
     for i, whole in enumerate(files, 1):

@@ -274,7 +274,7 @@ LINES = [
     (g.d_other_keyword, EVERY, 4), (g.d_digit_line, EVERY, 3), (g.d_keyword, EVERY, 4), (g.d_option_again, EVERY, 8), (option_moved, EVERY, 5), (g.d_spot_checkpoint_again, RNDF, 2),
     (g.d_long_name, EVERY, 5), (g.d_long_line, EVERY, 4), (long_line, EVERY, 8), (g.d_comment, EVERY, 7),
     (own_point_off, RNDF, 9), (g.d_entry, RNDF, 10), (entry_elsewhere, RNDF, 12), (g.d_same_checkpoint, RNDF, 14), (two_references, RNDF, 6),
-    (g.d_rndf_name, MDF, 14), (g.d_goal, MDF, 18), (g.d_limit_id, MDF, 22), (g.d_limit_missing, MDF, 20), (g.d_limit_more, MDF, 24), (g.d_limit_speeds, MDF, 8),
+    (g.d_rndf_name, MDF, 14), (g.d_goal, MDF, 18), (g.d_limit_id, MDF, 22), (g.d_limit_missing, MDF, 20), (g.d_limit_more, MDF, 24), (g.d_limit_speeds, MDF, 16),
 ]
 BYTES = [
     (bytes_changed, EVERY, 12), (byte_at_edge, EVERY, 12), (cut_anywhere, EVERY, 8), (stretch_dropped, EVERY, 3), (stretch_doubled, EVERY, 3), (separators_changed, EVERY, 6), (comment_broken, EVERY, 6),
@@ -336,7 +336,7 @@ def wide_pair(rng):
         for y in range(1, many["spots"] + 1):
             rndf += [[b"spot", b"%d.%d" % (x, y)]] + points(x, y, 2) + [[b"end_spot"]]
         rndf.append([b"end_zone"])
-    goals, limits = [[b"%d" % (32768 - i)] for i in range(many["checkpoints"])], [[b"%d" % x, b"0", b"32768"] for x in rng.sample(range(1, m + n + 1), m + n)]
+    goals, limits = [[b"%d" % (32768 - i)] for i in range(many["checkpoints"])], [[b"%d" % x, *rng.choice([(b"0", b"32768"), (b"32768", b"0")])] for x in rng.sample(range(1, m + n + 1), m + n)]
     mdf = [[b"MDF_name", b"all"], [b"RNDF", b"wide"], [b"checkpoints"], [b"num_checkpoints", b"%d" % len(goals)]] + goals + [[b"end_checkpoints"], [b"speed_limits"]]
     mdf += [[b"num_speed_limits", b"%d" % len(limits)]] + limits + [[b"end_speed_limits"], [b"end_file"]]
     rows = {"segments": m, "lanes": m * many["lanes"], "zones": n, "spots": n * many["spots"], "checkpoints": many["checkpoints"], "stops": 0, "exits": 1, "goals": len(goals),

@@ -855,12 +855,20 @@ def missions():
     pair("16 before a later 17", B, limits("1>0>0", "5>0>0", "1>0>0", "2>0>0"), "2 15 16")
     pair("17 before 18", B, limits("1>0>0", "1>0>0"), "2 15 17")
     pair("16 before 18", B, limits("9>0>0"), "2 14 16")
-    for low, high, number in ((0, 0, "ok"), (0, 1, "ok"), (1, 1, "ok"), (1, 0, 9),
-                              (10, 0, 9), (0, 32768, "ok"), (32768, 32768, "ok"),
+    # L1: a maximum of 0 is no ceiling
+    for low, high, number in ((0, 0, "ok"), (0, 1, "ok"), (1, 1, "ok"), (1, 0, "ok"),
+                              (5, 0, "ok"), (32767, 0, "ok"), (32768, 0, "ok"),
+                              (32769, 0, 9), (2, 1, 9), (32768, 1, 9), (10, 5, 9),
+                              (0, 32768, "ok"), (32768, 32768, "ok"),
                               (32768, 32767, 9), (32767, 32768, "ok"),
-                              (0, 32769, 9), (32769, 32769, 9), (16, 15, 9)):
+                              (0, 32769, 9), (5, 32769, 9), (32769, 32769, 9),
+                              (16, 15, 9)):
         mdf("limit %d to %d" % (low, high), put(M, 9, "1>%d>%d" % (low, high)),
             "ok" if number == "ok" else "2 9 9")
+    mdf("limit of id 0 without a ceiling", put(M, 9, "0>5>0"), "2 9 9")
+    mdf("limit 5 to 00", put(M, 9, "1>5>00"), "2 9 8")
+    pair("limits without a ceiling", B, limits("1>5>0", "2>32768>0", "3>0>0", "4>1>0"), "ok")
+    pair("the third above its ceiling", B, limits("1>5>0", "2>32768>0", "3>2>1", "4>1>0"), "2 16 9")
 
     def goals(*numbers):
         return (MB[:5] + ["num_checkpoints>%d" % len(numbers)]

@@ -232,6 +232,8 @@ def make(rng, largest=4):
     for identifier in rng.sample(range(1, m + n + 1), m + n):
         low, high = sorted([rng.choice([0, 5, 32768, rng.randint(0, 80)]),
                             rng.choice([0, 5, 32768, rng.randint(0, 80)])])
+        if rng.random() < 0.3:
+            low, high = rng.choice([high, high, low]), 0    # L1: no ceiling
         limits.append((identifier, low, high))
     made.mdf_lines = ([[b"MDF_name", mission_name], [b"RNDF", name]] + header
                       + [[b"checkpoints"], [b"num_checkpoints", num(len(goals))]]
@@ -553,7 +555,9 @@ def d_limit_speeds(rng, lines, file):
     found = limit_lines(lines)
     if found:
         i = rng.choice(found)
-        low, high = rng.choice([(b"1", b"0"), (b"10", b"5"), (b"32768", b"32767"),
+        low, high = rng.choice([(b"1", b"0"), (b"5", b"0"), (b"32768", b"0"),
+                                (b"32769", b"0"), (b"5", b"00"), (b"5", b"1"),
+                                (b"10", b"5"), (b"32768", b"32767"),
                                 (b"0", b"32769"), (b"x", b"5"), (b"5", b"05"),
                                 (b"5", b"5"), (b"0", b"0")])
         lines[i][1:] = [low, high]

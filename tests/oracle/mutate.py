@@ -1,9 +1,10 @@
 """How sharp is the corpus?  Each small mistake below is put into a copy of
 oracle.py in memory; a mistake that changes no answer of cases.bin survives.
 
-    python3 mutate.py
+    python3 mutate.py [directory]       the directory of cases.bin
 """
 
+import os
 import sys
 import types
 
@@ -85,9 +86,10 @@ MUTANTS = [
     ("read_checkpoint(lines, form, line, zone, spot, 2, first)", "read_checkpoint(lines, form, line, zone, spot, 1, first)"),
     ("read_checkpoint(lines, form, line, zone, spot, 2, first)", "read_checkpoint(lines, form, line, zone, spot, 3, first)"),
     ("        given.add(what)         # R9", "        (given.add(what) if what != b'checkpoint' else 0)         # R9"),
-    ("minimum <= maximum", "minimum < maximum"),
-    ("minimum <= maximum", "maximum == 0 or minimum <= maximum"),
-    ("minimum <= maximum", "True"),
+    ("maximum == 0 or minimum <= maximum", "maximum == 0 or minimum < maximum"),
+    ("maximum == 0 or minimum <= maximum", "minimum <= maximum"),
+    ("maximum == 0 or minimum <= maximum", "maximum <= 1 or minimum <= maximum"),
+    ("maximum == 0 or minimum <= maximum", "True"),
     ("lines.permit(line, identifier > 0)", "pass"),
     ("lines.permit(line, goals > 0)", "pass"),
     ("lines.permit(line, limits > 0)", "pass"),
@@ -134,13 +136,14 @@ MUTANTS = [
 HARMLESS = {"self.at = end\n", "len(field)) if"}
 
 
-def main():
-    source = open("oracle.py").read()
-    cases = list(casefile.decode(open("cases.bin", "rb").read()))
+def main(directory="."):
+    import oracle
+    source = open(oracle.__file__).read()
+    with open(os.path.join(directory, "cases.bin"), "rb") as corpus:
+        cases = list(casefile.decode(corpus.read()))
     judged = lambda module: [
         (module.read_rndf(r, room) if mode == 1 else module.read_pair(r, m, room))
         for mode, r, m, room in cases]
-    import oracle
     right = [(x.refusal, x.used, x.file, x.mission, x.tables) for x in judged(oracle)]
     survivors = 0
     for old, new in MUTANTS:
@@ -167,4 +170,4 @@ def main():
 
 
 if __name__ == "__main__":
-    sys.exit(main())
+    sys.exit(main(*sys.argv[1:2]))

@@ -3,7 +3,8 @@
 Written from document 01 ("The yard reader, its writer and their rules"), the
 agreed readings (READINGS.md, quoted as R1..R18) and source 004 alone, only for
 testing.  It is plain on purpose: a descent through the grammar, line by line,
-in the words of document 01.  Quoted sentences are document 01's.
+in the words of document 01.  Quoted sentences are document 01's or, where a
+request of document 02 is named (L1, ..), that request's.
 """
 
 import re
@@ -595,9 +596,9 @@ def form_of_mdf(text):
         identifier, minimum, maximum = lines.values(
             line, ["integer", "integer", "integer"])
         lines.permit(line, identifier > 0)
-        # "A speed limit's minimum is not above its maximum."  Taken to the
-        # letter, also where the maximum is 0 ("undefined").
-        lines.permit(line, minimum <= maximum)
+        # L1: "minimum above maximum is a fault only where the maximum is not
+        # 0."
+        lines.permit(line, maximum == 0 or minimum <= maximum)
         form.limits.append([identifier, minimum, maximum])
         form.limit_lines.append(line.number)
     _, line = lines.statement([b"end_speed_limits"])
