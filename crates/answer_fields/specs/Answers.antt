@@ -2,6 +2,7 @@
 use mathlib.Core.Path.{_≡_}
 use Prim.Native.Nat.{ℕ}
 use Rattle.terms.specs.Ascii.{Bytes}
+use Rattle.law.specs.Network.{present}
 use Rattle.law.specs.Tables.{Lent, MissionLent}
 use Rattle.rows.specs.Read.{stretchOf}
 use Rattle.rows.specs.declared.Stretch.{Stretch}
@@ -94,23 +95,23 @@ write-mdf-answer (WriteMdf.Refused x) = record { answer = refused x; length = 0 
 -- ## An RNDF alone: what is answered are the fields of the reply, and that reply and what is left in the lent tables are as the reader promises. t: these tables as they were lent
 pub record AnswersRndf (text : Bytes) (t : Lent) (given : Answer) (left : Lent) : Type 0 where
   pub reply : RndfReply
-  pub reads : ReadsRndf text t reply left
+  pub reads : ReadsRndf present text t reply left
   pub told : given ≡ rndf-answer reply
 
 -- ## An RNDF with its MDF. u: the goals and limits as they were lent
 pub record AnswersPair (rndf mdf : Bytes) (t : Lent) (u : MissionLent) (given : Answer) (left : Lent) (mission-left : MissionLent) : Type 0 where
   pub reply : PairReply
-  pub reads : ReadsPair rndf mdf t u reply left mission-left
+  pub reads : ReadsPair present rndf mdf t u reply left mission-left
   pub told : given ≡ pair-answer reply
 
 -- ## The house writing of an RNDF: the fields of the writer's reply, and the tables and the output as it promises. lent: the length of that output
 pub record AnswersWriteRndf (text : Bytes) (t : Lent) (lent : ℕ) (given : WriteAnswer) (left : Lent) (out : Bytes) : Type 0 where
   pub reply : WriteReply
-  pub writes : WritesRndf text t lent reply left out
+  pub writes : WritesRndf present text t lent reply left out
   pub told : given ≡ write-answer reply
 
 -- ## The house writing of the MDF of a pair
 pub record AnswersWriteMdf (rndf mdf : Bytes) (t : Lent) (u : MissionLent) (lent : ℕ) (given : WriteAnswer) (left : Lent) (mission-left : MissionLent) (out : Bytes) : Type 0 where
   pub reply : WriteMdfReply
-  pub writes : WritesMdf rndf mdf t u lent reply left mission-left out
+  pub writes : WritesMdf present rndf mdf t u lent reply left mission-left out
   pub told : given ≡ write-mdf-answer reply

@@ -4,7 +4,7 @@ use Rattle.line.specs.Line.{Field}
 use Rattle.coordinate.specs.House.{houseCoordinate}
 use Rattle.law.specs.Network.{Network, Mission, Said, word, name, numbers, coordinate, boundary, Line, boundary-word, dotted, SpellsNetwork, SpellsMission}
 use Rattle.law.specs.Tables.{gather}
-use Rattle.law.specs.House.{AsListed, tabbed}
+use Rattle.law.specs.House.{house, tabbed}
 
 -- the house spelling of a field: its only one, but for coordinates. 01: "`0.000000` has no sign."
 abbrev pub house-field : Said → Bytes
@@ -20,7 +20,7 @@ written = gather (λ line. tabbed (map house-field line) ++ ascii "\n")
 
 -- these bytes are the house writing: the lines that spell it, "options in the order listed above, repeats in file order within their kind"
 abbrev pub HouseRndf : Network Field → Bytes → Type 0
-HouseRndf n bytes = (l : List Line) × SpellsNetwork AsListed n l × (bytes ≡ written l)
+HouseRndf n bytes = (l : List Line) × SpellsNetwork house n l × (bytes ≡ written l)
 
 abbrev pub HouseMdf : Mission Field → Bytes → Type 0
-HouseMdf m bytes = (l : List Line) × SpellsMission AsListed m l × (bytes ≡ written l)
+HouseMdf m bytes = (l : List Line) × SpellsMission house m l × (bytes ≡ written l)

@@ -1,7 +1,7 @@
 -- WHAT A READER MUST BELIEVE. What is wrong with a text: one definition for each number 2 to 10 and 12 to 18. Document 01, "Refusal numbers". Assumes nothing.
 use Rattle.terms.specs.Words.{_≡_, List, [], _∷_, _++_, map, ℕ, suc, _+_, _<_, code, length, Bytes, ascii, Each, Among, perhaps, Between}
 use Rattle.line.specs.Line.{Cut, Ended, Field, Content, FormFault}
-use Rattle.law.specs.Network.{PointId, Checkpoint, Exit, Lane, Segment, Zone, Limit, Network, Mission, Said, Line, word, name, numbers, coordinate, boundary, SpellFields, checkpoint-line, exit-line, goal-line, limit-line, SayLines, SpellsText}
+use Rattle.law.specs.Network.{PointId, Checkpoint, Exit, Lane, Segment, Zone, Limit, Network, Mission, Rules, Said, Line, word, name, numbers, coordinate, boundary, SpellFields, checkpoint-line, exit-line, goal-line, limit-line, SayLines, SpellsText}
 use Rattle.law.specs.Network as Law
 use Rattle.law.specs.Tables.{gather, all-lanes}
 
@@ -35,21 +35,21 @@ pub record IsOption (line : Line) : Type 0 where
   pub listed : Among first options
 
 -- line i of a text, behind lines that say `front`
-pub record LineAt (text : Bytes) (i : ℕ) (front : List Line) (this : Bytes) : Type 0 where
+pub record LineAt (rules : Rules) (text : Bytes) (i : ℕ) (front : List Line) (this : Bytes) : Type 0 where
   pub before : List Bytes
   pub rest : List Bytes
   pub cut : Cut text (before ++ (this ∷ rest))
   -- 01: "Lines count from 1."
   pub number : i ≡ suc (length before)
-  pub said : SayLines 0 before front
+  pub said : SayLines rules 0 before front
 
 -- for the lines that spell a network, or a mission
-module _ {Net : Type 0} (Spells : Net → List Line → Type 0) where
+module _ (rules : Rules) {Net : Type 0} (Spells : Rules → Net → List Line → Type 0) where
   -- lines that spell a network, or a mission, begin with these
   pub record Begins (lines : List Line) : Type 0 where
     pub rest : List Line
     pub net : Net
-    pub spelled : Spells net (lines ++ rest)
+    pub spelled : Spells rules net (lines ++ rest)
 
   -- the field opens this line, which may stand behind those
   pub record MayStand (before : List Line) (f : Field) (line : Line) : Type 0 where
@@ -66,7 +66,7 @@ module _ {Net : Type 0} (Spells : Net → List Line → Type 0) where
     pub still-open : Each IsOption (given ∷ since)
     pub not-here : (line : Line) → MayStand before f line → ⊥
 
-  -- the fault of a line with the fields f ∷ fs behind these lines. Where a name stands does not matter here: `Content 0` below counts from the line's start
+  -- the fault of a line with the fields f ∷ fs behind these lines. Where a name stands does not matter here: the start 0 of `Content` below counts from the line's start
   pub data FieldFault (before : List Line) (f : Field) (fs : List Field) : ℕ → Type 0 where
     -- 01: 5 "statement unknown, or not at this place (also a wrong count of items)"
     misplaced : ((line : Line) → MayStand before f line → ⊥) → (GivenAgain before f → ⊥) → FieldFault before f fs 5
@@ -81,14 +81,14 @@ module _ {Net : Type 0} (Spells : Net → List Line → Type 0) where
 
   pub data Fault (before : List Line) (line : Bytes) (number : ℕ) : Type 0 where
     -- 01: 2 "line over 512 bytes"; 3 "comment not closed, or followed by more than tabs"; 4 "byte not allowed"
-    form : {content : Bytes} → Ended line content → FormFault content number → Fault before line number
-    fields : {content : Bytes} {f : Field} {fs : List Field} → Ended line content → Content 0 content (f ∷ fs) → FieldFault before f fs number → Fault before line number
+    form : {content : Bytes} → Ended line content → FormFault (rules .separates) content number → Fault before line number
+    fields : {content : Bytes} {f : Field} {fs : List Field} → Ended line content → Content (rules .separates) 0 content (f ∷ fs) → FieldFault before f fs number → Fault before line number
 
   -- 01: "the first line with a fault of 2 to 9": it is line i, and the lines before it begin a well-formed file
   pub record BadLine (text : Bytes) (i number : ℕ) : Type 0 where
     pub front : List Line
     pub this : Bytes
-    pub at : LineAt text i front this
+    pub at : LineAt rules text i front this
     pub begins : Begins front
     pub fault : Fault front this number
 
@@ -98,15 +98,15 @@ module _ {Net : Type 0} (Spells : Net → List Line → Type 0) where
     pub cut : Cut text lines
     pub line : i ≡ suc (length lines)
     pub said : List Line
-    pub spelled : SayLines 0 lines said
+    pub spelled : SayLines rules 0 lines said
     pub begins : Begins said
-    pub incomplete : (net : Net) → SpellsText Spells net text → ⊥
+    pub incomplete : (net : Net) → SpellsText rules Spells net text → ⊥
 
   -- line i says this, behind lines that say `front`; lines that spell a network, or a mission, begin so
   pub record SaysAt (text : Bytes) (i : ℕ) (front : List Line) (line : Line) : Type 0 where
     pub this : Bytes
-    pub at : LineAt text i front this
-    pub says : SayLines 0 (at .before ++ (this ∷ [])) (front ++ (line ∷ []))
+    pub at : LineAt rules text i front this
+    pub says : SayLines rules 0 (at .before ++ (this ∷ [])) (front ++ (line ∷ []))
     pub begins : Begins (front ++ (line ∷ []))
 
   -- 01: "the first line with 12 or 13"; "14 to 18 by first line". F: RndfFault n, MdfFault n

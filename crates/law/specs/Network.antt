@@ -1,5 +1,6 @@
 -- WHAT A READER MUST BELIEVE. What an RNDF and an MDF say, which values are permitted, and how they are spelled: the lines of each part, and what a text spells. Document 01, "Lines, comments, fields", "The order of an RNDF", "The order of an MDF". Assumes nothing.
-use Rattle.terms.specs.Words.{_≡_, List, [], _∷_, _++_, map, Option, ℕ, suc, _+_, _≤_, _<_, String, length, ℤ, natAbs, Bytes, ascii, Each, perhaps, Between, InTurn}
+use Rattle.terms.specs.Words.{_≡_, List, [], _∷_, _++_, map, Option, Bool, ℕ, suc, _+_, _≤_, _<_, String, length, ℤ, natAbs, Bytes, ascii, Each, perhaps, Between, InTurn}
+use Rattle.scan.specs.Allowed.{separates}
 use Rattle.line.specs.Line.{Cut, Ended, Field, Content}
 use Rattle.number.specs.Decimal.{decimal}
 use Rattle.coordinate.specs.Spelling.{SpellsCoordinate}
@@ -189,6 +190,17 @@ abbrev pub AnyOrder : {A : Type 0} → List (List A) → List A → Type 0
 AnyOrder [] options = options ≡ []
 AnyOrder {A} (l ∷ ls) options = (rest : List A) × AnyOrder ls rest × Mixed l rest options
 
+-- ## Rules: all that may differ from one reading of this law to another
+pub record Rules : Type 1 where
+  -- which bytes separate fields
+  pub separates : ℕ → Bool
+  -- how the options of a part may stand: in any order, or, in the house writing, as listed
+  pub Options : List (List Line) → List Line → Type 0
+
+-- the rules of document 01, as the requests have it
+abbrev pub present : Rules
+present = record { separates = separates; Options = AnyOrder }
+
 -- ## Lines of an RNDF
 -- a keyword and what stands behind it
 abbrev pub line : String → Line → Line
@@ -218,12 +230,12 @@ spot-options m n a = map (λ w. line "spot_width" (numbers (w ∷ []) ∷ [])) (
 abbrev pub file-options : (version date : Option Field) → List (List Line)
 file-options version date = map (λ v. line "format_version" (name v ∷ [])) (perhaps version) ∷ map (λ v. line "creation_date" (name v ∷ [])) (perhaps date) ∷ []
 
--- ## The parts of an RNDF. `Options`: how options may stand: in any order, or, in the house writing, as listed
-module _ (Options : List (List Line) → List Line → Type 0) where
+-- ## The parts of an RNDF
+module _ (rules : Rules) where
   -- 01: "Lane: `lane` m.n; `num_waypoints` > 0; options; waypoints m.n.1, m.n.2, ..; `end_lane`"
   pub record SpellsLane (m n : ℕ) (a : Lane) (l : List Line) : Type 0 where
     pub options : List Line
-    pub given : Options (lane-options m n a) options
+    pub given : rules .Options (lane-options m n a) options
     pub good : GoodLane a
     pub spelled : l ≡ line "lane" (numbers (m ∷ n ∷ []) ∷ []) ∷ line "num_waypoints" (numbers (length (a .points) ∷ []) ∷ []) ∷ options ++ (points m n 1 (a .points) ++ (line "end_lane" [] ∷ []))
 
@@ -242,7 +254,7 @@ module _ (Options : List (List Line) → List Line → Type 0) where
   -- 01: "Spot: `spot` m.n; options ..; two waypoints; `end_spot`"
   pub record SpellsSpot (m n : ℕ) (a : Spot) (l : List Line) : Type 0 where
     pub options : List Line
-    pub given : Options (spot-options m n a) options
+    pub given : rules .Options (spot-options m n a) options
     pub good : GoodSpot a
     pub spelled : l ≡ line "spot" (numbers (m ∷ n ∷ []) ∷ []) ∷ options ++ (points m n 1 (a .first ∷ a .second ∷ []) ++ (line "end_spot" [] ∷ []))
 
@@ -260,7 +272,7 @@ module _ (Options : List (List Line) → List Line → Type 0) where
     pub options : List Line
     pub segments : List Line
     pub zones : List Line
-    pub given : Options (file-options (a .version) (a .date)) options
+    pub given : rules .Options (file-options (a .version) (a .date)) options
     pub some-segment : 1 ≤ length (a .segments)
     pub count : length (a .segments) + length (a .zones) ≤ largest
     pub each-segment : InTurn SpellsSegment 1 (a .segments) segments
@@ -276,9 +288,9 @@ abbrev pub limit-line : Limit → Line
 limit-line a = numbers (a .id ∷ []) ∷ numbers (a .minimum ∷ []) ∷ numbers (a .maximum ∷ []) ∷ []
 
 -- 01: "`MDF_name`; `RNDF` name; options ..; `checkpoints`; `num_checkpoints` > 0; so many numbers > 0; `end_checkpoints`; `speed_limits`; `num_speed_limits` > 0; so many lines ..; `end_speed_limits`; `end_file`"
-pub record SpellsMission (Options : List (List Line) → List Line → Type 0) (a : Mission Field) (l : List Line) : Type 0 where
+pub record SpellsMission (rules : Rules) (a : Mission Field) (l : List Line) : Type 0 where
   pub options : List Line
-  pub given : Options (file-options (a .version) (a .date)) options
+  pub given : rules .Options (file-options (a .version) (a .date)) options
   pub good : GoodMission a
   pub spelled : l ≡ line "MDF_name" (name (a .name) ∷ []) ∷ line "RNDF" (name (a .rndf) ∷ []) ∷ options
       ++ (line "checkpoints" [] ∷ line "num_checkpoints" (numbers (length (a .goals) ∷ []) ∷ []) ∷ map goal-line (a .goals)
@@ -286,24 +298,25 @@ pub record SpellsMission (Options : List (List Line) → List Line → Type 0) (
       ++ (line "end_speed_limits" [] ∷ line "end_file" [] ∷ [])))
 
 -- ## Texts
--- a line of a text, which starts at this place of it, and what its fields say
-pub record Says (start : ℕ) (line : Bytes) (said : Line) : Type 0 where
-  pub content : Bytes
-  pub fields : List Field
-  pub ended : Ended line content
-  pub fielded : Content start content fields
-  pub spelled : SpellFields fields said
+module _ (rules : Rules) where
+  -- a line of a text, which starts at this place of it, and what its fields say
+  pub record Says (start : ℕ) (line : Bytes) (said : Line) : Type 0 where
+    pub content : Bytes
+    pub fields : List Field
+    pub ended : Ended line content
+    pub fielded : Content (rules .separates) start content fields
+    pub spelled : SpellFields fields said
 
--- lines one behind the other, the first of which starts at this place, and what they say. 01: "A line without fields is blank and may stand anywhere"
-pub data SayLines : ℕ → List Bytes → List Line → Type 0 where
-  done : {start : ℕ} → SayLines start [] []
-  blank : {start : ℕ} {line : Bytes} {lines : List Bytes} {l : List Line} → Says start line [] → SayLines (start + suc (length line)) lines l → SayLines start (line ∷ lines) l
-  statement : {start : ℕ} {line : Bytes} {lines : List Bytes} {s : Said} {said : Line} {l : List Line} → Says start line (s ∷ said) → SayLines (start + suc (length line)) lines l → SayLines start (line ∷ lines) ((s ∷ said) ∷ l)
+  -- lines one behind the other, the first of which starts at this place, and what they say. 01: "A line without fields is blank and may stand anywhere"
+  pub data SayLines : ℕ → List Bytes → List Line → Type 0 where
+    done : {start : ℕ} → SayLines start [] []
+    blank : {start : ℕ} {line : Bytes} {lines : List Bytes} {l : List Line} → Says start line [] → SayLines (start + suc (length line)) lines l → SayLines start (line ∷ lines) l
+    statement : {start : ℕ} {line : Bytes} {lines : List Bytes} {s : Said} {said : Line} {l : List Line} → Says start line (s ∷ said) → SayLines (start + suc (length line)) lines l → SayLines start (line ∷ lines) ((s ∷ said) ∷ l)
 
--- a text whose lines spell this. 01: ""Well-formed" means spelled by the grammar, entries still as identifiers and 12 to 18 left aside"
-pub record SpellsText {Net : Type 0} (Spells : Net → List Line → Type 0) (n : Net) (text : Bytes) : Type 0 where
-  pub lines : List Bytes
-  pub said : List Line
-  pub cut : Cut text lines
-  pub each : SayLines 0 lines said
-  pub net : Spells n said
+  -- a text whose lines spell this. 01: ""Well-formed" means spelled by the grammar, entries still as identifiers and 12 to 18 left aside"
+  pub record SpellsText {Net : Type 0} (Spells : Rules → Net → List Line → Type 0) (n : Net) (text : Bytes) : Type 0 where
+    pub lines : List Bytes
+    pub said : List Line
+    pub cut : Cut text lines
+    pub each : SayLines 0 lines said
+    pub net : Spells rules n said

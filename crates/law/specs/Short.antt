@@ -1,7 +1,7 @@
 -- Short names for what law/specs/Network says; nothing more to believe. Assumes nothing.
 use Rattle.terms.specs.Words.{[], _∷_, ℕ, String, Bytes}
 use Rattle.line.specs.Line.{Field}
-use Rattle.law.specs.Network.{Network, Mission, Line, name, numbers, line, AnyOrder, SpellsNetwork, SpellsMission, SpellsText}
+use Rattle.law.specs.Network.{Network, Mission, Line, name, numbers, line, present, SpellsNetwork, SpellsMission, SpellsText}
 
 abbrev pub bare : String → Line
 bare w = line w []
@@ -17,7 +17,7 @@ parted w m n = line w (numbers (m ∷ n ∷ []) ∷ [])
 
 -- a text that spells a network, a mission
 abbrev pub SpellsRndf : Network Field → Bytes → Type 0
-SpellsRndf = SpellsText (SpellsNetwork AnyOrder)
+SpellsRndf = SpellsText present SpellsNetwork
 
 abbrev pub SpellsMdf : Mission Field → Bytes → Type 0
-SpellsMdf = SpellsText (SpellsMission AnyOrder)
+SpellsMdf = SpellsText present SpellsMission

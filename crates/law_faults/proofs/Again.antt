@@ -17,7 +17,7 @@ use Rattle.grammar.proofs.LanguageLaws.{as-inv, memb, Allowed}
 use Rattle.grammar.proofs.MachineLaws.{Agrees, clear-agrees, differ, refused, told}
 use Rattle.text.specs.Said as Old
 use Rattle.text.specs.Judge.{Lexis}
-use Rattle.law.specs.Network.{Line}
+use Rattle.law.specs.Network.{Line, Rules}
 use Rattle.law.specs.Faults.{IsOption}
 use Rattle.law_spelling.specs.LineOf.{law-line}
 use Rattle.law_faults.proofs.Needs.{Listed, Needs}
@@ -89,7 +89,7 @@ module _ (L : Lang) where
       go (no n) (inl a) ih = absurd (n (ap (λ (s : S L). s .kind) (a .1)))
       go (no n) (inr a) ih = ih a
 
-module _ {L : Lang} (A : Machine L) (X : Lexis L) (line-of : (k : L .Kind) → L .Pay k → List Old.Said) {Net : Type 0} (Said : Net → List (S L) → Type 0) (Spells : Net → List Line → Type 0) (first : A .Base) (N : Needs A X line-of Said Spells first) where
+module _ {L : Lang} (A : Machine L) (X : Lexis L) (line-of : (k : L .Kind) → L .Pay k → List Old.Said) {Net : Type 0} (Said : Net → List (S L) → Type 0) (Spells : Rules → Net → List Line → Type 0) (first : A .Base) (N : Needs A X line-of Said Spells first) where
   open Lang L using (Kind, Pay, disc)
 
   abbrev law : S L → Line

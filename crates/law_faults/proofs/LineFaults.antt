@@ -21,7 +21,7 @@ use Rattle.text.specs.Faults.{Fielded, unknown}
 use Rattle.text.specs.Faults as Old
 use Rattle.text.proofs.Telling.{Lawful}
 use Rattle.text.proofs.FaultLaws.{five-or-six}
-use Rattle.law.specs.Network.{Line, SpellFields}
+use Rattle.law.specs.Network.{Line, SpellFields, Rules, present}
 use Rattle.law.specs.Faults.{sort, Opens, IsOption, Begins, MayStand, GivenAgain, FieldFault, Fault, form, fields, misplaced, given-again, miscounted, misspelt, forbidden}
 use Rattle.law_spelling.specs.LineOf.{law-line}
 use Rattle.law_spelling.proofs.Fields.{fields-to, fields-back}
@@ -35,7 +35,7 @@ use Rattle.law_faults.proofs.Again.{given-before, stood-before}
 one-kind : {K : Type 0} {o : Option K} {j k : K} → o ≡ some j → o ≡ some k → j ≡ k
 one-kind {o = o} {j = j} {k = k} e f = let h : some j ≡ some k = sym e ∙ f in cc
 
-module _ {L : Lang} (A : Machine L) (X : Lexis L) (line-of : (k : L .Kind) → L .Pay k → List Said.Said) {Net : Type 0} (Said : Net → List (S L) → Type 0) (Spells : Net → List Line → Type 0) (first : A .Base) (N : Needs A X line-of Said Spells first) where
+module _ {L : Lang} (A : Machine L) (X : Lexis L) (line-of : (k : L .Kind) → L .Pay k → List Said.Said) {Net : Type 0} (Said : Net → List (S L) → Type 0) (Spells : Rules → Net → List Line → Type 0) (first : A .Base) (N : Needs A X line-of Said Spells first) where
   open Lang L using (Kind, Pay)
 
   abbrev W : Lawful A X line-of
@@ -57,7 +57,7 @@ module _ {L : Lang} (A : Machine L) (X : Lexis L) (line-of : (k : L .Kind) → L
 
     module _ (f : Field) where
       -- ## A line that may stand
-      may-to : (k : Kind) → kindAt A X p f ≡ some k → stands A p k ≡ none → (v : Pay k) × MayStand Spells front f (law (say L k v))
+      may-to : (k : Kind) → kindAt A X p f ≡ some k → stands A p k ≡ none → (v : Pay k) × MayStand present Spells front f (law (say L k v))
       may-to k e s =
           let x = some-value A X line-of Said Spells first N p values-at good-at k s in
           (x .0, record { opens = kind-opens A X line-of Said Spells first N p f k (x .0) e; begins = line-to A X line-of Said Spells first N said p (x .1) (say L k (x .0)) came (x .2) })
@@ -69,7 +69,7 @@ module _ {L : Lang} (A : Machine L) (X : Lexis L) (line-of : (k : L .Kind) → L
         made-out : kindAt A X p f ≡ some k
         here : stands A p k ≡ none
 
-      may-back : (line : Line) → MayStand Spells front f line → Stands line
+      may-back : (line : Line) → MayStand present Spells front f line → Stands line
       may-back line m =
           let x = line-back A X line-of Said Spells first N said p line came (m .begins) in
           let s = x .0 in
@@ -77,16 +77,16 @@ module _ {L : Lang} (A : Machine L) (X : Lexis L) (line-of : (k : L .Kind) → L
           record { k = s .kind; v = s .val; is = x .2; made-out = opens-kind A X line-of Said Spells first N p f (s .kind) (s .val) h (subst (Opens f) (x .2) (m .opens)); here = h }
 
       -- no line may stand where no kind is made out, or one that may not
-      none-may : kindAt A X p f ≡ none → (line : Line) → MayStand Spells front f line → ⊥
+      none-may : kindAt A X p f ≡ none → (line : Line) → MayStand present Spells front f line → ⊥
       none-may e line m = let x = may-back line m in nothing (sym e ∙ x .made-out)
 
-      not-may : (k : Kind) (n : ℕ) → kindAt A X p f ≡ some k → stands A p k ≡ some n → (line : Line) → MayStand Spells front f line → ⊥
+      not-may : (k : Kind) (n : ℕ) → kindAt A X p f ≡ some k → stands A p k ≡ some n → (line : Line) → MayStand present Spells front f line → ⊥
       not-may k n e s line m =
           let x = may-back line m in
           nothing (sym (x .here) ∙ ap (stands A p) (one-kind (x .made-out) e) ∙ s)
 
       -- ## An option that was given
-      again-to : (k : Kind) → kindAt A X p f ≡ some k → stands A p k ≡ some 6 → GivenAgain Spells front f
+      again-to : (k : Kind) → kindAt A X p f ≡ some k → stands A p k ≡ some 6 → GivenAgain present Spells front f
       again-to k e s =
           let x = given-before A X line-of Said Spells first N said p k came s in
           record {
@@ -99,7 +99,7 @@ module _ {L : Lang} (A : Machine L) (X : Lexis L) (line-of : (k : L .Kind) → L
             not-here = not-may k 6 e s;
           }
 
-      again-back : GivenAgain Spells front f → (k : Kind) × (kindAt A X p f ≡ some k) × (stands A p k ≡ some 6)
+      again-back : GivenAgain present Spells front f → (k : Kind) × (kindAt A X p f ≡ some k) × (stands A p k ≡ some 6)
       again-back g = go (split line-of (g .earlier) (g .given ∷ g .since) said (sym (g .was)))
         where
           settled : (s : S L) → kindAt A X p f ≡ some (s .kind) → (stands A p (s .kind) ≡ none) ⊎ (stands A p (s .kind) ≡ some 6) → (k : Kind) × (kindAt A X p f ≡ some k) × (stands A p k ≡ some 6)
@@ -118,10 +118,10 @@ module _ {L : Lang} (A : Machine L) (X : Lexis L) (line-of : (k : L .Kind) → L
           go (a, [], e, q, h) = cons-nil (sym h)
           go (a, s ∷ b, e, q, h) = here a s b e h
 
-      none-again : kindAt A X p f ≡ none → GivenAgain Spells front f → ⊥
+      none-again : kindAt A X p f ≡ none → GivenAgain present Spells front f → ⊥
       none-again e g = let x = again-back g in nothing (sym e ∙ x .1)
 
-      not-again : (k : Kind) → kindAt A X p f ≡ some k → stands A p k ≡ some 5 → GivenAgain Spells front f → ⊥
+      not-again : (k : Kind) → kindAt A X p f ≡ some k → stands A p k ≡ some 5 → GivenAgain present Spells front f → ⊥
       not-again k e s g =
           let x = again-back g in
           let z : _≡_ {A = Option ℕ} (some 6) (some 5) = sym (x .2) ∙ ap (stands A p) (one-kind (x .1) e) ∙ s in
@@ -129,7 +129,7 @@ module _ {L : Lang} (A : Machine L) (X : Lexis L) (line-of : (k : L .Kind) → L
 
     -- ## A line at fault
     module _ (line : Bytes) where
-      pub fault-to : (n : ℕ) → Old.Fault A X line-of p 0 line n → Fault Spells front line n
+      pub fault-to : (n : ℕ) → Old.Fault A X line-of p 0 line n → Fault present Spells front line n
       fault-to n (Old.form e h) = form e h
       fault-to n (unknown {f = f} {fs = fs} h e) = fields (h .ended) (h .fields) (misplaced (none-may f e) (none-again f e))
       fault-to n (Old.misplaced {f = f} {k = k} h e s) = fields (h .ended) (h .fields) (misplaced (not-may f k 5 e s) (not-again f k e s))
@@ -148,7 +148,7 @@ module _ {L : Lang} (A : Machine L) (X : Lexis L) (line-of : (k : L .Kind) → L
           let y = line-back A X line-of Said Spells first N said p (law (say L k v)) came b in
           m (y .1) (ap (step A p) (N .one (say L k v) (y .0) (y .2)) ∙ y .3))
 
-      pub fault-back : (n : ℕ) → Fault Spells front line n → Old.Fault A X line-of p 0 line n
+      pub fault-back : (n : ℕ) → Fault present Spells front line n → Old.Fault A X line-of p 0 line n
       fault-back n (form e h) = Old.form e h
       fault-back n (fields {content = c} {f = f} {fs = fs} e h b) = go n b
         where
@@ -158,11 +158,11 @@ module _ {L : Lang} (A : Machine L) (X : Lexis L) (line-of : (k : L .Kind) → L
           may : {l : Line} (x : Stands f l) → Old.MayStand A X line-of p 0 line (x .k) f fs
           may x = record { fields = fielded; is = x .made-out; here = x .here }
 
-          misplaced-at : (k : Kind) → kindAt A X p f ≡ some k → (GivenAgain Spells front f → ⊥) → (m : ℕ) → stands A p k ≡ some m → (m ≡ 5) ⊎ (m ≡ 6) → Old.Fault A X line-of p 0 line 5
+          misplaced-at : (k : Kind) → kindAt A X p f ≡ some k → (GivenAgain present Spells front f → ⊥) → (m : ℕ) → stands A p k ≡ some m → (m ≡ 5) ⊎ (m ≡ 6) → Old.Fault A X line-of p 0 line 5
           misplaced-at k q again m s (inl i) = Old.misplaced fielded q (s ∙ ap some i)
           misplaced-at k q again m s (inr i) = absurd (again (again-to f k q (s ∙ ap some i)))
 
-          unfit : ((l : Line) → MayStand Spells front f l → ⊥) → (GivenAgain Spells front f → ⊥) → (x : Option Kind) → kindAt A X p f ≡ x → Old.Fault A X line-of p 0 line 5
+          unfit : ((l : Line) → MayStand present Spells front f l → ⊥) → (GivenAgain present Spells front f → ⊥) → (x : Option Kind) → kindAt A X p f ≡ x → Old.Fault A X line-of p 0 line 5
           unfit none-stands again none q = unknown fielded q
           unfit none-stands again (some k) q = at-kind (stands A p k) refl
             where
@@ -170,7 +170,7 @@ module _ {L : Lang} (A : Machine L) (X : Lexis L) (line-of : (k : L .Kind) → L
               at-kind none s = let x = may-to f k q s in absurd (none-stands (law (say L k (x .0))) (x .1))
               at-kind (some m) s = misplaced-at k q again m s (five-or-six A X line-of W p k m s)
 
-          go : (n : ℕ) → FieldFault Spells front f fs n → Old.Fault A X line-of p 0 line n
+          go : (n : ℕ) → FieldFault present Spells front f fs n → Old.Fault A X line-of p 0 line n
           go n (misplaced m again) = unfit m again (kindAt A X p f) refl
           go n (given-again g) = let x = again-back f g in Old.given-again fielded (x .1) (x .2)
           go n (miscounted l m c) =
@@ -184,4 +184,4 @@ module _ {L : Lang} (A : Machine L) (X : Lexis L) (line-of : (k : L .Kind) → L
               let x = may-back f l m in
               let y = of-kind A X line-of W (x .k) (x .v) u (e ∙ ap (map sort) (x .is)) in
               Old.forbidden (may x) (y .0) (fields-back (f ∷ fs) (line-of (x .k) (y .0)) (subst (SpellFields (f ∷ fs)) (y .1) s))
-              (λ q t. b (subst (λ (u : Line). Begins Spells (front ++ (u ∷ []))) (sym (y .1)) (line-to A X line-of Said Spells first N said p q (say L (x .k) (y .0)) came t)))
+              (λ q t. b (subst (λ (u : Line). Begins present Spells (front ++ (u ∷ []))) (sym (y .1)) (line-to A X line-of Said Spells first N said p q (say L (x .k) (y .0)) came t)))

@@ -11,7 +11,7 @@ use Rattle.line.specs.Content.{Field, at}
 use Rattle.scan.specs.Reach.{sameBytes}
 use Rattle.word.specs.Keywords.{mdf-keywords}
 use Rattle.word.specs.Number.{indexOf}
-use Rattle.law.specs.Network.{Line, numbers, AnyOrder}
+use Rattle.law.specs.Network.{Line, numbers}
 use Rattle.law.specs.Network as Law
 use Rattle.grammar.specs.Language.{say}
 use Rattle.grammar.specs.Mission.{SpellsMission}
@@ -116,7 +116,7 @@ alike limit u w h = λ i. record { id = h .0 i; minimum = h .1 .0 i; maximum = h
 steady : (p : Place (mdf Field)) (k : Kind) (u w : Vals (mdf-sorts k)) → Alike (mdf-sorts k) u w → step (mdf Field) p (say (orders Field) k (mdf-make k u)) ≡ step (mdf Field) p (say (orders Field) k (mdf-make k w))
 steady p k u w h = sym (mdf-renamed bytes-of p (say (orders Field) k (mdf-make k u))) ∙ ap (λ (v : Says Name k). step (mdf Name) p (say (orders Name) k v)) (alike k u w h) ∙ mdf-renamed bytes-of p (say (orders Field) k (mdf-make k w))
 
-pub mdf-needs : Needs (mdf Field) mdf-lexis mdf-line SpellsMission (Law.SpellsMission AnyOrder) name-due
+pub mdf-needs : Needs (mdf Field) mdf-lexis mdf-line SpellsMission Law.SpellsMission name-due
 mdf-needs = record {
   file = mdf-file;
   to = mission-to;

@@ -23,7 +23,7 @@ use Rattle.grammar.proofs.StandLaws.{step-due}
 use Rattle.text.specs.Said as Old
 use Rattle.text.specs.Judge.{Lexis, dueAt, numbered, kindAt}
 use Rattle.text.proofs.Telling.{Lawful}
-use Rattle.law.specs.Network.{Line, word, numbers}
+use Rattle.law.specs.Network.{Line, word, numbers, Rules}
 use Rattle.law.specs.Faults.{Opens, keyword, digit}
 use Rattle.law_spelling.specs.LineOf.{law-line}
 use Rattle.law_faults.proofs.Sorts.{law-said, law-front, law-line-is}
@@ -82,7 +82,7 @@ module _ (L : Lang) where
           let x = ih e in
           (x .0, f ∷ x .1, rw (none-of L (o .on) (say L k (x .0)) n, x .2))
 
-module _ {L : Lang} (A : Machine L) (X : Lexis L) (line-of : (k : L .Kind) → L .Pay k → List Old.Said) {Net : Type 0} (Said : Net → List (S L) → Type 0) (Spells : Net → List Line → Type 0) (first : A .Base) (N : Needs A X line-of Said Spells first) where
+module _ {L : Lang} (A : Machine L) (X : Lexis L) (line-of : (k : L .Kind) → L .Pay k → List Old.Said) {Net : Type 0} (Said : Net → List (S L) → Type 0) (Spells : Rules → Net → List Line → Type 0) (first : A .Base) (N : Needs A X line-of Said Spells first) where
   open Lang L using (Kind, Pay, disc)
 
   abbrev W : Lawful A X line-of

@@ -9,7 +9,7 @@ use Rattle.grammar.proofs.MachineLaws.{Goes-on, refused, run-nil, run-append}
 use Rattle.grammar.proofs.MachineLaws as Ml
 use Rattle.text.specs.Said as Old
 use Rattle.text.specs.Judge.{Lexis}
-use Rattle.law.specs.Network.{Line}
+use Rattle.law.specs.Network.{Line, Rules, present}
 use Rattle.law.specs.Faults.{Begins}
 use Rattle.law_spelling.specs.LineOf.{law-line}
 use Rattle.law_faults.proofs.Needs.{Needs}
@@ -71,7 +71,7 @@ module _ {L : Lang} (A : Machine L) where
   pub one-place : {o : Out (Place A)} {p q : Place A} → o ≡ next p → o ≡ next q → p ≡ q
   one-place {o} {p} {q} e f = let h : next p ≡ next q = sym e ∙ f in cc
 
-module _ {L : Lang} (A : Machine L) (X : Lexis L) (line-of : (k : L .Kind) → L .Pay k → List Old.Said) {Net : Type 0} (Said : Net → List (S L) → Type 0) (Spells : Net → List Line → Type 0) (first : A .Base) (N : Needs A X line-of Said Spells first) where
+module _ {L : Lang} (A : Machine L) (X : Lexis L) (line-of : (k : L .Kind) → L .Pay k → List Old.Said) {Net : Type 0} (Said : Net → List (S L) → Type 0) (Spells : Rules → Net → List Line → Type 0) (first : A .Base) (N : Needs A X line-of Said Spells first) where
   -- statements that lead to a place
   abbrev pub Came : List (S L) → Place A → Type 0
   Came said p = run A (at A first) said ≡ next p
@@ -83,13 +83,13 @@ module _ {L : Lang} (A : Machine L) (X : Lexis L) (line-of : (k : L .Kind) → L
   goes-on : (b : A .Base) → N .file .Good b → Goes-on A (N .file .Good) (N .file .cost) b
   goes-on b y = let x = N .file .leaves b y in record { keeps = N .file .keeps b y; v = x .v 0; ok = x .ok 0; less = x .less 0 }
 
-  pub begins-to : (said : List (S L)) (p : Place A) → Came said p → Begins Spells (laws line-of said)
+  pub begins-to : (said : List (S L)) (p : Place A) → Came said p → Begins present Spells (laws line-of said)
   begins-to said p e =
       let r = Ml.begins A (N .file .Good) (N .file .cost) goes-on first (N .file .good-first) p said e in
       let s = N .file .sound (said ++ r .0) (r .1) in
-      record { rest = laws line-of (r .0); net = s .0; spelled = subst (Spells (s .0)) (map-append law said (r .0)) (N .to (s .0) (said ++ r .0) (s .1)) }
+      record { rest = laws line-of (r .0); net = s .0; spelled = subst (Spells present (s .0)) (map-append law said (r .0)) (N .to (s .0) (said ++ r .0) (s .1)) }
 
-  pub begins-back : (lines : List Line) → Begins Spells lines → (said : List (S L)) × (p : Place A) × (lines ≡ laws line-of said) × Came said p
+  pub begins-back : (lines : List Line) → Begins present Spells lines → (said : List (S L)) × (p : Place A) × (lines ≡ laws line-of said) × Came said p
   begins-back lines b =
       let x = N .back (b .net) (lines ++ b .rest) (b .spelled) in
       let s = split line-of lines (b .rest) (x .0) (x .1) in
@@ -98,10 +98,10 @@ module _ {L : Lang} (A : Machine L) (X : Lexis L) (line-of : (k : L .Kind) → L
       (s .0, r .0, s .3, r .1)
 
   -- ## One more line
-  pub line-to : (said : List (S L)) (p q : Place A) (s : S L) → Came said p → step A p s ≡ next q → Begins Spells (laws line-of said ++ (law s ∷ []))
-  line-to said p q s c e = subst (Begins Spells) (map-append law said (s ∷ [])) (begins-to (said ++ (s ∷ [])) q (run-both A (at A first) p q said (s ∷ []) c (one-run A p q q s [] e (run-nil A q))))
+  pub line-to : (said : List (S L)) (p q : Place A) (s : S L) → Came said p → step A p s ≡ next q → Begins present Spells (laws line-of said ++ (law s ∷ []))
+  line-to said p q s c e = subst (Begins present Spells) (map-append law said (s ∷ [])) (begins-to (said ++ (s ∷ [])) q (run-both A (at A first) p q said (s ∷ []) c (one-run A p q q s [] e (run-nil A q))))
 
-  pub line-back : (said : List (S L)) (p : Place A) (line : Line) → Came said p → Begins Spells (laws line-of said ++ (line ∷ [])) → (s : S L) × (q : Place A) × (line ≡ law s) × (step A p s ≡ next q)
+  pub line-back : (said : List (S L)) (p : Place A) (line : Line) → Came said p → Begins present Spells (laws line-of said ++ (line ∷ [])) → (s : S L) × (q : Place A) × (line ≡ law s) × (step A p s ≡ next q)
   line-back said p line c b = go (begins-back (laws line-of said ++ (line ∷ [])) b)
     where
       last : (b : List (S L)) (q : Place A) → line ∷ [] ≡ laws line-of b → run A p b ≡ next q → (s : S L) × (q : Place A) × (line ≡ law s) × (step A p s ≡ next q)

@@ -12,7 +12,7 @@ use Rattle.line.specs.Content.{Field, at}
 use Rattle.scan.specs.Reach.{sameBytes}
 use Rattle.word.specs.Keywords.{rndf-keywords}
 use Rattle.word.specs.Number.{indexOf}
-use Rattle.law.specs.Network.{double-yellow, Line, numbers, AnyOrder}
+use Rattle.law.specs.Network.{double-yellow, Line, numbers}
 use Rattle.grammar.specs.Network.{GoodExit, GoodPerimeterExit}
 use Rattle.law.specs.Network as Law
 use Rattle.grammar.specs.Language.{say}
@@ -209,7 +209,7 @@ alike point u w h = λ i. record { id = h .0 i; position = record { latitude = h
 steady : (p : Place (rndf Field)) (k : Kind) (u w : Vals (rndf-sorts k)) → Alike (rndf-sorts k) u w → step (rndf Field) p (say (lines Field) k (rndf-make k u)) ≡ step (rndf Field) p (say (lines Field) k (rndf-make k w))
 steady p k u w h = sym (rndf-renamed bytes-of p (say (lines Field) k (rndf-make k u))) ∙ ap (λ (v : Says Name k). step (rndf Name) p (say (lines Name) k v)) (alike k u w h) ∙ rndf-renamed bytes-of p (say (lines Field) k (rndf-make k w))
 
-pub rndf-needs : Needs (rndf Field) rndf-lexis rndf-line SpellsNetwork (Law.SpellsNetwork AnyOrder) name-due
+pub rndf-needs : Needs (rndf Field) rndf-lexis rndf-line SpellsNetwork Law.SpellsNetwork name-due
 rndf-needs = record {
   file = rndf-file;
   to = network-to;

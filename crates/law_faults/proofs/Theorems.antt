@@ -12,7 +12,7 @@ use Rattle.text.specs.MdfLines.{mdf-line}
 use Rattle.text.specs.RndfWords.{rndf-lexis}
 use Rattle.text.specs.MdfWords.{mdf-lexis}
 use Rattle.form_faults.specs.FormFaults.{RndfBadLine, RndfUnended, MdfBadLine, MdfUnended}
-use Rattle.law.specs.Network.{AnyOrder}
+use Rattle.law.specs.Network.{present}
 use Rattle.law.specs.Network as Law
 use Rattle.law.specs.Faults.{BadLine, Unended}
 use Rattle.law_faults.proofs.BadLines.{bad-to, bad-back, unended-to, unended-back}
@@ -21,30 +21,30 @@ use Rattle.law_faults.proofs.Mdf.{mdf-needs}
 
 -- ## RNDF
 -- 2 to 9
-pub rndf-bad-to : (text : Bytes) (i n : ℕ) → RndfBadLine text i n → BadLine (Law.SpellsNetwork AnyOrder) text i n
-rndf-bad-to = bad-to (rndf Field) rndf-lexis rndf-line SpellsNetwork (Law.SpellsNetwork AnyOrder) name-due rndf-needs
+pub rndf-bad-to : (text : Bytes) (i n : ℕ) → RndfBadLine text i n → BadLine present Law.SpellsNetwork text i n
+rndf-bad-to = bad-to (rndf Field) rndf-lexis rndf-line SpellsNetwork Law.SpellsNetwork name-due rndf-needs
 
-pub rndf-bad-back : (text : Bytes) (i n : ℕ) → BadLine (Law.SpellsNetwork AnyOrder) text i n → RndfBadLine text i n
-rndf-bad-back = bad-back (rndf Field) rndf-lexis rndf-line SpellsNetwork (Law.SpellsNetwork AnyOrder) name-due rndf-needs
+pub rndf-bad-back : (text : Bytes) (i n : ℕ) → BadLine present Law.SpellsNetwork text i n → RndfBadLine text i n
+rndf-bad-back = bad-back (rndf Field) rndf-lexis rndf-line SpellsNetwork Law.SpellsNetwork name-due rndf-needs
 
 -- 10
-pub rndf-unended-to : (text : Bytes) (i : ℕ) → RndfUnended text i → Unended (Law.SpellsNetwork AnyOrder) text i
-rndf-unended-to = unended-to (rndf Field) rndf-lexis rndf-line SpellsNetwork (Law.SpellsNetwork AnyOrder) name-due rndf-needs
+pub rndf-unended-to : (text : Bytes) (i : ℕ) → RndfUnended text i → Unended present Law.SpellsNetwork text i
+rndf-unended-to = unended-to (rndf Field) rndf-lexis rndf-line SpellsNetwork Law.SpellsNetwork name-due rndf-needs
 
-pub rndf-unended-back : (text : Bytes) (i : ℕ) → Unended (Law.SpellsNetwork AnyOrder) text i → RndfUnended text i
-rndf-unended-back = unended-back (rndf Field) rndf-lexis rndf-line SpellsNetwork (Law.SpellsNetwork AnyOrder) name-due rndf-needs
+pub rndf-unended-back : (text : Bytes) (i : ℕ) → Unended present Law.SpellsNetwork text i → RndfUnended text i
+rndf-unended-back = unended-back (rndf Field) rndf-lexis rndf-line SpellsNetwork Law.SpellsNetwork name-due rndf-needs
 
 -- ## MDF
 -- 2 to 9
-pub mdf-bad-to : (text : Bytes) (i n : ℕ) → MdfBadLine text i n → BadLine (Law.SpellsMission AnyOrder) text i n
-mdf-bad-to = bad-to (mdf Field) mdf-lexis mdf-line SpellsMission (Law.SpellsMission AnyOrder) Mdf-at.name-due mdf-needs
+pub mdf-bad-to : (text : Bytes) (i n : ℕ) → MdfBadLine text i n → BadLine present Law.SpellsMission text i n
+mdf-bad-to = bad-to (mdf Field) mdf-lexis mdf-line SpellsMission Law.SpellsMission Mdf-at.name-due mdf-needs
 
-pub mdf-bad-back : (text : Bytes) (i n : ℕ) → BadLine (Law.SpellsMission AnyOrder) text i n → MdfBadLine text i n
-mdf-bad-back = bad-back (mdf Field) mdf-lexis mdf-line SpellsMission (Law.SpellsMission AnyOrder) Mdf-at.name-due mdf-needs
+pub mdf-bad-back : (text : Bytes) (i n : ℕ) → BadLine present Law.SpellsMission text i n → MdfBadLine text i n
+mdf-bad-back = bad-back (mdf Field) mdf-lexis mdf-line SpellsMission Law.SpellsMission Mdf-at.name-due mdf-needs
 
 -- 10
-pub mdf-unended-to : (text : Bytes) (i : ℕ) → MdfUnended text i → Unended (Law.SpellsMission AnyOrder) text i
-mdf-unended-to = unended-to (mdf Field) mdf-lexis mdf-line SpellsMission (Law.SpellsMission AnyOrder) Mdf-at.name-due mdf-needs
+pub mdf-unended-to : (text : Bytes) (i : ℕ) → MdfUnended text i → Unended present Law.SpellsMission text i
+mdf-unended-to = unended-to (mdf Field) mdf-lexis mdf-line SpellsMission Law.SpellsMission Mdf-at.name-due mdf-needs
 
-pub mdf-unended-back : (text : Bytes) (i : ℕ) → Unended (Law.SpellsMission AnyOrder) text i → MdfUnended text i
-mdf-unended-back = unended-back (mdf Field) mdf-lexis mdf-line SpellsMission (Law.SpellsMission AnyOrder) Mdf-at.name-due mdf-needs
+pub mdf-unended-back : (text : Bytes) (i : ℕ) → Unended present Law.SpellsMission text i → MdfUnended text i
+mdf-unended-back = unended-back (mdf Field) mdf-lexis mdf-line SpellsMission Law.SpellsMission Mdf-at.name-due mdf-needs

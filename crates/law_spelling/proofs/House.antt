@@ -7,7 +7,7 @@ use Rattle.terms.specs.Words.{Each, perhaps, InTurn, nothing, then}
 use Rattle.line.specs.Content.{Field}
 use Rattle.law.specs.Network.{Line, Lane, Segment, Perimeter, Spot, Zone, Network, Mission, GoodSpot, GoodMission, points, exit-line}
 use Rattle.law.specs.Short.{parted, counted, named, bare}
-use Rattle.law.specs.House.{AsListed}
+use Rattle.law.specs.House.{AsListed, house}
 use Rattle.law.specs.Network as Law
 use Rattle.grammar.specs.Statements.{Statement, say, numbered, point-id, format-version, creation-date, segment-name, end-segment, lane-width, left-boundary, right-boundary, checkpoint, stop, exit, end-lane, zone-name, end-zone, end-perimeter, spot-width, end-spot, end-file}
 use Rattle.grammar.specs.MissionStatements as M
@@ -78,10 +78,10 @@ lane-lines : (m n : ℕ) (a : Lane) → map ll (house-lane m n a) ≡ parted "la
 unfolding house-lane rndf-line
 lane-lines m n a = cons refl (cons refl (part-same ll (H.lane-options m n a) (numbered m n 1 (a .points)) (say end-lane tt ∷ []) (lane-options m n a) (points-same m n 1 (a .points))))
 
-lane-only : (m n : ℕ) (a : Lane) (l : List Line) → Law.SpellsLane AsListed m n a l → l ≡ map ll (house-lane m n a)
+lane-only : (m n : ℕ) (a : Lane) (l : List Line) → Law.SpellsLane house m n a l → l ≡ map ll (house-lane m n a)
 lane-only m n a l h = h .spelled ∙ ap (λ (o : List Line). parted "lane" m n ∷ counted "num_waypoints" (length (a .points)) ∷ o ++ (points m n 1 (a .points) ++ (bare "end_lane" ∷ []))) (only-listed (Law.lane-options m n a) (h .options) (h .given)) ∙ sym (lane-lines m n a)
 
-lane-house : (m n : ℕ) (a : Lane) → GoodLane a → Law.SpellsLane AsListed m n a (map ll (house-lane m n a))
+lane-house : (m n : ℕ) (a : Lane) → GoodLane a → Law.SpellsLane house m n a (map ll (house-lane m n a))
 lane-house m n a g = record { options = listed (Law.lane-options m n a); given = as-listed (Law.lane-options m n a); good = lane-good-to a g; spelled = lane-lines m n a }
 
 -- ## A segment
@@ -89,21 +89,21 @@ segment-lines : (m : ℕ) (a : Segment Field) → map ll (house-segment m a) ≡
 unfolding house-segment H.segment-options rndf-line
 segment-lines m a = cons refl (cons refl (part-same ll (H.segment-options a) (in-turn (house-lane m) 1 (a .lanes)) (say end-segment tt ∷ []) (map-map (say segment-name) ll (perhaps (a .name))) refl))
 
-segment-only : (m : ℕ) (a : Segment Field) (l : List Line) → Law.SpellsSegment AsListed m a l → l ≡ map ll (house-segment m a)
-segment-only m a l h = h .spelled ∙ ap (λ (ls : List Line). counted "segment" m ∷ counted "num_lanes" (length (a .lanes)) ∷ map (named "segment_name") (perhaps (a .name)) ++ (ls ++ (bare "end_segment" ∷ []))) (turn-only ll (Law.SpellsLane AsListed m) (house-lane m) (lane-only m) 1 (a .lanes) (h .lanes) (h .each)) ∙ sym (segment-lines m a)
+segment-only : (m : ℕ) (a : Segment Field) (l : List Line) → Law.SpellsSegment house m a l → l ≡ map ll (house-segment m a)
+segment-only m a l h = h .spelled ∙ ap (λ (ls : List Line). counted "segment" m ∷ counted "num_lanes" (length (a .lanes)) ∷ map (named "segment_name") (perhaps (a .name)) ++ (ls ++ (bare "end_segment" ∷ []))) (turn-only ll (Law.SpellsLane house m) (house-lane m) (lane-only m) 1 (a .lanes) (h .lanes) (h .each)) ∙ sym (segment-lines m a)
 
-segment-house : (m : ℕ) (a : Segment Field) → GoodSegment a → Law.SpellsSegment AsListed m a (map ll (house-segment m a))
-segment-house m a g = record { lanes = map ll (in-turn (house-lane m) 1 (a .lanes)); count = g .count; each = turn-house ll (Law.SpellsLane AsListed m) (house-lane m) GoodLane (lane-house m) 1 (a .lanes) (g .lanes); spelled = segment-lines m a }
+segment-house : (m : ℕ) (a : Segment Field) → GoodSegment a → Law.SpellsSegment house m a (map ll (house-segment m a))
+segment-house m a g = record { lanes = map ll (in-turn (house-lane m) 1 (a .lanes)); count = g .count; each = turn-house ll (Law.SpellsLane house m) (house-lane m) GoodLane (lane-house m) 1 (a .lanes) (g .lanes); spelled = segment-lines m a }
 
 -- ## A perimeter
 perimeter-lines : (m : ℕ) (a : Perimeter) → map ll (house-perimeter m a) ≡ parted "perimeter" m 0 ∷ counted "num_perimeterpoints" (length (a .points)) ∷ map (exit-line m 0) (a .exits) ++ (points m 0 1 (a .points) ++ (bare "end_perimeter" ∷ []))
 unfolding house-perimeter H.perimeter-options rndf-line
 perimeter-lines m a = cons refl (cons refl (part-same ll (H.perimeter-options m a) (numbered m 0 1 (a .points)) (say end-perimeter tt ∷ []) (map-map (λ e. say exit (exit-of m 0 e)) ll (a .exits)) (points-same m 0 1 (a .points))))
 
-perimeter-only : (m : ℕ) (a : Perimeter) (l : List Line) → Law.SpellsPerimeter AsListed m a l → l ≡ map ll (house-perimeter m a)
+perimeter-only : (m : ℕ) (a : Perimeter) (l : List Line) → Law.SpellsPerimeter house m a l → l ≡ map ll (house-perimeter m a)
 perimeter-only m a l h = h .spelled ∙ sym (perimeter-lines m a)
 
-perimeter-house : (m : ℕ) (a : Perimeter) → GoodPerimeter a → Law.SpellsPerimeter AsListed m a (map ll (house-perimeter m a))
+perimeter-house : (m : ℕ) (a : Perimeter) → GoodPerimeter a → Law.SpellsPerimeter house m a (map ll (house-perimeter m a))
 perimeter-house m a g = record { good = perimeter-good-to a g; spelled = perimeter-lines m a }
 
 -- ## A spot
@@ -115,10 +115,10 @@ spot-lines : (m n : ℕ) (a : Spot) → map ll (house-spot m n a) ≡ parted "sp
 unfolding house-spot numbered rndf-line
 spot-lines m n a = cons refl (part-same ll (H.spot-options m n a) (numbered m n 1 (a .first ∷ a .second ∷ [])) (say end-spot tt ∷ []) (spot-options m n a) (points-same m n 1 (a .first ∷ a .second ∷ [])))
 
-spot-only : (m n : ℕ) (a : Spot) (l : List Line) → Law.SpellsSpot AsListed m n a l → l ≡ map ll (house-spot m n a)
+spot-only : (m n : ℕ) (a : Spot) (l : List Line) → Law.SpellsSpot house m n a l → l ≡ map ll (house-spot m n a)
 spot-only m n a l h = h .spelled ∙ ap (λ (o : List Line). parted "spot" m n ∷ o ++ (points m n 1 (a .first ∷ a .second ∷ []) ++ (bare "end_spot" ∷ []))) (only-listed (Law.spot-options m n a) (h .options) (h .given)) ∙ sym (spot-lines m n a)
 
-spot-house : (m n : ℕ) (a : Spot) → GoodSpot a → Law.SpellsSpot AsListed m n a (map ll (house-spot m n a))
+spot-house : (m n : ℕ) (a : Spot) → GoodSpot a → Law.SpellsSpot house m n a (map ll (house-spot m n a))
 spot-house m n a g = record { options = listed (Law.spot-options m n a); given = as-listed (Law.spot-options m n a); good = g; spelled = spot-lines m n a }
 
 -- ## A zone
@@ -127,19 +127,19 @@ zone-lines : (m : ℕ) (a : Zone Field)
 unfolding house-zone H.zone-options rndf-line
 zone-lines m a = cons refl (cons refl (parts-same ll (H.zone-options a) (house-perimeter m (a .border)) (in-turn (house-spot m) 1 (a .spots)) (say end-zone tt ∷ []) (map-map (say zone-name) ll (perhaps (a .name))) refl refl))
 
-zone-only : (m : ℕ) (a : Zone Field) (l : List Line) → Law.SpellsZone AsListed m a l → l ≡ map ll (house-zone m a)
+zone-only : (m : ℕ) (a : Zone Field) (l : List Line) → Law.SpellsZone house m a l → l ≡ map ll (house-zone m a)
 zone-only m a l h =
     h .spelled
-    ∙ ap₂ (λ (b s : List Line). counted "zone" m ∷ counted "num_spots" (length (a .spots)) ∷ map (named "zone_name") (perhaps (a .name)) ++ (b ++ (s ++ (bare "end_zone" ∷ [])))) (perimeter-only m (a .border) (h .border) (h .bordered)) (turn-only ll (Law.SpellsSpot AsListed m) (house-spot m) (spot-only m) 1 (a .spots) (h .spots) (h .each))
+    ∙ ap₂ (λ (b s : List Line). counted "zone" m ∷ counted "num_spots" (length (a .spots)) ∷ map (named "zone_name") (perhaps (a .name)) ++ (b ++ (s ++ (bare "end_zone" ∷ [])))) (perimeter-only m (a .border) (h .border) (h .bordered)) (turn-only ll (Law.SpellsSpot house m) (house-spot m) (spot-only m) 1 (a .spots) (h .spots) (h .each))
     ∙ sym (zone-lines m a)
 
-zone-house : (m : ℕ) (a : Zone Field) → GoodZone a → Law.SpellsZone AsListed m a (map ll (house-zone m a))
+zone-house : (m : ℕ) (a : Zone Field) → GoodZone a → Law.SpellsZone house m a (map ll (house-zone m a))
 zone-house m a g = record {
   border = map ll (house-perimeter m (a .border));
   spots = map ll (in-turn (house-spot m) 1 (a .spots));
   count = g .count;
   bordered = perimeter-house m (a .border) (g .border);
-  each = turn-house ll (Law.SpellsSpot AsListed m) (house-spot m) GoodSpot (spot-house m) 1 (a .spots) (g .spots);
+  each = turn-house ll (Law.SpellsSpot house m) (house-spot m) GoodSpot (spot-house m) 1 (a .spots) (g .spots);
   spelled = zone-lines m a;
 }
 
@@ -161,14 +161,14 @@ network-lines : (a : Network Field) → map ll (house-network a) ≡ file-lines 
 unfolding house-network rndf-line
 network-lines a = cons refl (cons refl (cons refl (parts-same ll (H.file-options a) (in-turn house-segment 1 (a .segments)) (in-turn house-zone (suc (length (a .segments))) (a .zones)) (say end-file tt ∷ []) (file-options a) refl refl)))
 
-pub network-house-only : (n : Network Field) (l : List Line) → Law.SpellsNetwork AsListed n l → l ≡ map rndf-law-line (house-network n)
+pub network-house-only : (n : Network Field) (l : List Line) → Law.SpellsNetwork house n l → l ≡ map rndf-law-line (house-network n)
 network-house-only a l h =
     let o = only-listed (Law.file-options (a .version) (a .date)) (h .options) (h .given) in
-    let s = turn-only ll (Law.SpellsSegment AsListed) house-segment segment-only 1 (a .segments) (h .segments) (h .each-segment) in
-    let z = turn-only ll (Law.SpellsZone AsListed) house-zone zone-only (suc (length (a .segments))) (a .zones) (h .zones) (h .each-zone) in
+    let s = turn-only ll (Law.SpellsSegment house) house-segment segment-only 1 (a .segments) (h .segments) (h .each-segment) in
+    let z = turn-only ll (Law.SpellsZone house) house-zone zone-only (suc (length (a .segments))) (a .zones) (h .zones) (h .each-zone) in
     h .spelled ∙ (λ i. file-lines a (o i) (s i) (z i)) ∙ sym (network-lines a)
 
-pub network-house : (n : Network Field) → GoodNetwork n → Law.SpellsNetwork AsListed n (map rndf-law-line (house-network n))
+pub network-house : (n : Network Field) → GoodNetwork n → Law.SpellsNetwork house n (map rndf-law-line (house-network n))
 network-house a g = record {
   options = listed (Law.file-options (a .version) (a .date));
   segments = house-segments a;
@@ -176,18 +176,18 @@ network-house a g = record {
   given = as-listed (Law.file-options (a .version) (a .date));
   some-segment = g .some-segment;
   count = g .count;
-  each-segment = turn-house ll (Law.SpellsSegment AsListed) house-segment GoodSegment segment-house 1 (a .segments) (g .segments);
-  each-zone = turn-house ll (Law.SpellsZone AsListed) house-zone GoodZone zone-house (suc (length (a .segments))) (a .zones) (g .zones);
+  each-segment = turn-house ll (Law.SpellsSegment house) house-segment GoodSegment segment-house 1 (a .segments) (g .segments);
+  each-zone = turn-house ll (Law.SpellsZone house) house-zone GoodZone zone-house (suc (length (a .segments))) (a .zones) (g .zones);
   spelled = network-lines a;
 }
 
 -- and such a network keeps the ranges
-pub network-house-good : (n : Network Field) (l : List Line) → Law.SpellsNetwork AsListed n l → GoodNetwork n
+pub network-house-good : (n : Network Field) (l : List Line) → Law.SpellsNetwork house n l → GoodNetwork n
 network-house-good a l h = record {
   some-segment = h .some-segment;
   count = h .count;
-  segments = turn-good (Law.SpellsSegment AsListed) GoodSegment (λ i a u s. record { count = s .count; lanes = turn-good (Law.SpellsLane AsListed i) GoodLane (λ j a u s. lane-good-back a (s .good)) 1 (a .lanes) (s .lanes) (s .each) }) 1 (a .segments) (h .segments) (h .each-segment);
-  zones = turn-good (Law.SpellsZone AsListed) GoodZone (λ i a u s. record { count = s .count; border = perimeter-good-back (a .border) (s .bordered .good); spots = turn-good (Law.SpellsSpot AsListed i) GoodSpot (λ j a u s. s .good) 1 (a .spots) (s .spots) (s .each) }) (suc (length (a .segments))) (a .zones) (h .zones) (h .each-zone);
+  segments = turn-good (Law.SpellsSegment house) GoodSegment (λ i a u s. record { count = s .count; lanes = turn-good (Law.SpellsLane house i) GoodLane (λ j a u s. lane-good-back a (s .good)) 1 (a .lanes) (s .lanes) (s .each) }) 1 (a .segments) (h .segments) (h .each-segment);
+  zones = turn-good (Law.SpellsZone house) GoodZone (λ i a u s. record { count = s .count; border = perimeter-good-back (a .border) (s .bordered .good); spots = turn-good (Law.SpellsSpot house i) GoodSpot (λ j a u s. s .good) 1 (a .spots) (s .spots) (s .each) }) (suc (length (a .segments))) (a .zones) (h .zones) (h .each-zone);
 }
 
 -- ## The mission
@@ -199,8 +199,8 @@ mission-lines : (a : Mission Field) → map mdf-law-line (house-mission a) ≡ l
 unfolding house-mission
 mission-lines a = mission-same a (H.mission-options a) (listed (Law.file-options (a .version) (a .date))) (mission-options a)
 
-pub mission-house-only : (n : Mission Field) (l : List Line) → Law.SpellsMission AsListed n l → l ≡ map mdf-law-line (house-mission n)
+pub mission-house-only : (n : Mission Field) (l : List Line) → Law.SpellsMission house n l → l ≡ map mdf-law-line (house-mission n)
 mission-house-only a l h = h .spelled ∙ ap (lines-with a) (only-listed (Law.file-options (a .version) (a .date)) (h .options) (h .given)) ∙ sym (mission-lines a)
 
-pub mission-house : (n : Mission Field) → GoodMission n → Law.SpellsMission AsListed n (map mdf-law-line (house-mission n))
+pub mission-house : (n : Mission Field) → GoodMission n → Law.SpellsMission house n (map mdf-law-line (house-mission n))
 mission-house a g = record { options = listed (Law.file-options (a .version) (a .date)); given = as-listed (Law.file-options (a .version) (a .date)); good = g; spelled = mission-lines a }

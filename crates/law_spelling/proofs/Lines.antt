@@ -6,7 +6,7 @@ use Prim.Native.Nat.{ℕ, suc, _+_}
 use lib.ListN.{length}
 use Rattle.terms.specs.Ascii.{Bytes}
 use Rattle.line.specs.Content.{Field, Content}
-use Rattle.law.specs.Network.{Line, Says, SayLines}
+use Rattle.law.specs.Network.{Line, Says, SayLines, present}
 use Rattle.law.specs.Network as Law
 use Rattle.grammar.specs.Language.{Stmt}
 use Rattle.text.specs.Said as Old
@@ -25,7 +25,7 @@ begins-map f [] b = absurd b
 begins-map f (a ∷ l) b = tt
 
 -- a line with a field, and the lines behind it
-add : {start : ℕ} {line : Bytes} {lines : List Bytes} {rest : List Line} (said : Line) → Begins said → Says start line said → SayLines (start + suc (length line)) lines rest → SayLines start (line ∷ lines) (said ∷ rest)
+add : {start : ℕ} {line : Bytes} {lines : List Bytes} {rest : List Line} (said : Line) → Begins said → Says present start line said → SayLines present (start + suc (length line)) lines rest → SayLines present start (line ∷ lines) (said ∷ rest)
 add [] b h more = absurd b
 add (s ∷ said) b h more = Law.statement h more
 
@@ -39,31 +39,31 @@ nothing-else a l e = absurd (subst Begins (sym e) tt)
 
 module _ {Kind : Type 0} {Pay : Kind → Type 0} (line-of : (k : Kind) → Pay k → List Old.Said) where
   -- ## One line
-  pub blank-to : {start : ℕ} {line : Bytes} → SpellsLine line-of start line none → Says start line []
+  pub blank-to : {start : ℕ} {line : Bytes} → SpellsLine line-of start line none → Says present start line []
   blank-to (Spelling.blank {content = c} e f) = record { content = c; fields = []; ended = e; fielded = f; spelled = tt }
 
-  pub blank-back : {start : ℕ} {line : Bytes} → Says start line [] → SpellsLine line-of start line none
+  pub blank-back : {start : ℕ} {line : Bytes} → Says present start line [] → SpellsLine line-of start line none
   blank-back {start} h = Spelling.blank (h .ended) (subst (Content start (h .content)) (no-field (h .fields) (h .spelled)) (h .fielded))
 
-  pub line-to : {start : ℕ} {line : Bytes} {s : Stmt Kind Pay} → SpellsLine line-of start line (some s) → Says start line (law-line line-of s)
+  pub line-to : {start : ℕ} {line : Bytes} {s : Stmt Kind Pay} → SpellsLine line-of start line (some s) → Says present start line (law-line line-of s)
   line-to {s = s} (Spelling.says {content = c} {fields = fs} e f h) = record { content = c; fields = fs; ended = e; fielded = f; spelled = fields-to fs (line-of (s .kind) (s .val)) h }
 
-  pub line-back : {start : ℕ} {line : Bytes} {s : Stmt Kind Pay} → Says start line (law-line line-of s) → SpellsLine line-of start line (some s)
+  pub line-back : {start : ℕ} {line : Bytes} {s : Stmt Kind Pay} → Says present start line (law-line line-of s) → SpellsLine line-of start line (some s)
   line-back {s = s} h = Spelling.says (h .ended) (h .fielded) (fields-back (h .fields) (line-of (s .kind) (s .val)) (h .spelled))
 
   -- ## Lines
   -- every statement has a field
-  pub lines-to : ((k : Kind) (v : Pay k) → Begins (line-of k v)) → {start : ℕ} {lines : List Bytes} {said : List (Stmt Kind Pay)} → SpellsLines line-of start lines said → SayLines start lines (map (law-line line-of) said)
+  pub lines-to : ((k : Kind) (v : Pay k) → Begins (line-of k v)) → {start : ℕ} {lines : List Bytes} {said : List (Stmt Kind Pay)} → SpellsLines line-of start lines said → SayLines present start lines (map (law-line line-of) said)
   lines-to b Spelling.done = Law.done
   lines-to b (Spelling.blank-line h more) = Law.blank (blank-to h) (lines-to b more)
   lines-to b (Spelling.statement {s = s} h more) = add (law-line line-of s) (begins-map said-of (line-of (s .kind) (s .val)) (b (s .kind) (s .val))) (line-to h) (lines-to b more)
 
-  said-back : {start : ℕ} {lines : List Bytes} {l : List Line} (said : List (Stmt Kind Pay)) → l ≡ map (law-line line-of) said → SayLines start lines l → SpellsLines line-of start lines said
+  said-back : {start : ℕ} {lines : List Bytes} {l : List Line} (said : List (Stmt Kind Pay)) → l ≡ map (law-line line-of) said → SayLines present start lines l → SpellsLines line-of start lines said
   said-back [] e Law.done = Spelling.done
   said-back (s ∷ said) e Law.done = nothing-else (law-line line-of s) (map (law-line line-of) said) e
   said-back said e (Law.blank h more) = Spelling.blank-line (blank-back h) (said-back said e more)
   said-back [] e (Law.statement {s = s} {said = fs} {l = l} h more) = nothing-else (s ∷ fs) l (sym e)
-  said-back (t ∷ said) e (Law.statement {start = start} {line = line} h more) = Spelling.statement (line-back (subst (Says start line) (head-eq-of-cons-eq e) h)) (said-back said (tail-eq-of-cons-eq e) more)
+  said-back (t ∷ said) e (Law.statement {start = start} {line = line} h more) = Spelling.statement (line-back (subst (Says present start line) (head-eq-of-cons-eq e) h)) (said-back said (tail-eq-of-cons-eq e) more)
 
-  pub lines-back : {start : ℕ} {lines : List Bytes} (said : List (Stmt Kind Pay)) → SayLines start lines (map (law-line line-of) said) → SpellsLines line-of start lines said
+  pub lines-back : {start : ℕ} {lines : List Bytes} (said : List (Stmt Kind Pay)) → SayLines present start lines (map (law-line line-of) said) → SpellsLines line-of start lines said
   lines-back said h = said-back said refl h

@@ -5,7 +5,7 @@ use Prim.Native.Nat.{ℕ, suc}
 use lib.ListN.{length}
 use Rattle.terms.specs.Words.{perhaps}
 use Rattle.line.specs.Content.{Field}
-use Rattle.law.specs.Network.{Line, Position, Lane, Segment, Perimeter, Spot, Zone, Network, AnyOrder, points}
+use Rattle.law.specs.Network.{Line, Position, Lane, Segment, Perimeter, Spot, Zone, Network, AnyOrder, present, points}
 use Rattle.law.specs.Network as Law
 use Rattle.grammar.specs.Statements.{Statement, Kind, lines, say, numbered, part-id, point-id, RNDF-name, num-segments, num-zones, format-version, creation-date, segment, num-lanes, segment-name, end-segment, lane, num-waypoints, lane-width, left-boundary, right-boundary, checkpoint, stop, exit, end-lane, zone, num-spots, zone-name, end-zone, perimeter, num-perimeterpoints, end-perimeter, spot, spot-width, end-spot, end-file}
 use Rattle.grammar.specs.Network.{checkpoint-of, exit-of, SpellsLane, SpellsSegment, SpellsPerimeter, SpellsSpot, SpellsZone, SpellsNetwork}
@@ -48,7 +48,7 @@ lane-same m n a =
     cons (map-twice (point-id m n) (say stop) ll (a .stops)) (
     cons (map-twice (exit-of m n) (say exit) ll (a .exits)) refl)))))
 
-lane-to : (m n : ℕ) (a : Lane) (l : Said) → SpellsLane m n a l → Law.SpellsLane AnyOrder m n a (map ll l)
+lane-to : (m n : ℕ) (a : Lane) (l : Said) → SpellsLane m n a l → Law.SpellsLane present m n a (map ll l)
 unfolding rndf-line
 lane-to m n a l h =
     let g = h .given in
@@ -59,7 +59,7 @@ lane-to m n a l h =
       spelled = ap (map ll) (h .spelled) ∙ cons refl (cons refl (part-same ll (h .options) (numbered m n 1 (a .points)) (say end-lane tt ∷ []) refl (points-same m n 1 (a .points))));
     }
 
-lane-back : (m n : ℕ) (a : Lane) (l : List Line) → Law.SpellsLane AnyOrder m n a l → Back (SpellsLane m n) a l
+lane-back : (m n : ℕ) (a : Lane) (l : List Line) → Law.SpellsLane present m n a l → Back (SpellsLane m n) a l
 unfolding rndf-line
 lane-back m n a l h =
     let x = options-back (lines Field) ll lane-kinds (lane-values m n a) (Law.lane-options m n a) (h .options) tt (lane-same m n a) (h .given) in
@@ -75,30 +75,30 @@ lane-back m n a l h =
     )
 
 -- ## A segment
-segment-to : (m : ℕ) (a : Segment Field) (l : Said) → SpellsSegment m a l → Law.SpellsSegment AnyOrder m a (map ll l)
+segment-to : (m : ℕ) (a : Segment Field) (l : Said) → SpellsSegment m a l → Law.SpellsSegment present m a (map ll l)
 unfolding rndf-line
 segment-to m a l h =
     let o : h .options ≡ map (say segment-name) (perhaps (a .name)) = only-one (lines Field) segment-name (perhaps (a .name)) (h .options) (h .given .name) (h .given .no-other) in
     record {
       lanes = map ll (h .lanes);
       count = h .count;
-      each = turn-to ll (SpellsLane m) (Law.SpellsLane AnyOrder m) (lane-to m) 1 (a .lanes) (h .lanes) (h .each);
+      each = turn-to ll (SpellsLane m) (Law.SpellsLane present m) (lane-to m) 1 (a .lanes) (h .lanes) (h .each);
       spelled = ap (map ll) (h .spelled) ∙ cons refl (cons refl (part-same ll (h .options) (h .lanes) (say end-segment tt ∷ []) (ap (map ll) o ∙ map-map (say segment-name) ll (perhaps (a .name))) refl));
     }
 
-segment-back : (m : ℕ) (a : Segment Field) (l : List Line) → Law.SpellsSegment AnyOrder m a l → Back (SpellsSegment m) a l
+segment-back : (m : ℕ) (a : Segment Field) (l : List Line) → Law.SpellsSegment present m a l → Back (SpellsSegment m) a l
 unfolding rndf-line
 segment-back m a l h =
     let os = map (say segment-name) (perhaps (a .name)) in
     let g = one-only (lines Field) segment-name (perhaps (a .name)) in
-    let x = turn-back ll (SpellsLane m) (Law.SpellsLane AnyOrder m) (lane-back m) 1 (a .lanes) (h .lanes) (h .each) in (
+    let x = turn-back ll (SpellsLane m) (Law.SpellsLane present m) (lane-back m) 1 (a .lanes) (h .lanes) (h .each) in (
       say segment m ∷ say num-lanes (length (a .lanes)) ∷ os ++ (x .0 ++ (say end-segment tt ∷ [])),
       h .spelled ∙ cons refl (cons refl (sym (part-same ll os (x .0) (say end-segment tt ∷ []) (map-map (say segment-name) ll (perhaps (a .name))) (sym (x .1))))),
       record { options = os; lanes = x .0; given = record { name = g .0; no-other = g .1 }; count = h .count; each = x .2; spelled = refl },
     )
 
 -- ## A perimeter
-perimeter-to : (m : ℕ) (a : Perimeter) (l : Said) → SpellsPerimeter m a l → Law.SpellsPerimeter AnyOrder m a (map ll l)
+perimeter-to : (m : ℕ) (a : Perimeter) (l : Said) → SpellsPerimeter m a l → Law.SpellsPerimeter present m a (map ll l)
 unfolding rndf-line
 perimeter-to m a l h =
     let o : h .options ≡ map (say exit) (map (exit-of m 0) (a .exits)) = only-one (lines Field) exit (map (exit-of m 0) (a .exits)) (h .options) (h .given .exits) (h .given .no-other) in
@@ -107,7 +107,7 @@ perimeter-to m a l h =
       spelled = ap (map ll) (h .spelled) ∙ cons refl (cons refl (part-same ll (h .options) (numbered m 0 1 (a .points)) (say end-perimeter tt ∷ []) (ap (map ll) o ∙ map-twice (exit-of m 0) (say exit) ll (a .exits)) (points-same m 0 1 (a .points))));
     }
 
-perimeter-back : (m : ℕ) (a : Perimeter) (l : List Line) → Law.SpellsPerimeter AnyOrder m a l → Back (SpellsPerimeter m) a l
+perimeter-back : (m : ℕ) (a : Perimeter) (l : List Line) → Law.SpellsPerimeter present m a l → Back (SpellsPerimeter m) a l
 unfolding rndf-line
 perimeter-back m a l h =
     let os = map (say exit) (map (exit-of m 0) (a .exits)) in
@@ -131,7 +131,7 @@ spot-same m n a = cons (map-map (say spot-width) ll (perhaps (a .width))) (cons 
 abbrev ends : Spot → List Position
 ends a = a .first ∷ a .second ∷ []
 
-spot-to : (m n : ℕ) (a : Spot) (l : Said) → SpellsSpot m n a l → Law.SpellsSpot AnyOrder m n a (map ll l)
+spot-to : (m n : ℕ) (a : Spot) (l : Said) → SpellsSpot m n a l → Law.SpellsSpot present m n a (map ll l)
 unfolding rndf-line numbered
 spot-to m n a l h =
     let g = h .given in
@@ -142,7 +142,7 @@ spot-to m n a l h =
       spelled = ap (map ll) (h .spelled) ∙ cons refl (part-same ll (h .options) (numbered m n 1 (ends a)) (say end-spot tt ∷ []) refl (points-same m n 1 (ends a)));
     }
 
-spot-back : (m n : ℕ) (a : Spot) (l : List Line) → Law.SpellsSpot AnyOrder m n a l → Back (SpellsSpot m n) a l
+spot-back : (m n : ℕ) (a : Spot) (l : List Line) → Law.SpellsSpot present m n a l → Back (SpellsSpot m n) a l
 unfolding rndf-line numbered
 spot-back m n a l h =
     let x = options-back (lines Field) ll spot-kinds (spot-values m n a) (Law.spot-options m n a) (h .options) tt (spot-same m n a) (h .given) in (
@@ -152,7 +152,7 @@ spot-back m n a l h =
     )
 
 -- ## A zone
-zone-to : (m : ℕ) (a : Zone Field) (l : Said) → SpellsZone m a l → Law.SpellsZone AnyOrder m a (map ll l)
+zone-to : (m : ℕ) (a : Zone Field) (l : Said) → SpellsZone m a l → Law.SpellsZone present m a (map ll l)
 unfolding rndf-line
 zone-to m a l h =
     let o : h .options ≡ map (say zone-name) (perhaps (a .name)) = only-one (lines Field) zone-name (perhaps (a .name)) (h .options) (h .given .name) (h .given .no-other) in
@@ -161,17 +161,17 @@ zone-to m a l h =
       spots = map ll (h .spots);
       count = h .count;
       bordered = perimeter-to m (a .border) (h .border) (h .bordered);
-      each = turn-to ll (SpellsSpot m) (Law.SpellsSpot AnyOrder m) (spot-to m) 1 (a .spots) (h .spots) (h .each);
+      each = turn-to ll (SpellsSpot m) (Law.SpellsSpot present m) (spot-to m) 1 (a .spots) (h .spots) (h .each);
       spelled = ap (map ll) (h .spelled) ∙ cons refl (cons refl (parts-same ll (h .options) (h .border) (h .spots) (say end-zone tt ∷ []) (ap (map ll) o ∙ map-map (say zone-name) ll (perhaps (a .name))) refl refl));
     }
 
-zone-back : (m : ℕ) (a : Zone Field) (l : List Line) → Law.SpellsZone AnyOrder m a l → Back (SpellsZone m) a l
+zone-back : (m : ℕ) (a : Zone Field) (l : List Line) → Law.SpellsZone present m a l → Back (SpellsZone m) a l
 unfolding rndf-line
 zone-back m a l h =
     let os = map (say zone-name) (perhaps (a .name)) in
     let g = one-only (lines Field) zone-name (perhaps (a .name)) in
     let b = perimeter-back m (a .border) (h .border) (h .bordered) in
-    let x = turn-back ll (SpellsSpot m) (Law.SpellsSpot AnyOrder m) (spot-back m) 1 (a .spots) (h .spots) (h .each) in (
+    let x = turn-back ll (SpellsSpot m) (Law.SpellsSpot present m) (spot-back m) 1 (a .spots) (h .spots) (h .each) in (
       say zone m ∷ say num-spots (length (a .spots)) ∷ os ++ (b .0 ++ (x .0 ++ (say end-zone tt ∷ []))),
       h .spelled ∙ cons refl (cons refl (sym (parts-same ll os (b .0) (x .0) (say end-zone tt ∷ []) (map-map (say zone-name) ll (perhaps (a .name))) (sym (b .1)) (sym (x .1))))),
       record { options = os; border = b .0; spots = x .0; given = record { name = g .0; no-other = g .1 }; count = h .count; bordered = b .2; each = x .2; spelled = refl },
@@ -188,7 +188,7 @@ pub file-same : (a : Network Field) → map (map ll) (options (lines Field) file
 unfolding rndf-line
 file-same a = cons (map-map (say format-version) ll (perhaps (a .version))) (cons (map-map (say creation-date) ll (perhaps (a .date))) refl)
 
-pub network-to : (n : Network Field) (said : List (Statement Field)) → SpellsNetwork n said → Law.SpellsNetwork AnyOrder n (map rndf-law-line said)
+pub network-to : (n : Network Field) (said : List (Statement Field)) → SpellsNetwork n said → Law.SpellsNetwork present n (map rndf-law-line said)
 unfolding rndf-line
 network-to a l h =
     let g = h .given in
@@ -199,17 +199,17 @@ network-to a l h =
       given = options-to (lines Field) ll file-kinds (file-values a) (Law.file-options (a .version) (a .date)) (h .options) tt (file-same a) (g .version, (g .date, tt)) (g .no-other);
       some-segment = h .some-segment;
       count = h .count;
-      each-segment = turn-to ll SpellsSegment (Law.SpellsSegment AnyOrder) segment-to 1 (a .segments) (h .segments) (h .each-segment);
-      each-zone = turn-to ll SpellsZone (Law.SpellsZone AnyOrder) zone-to (suc (length (a .segments))) (a .zones) (h .zones) (h .each-zone);
+      each-segment = turn-to ll SpellsSegment (Law.SpellsSegment present) segment-to 1 (a .segments) (h .segments) (h .each-segment);
+      each-zone = turn-to ll SpellsZone (Law.SpellsZone present) zone-to (suc (length (a .segments))) (a .zones) (h .zones) (h .each-zone);
       spelled = ap (map ll) (h .spelled) ∙ cons refl (cons refl (cons refl (parts-same ll (h .options) (h .segments) (h .zones) (say end-file tt ∷ []) refl refl refl)));
     }
 
-pub network-back : (n : Network Field) (l : List Line) → Law.SpellsNetwork AnyOrder n l → (said : List (Statement Field)) × (l ≡ map rndf-law-line said) × SpellsNetwork n said
+pub network-back : (n : Network Field) (l : List Line) → Law.SpellsNetwork present n l → (said : List (Statement Field)) × (l ≡ map rndf-law-line said) × SpellsNetwork n said
 unfolding rndf-line
 network-back a l h =
     let o = options-back (lines Field) ll file-kinds (file-values a) (Law.file-options (a .version) (a .date)) (h .options) tt (file-same a) (h .given) in
-    let x = turn-back ll SpellsSegment (Law.SpellsSegment AnyOrder) segment-back 1 (a .segments) (h .segments) (h .each-segment) in
-    let y = turn-back ll SpellsZone (Law.SpellsZone AnyOrder) zone-back (suc (length (a .segments))) (a .zones) (h .zones) (h .each-zone) in (
+    let x = turn-back ll SpellsSegment (Law.SpellsSegment present) segment-back 1 (a .segments) (h .segments) (h .each-segment) in
+    let y = turn-back ll SpellsZone (Law.SpellsZone present) zone-back (suc (length (a .segments))) (a .zones) (h .zones) (h .each-zone) in (
       say RNDF-name (a .name) ∷ say num-segments (length (a .segments)) ∷ say num-zones (length (a .zones)) ∷ o .0 ++ (x .0 ++ (y .0 ++ (say end-file tt ∷ []))),
       h .spelled ∙ cons refl (cons refl (cons refl (sym (parts-same ll (o .0) (x .0) (y .0) (say end-file tt ∷ []) (sym (o .1)) (sym (x .1)) (sym (y .1)))))),
       record {

@@ -9,7 +9,7 @@ use lib.ListN.{length}
 use Rattle.terms.specs.Ascii.{Bytes}
 use Rattle.terms.proofs.Tests.{nothing}
 use Rattle.line.specs.Lines.{linesOf}
-use Rattle.law.specs.Network.{Line, SayLines}
+use Rattle.law.specs.Network.{Line, SayLines, Rules, present}
 use Rattle.law.specs.Faults as Law
 use Rattle.grammar.specs.Language.{Lang, S}
 use Rattle.text.specs.Said.{Said}
@@ -60,9 +60,9 @@ module _ {L : Lang} {line-of : (k : L .Kind) → L .Pay k → List Said} (C : Cl
   abbrev ll : S L → Line
   ll = law-line line-of
 
-  module _ {Net : Type 0} (Spells : Net → List Line → Type 0) (Said-by : Net → List (S L) → Type 0)
-      (to : (n : Net) (said : List (S L)) → Said-by n said → Spells n (map ll said))
-      (back : (n : Net) (l : List Line) → Spells n l → (said : List (S L)) × (l ≡ map ll said) × Said-by n said) (text : Bytes) where
+  module _ {Net : Type 0} (Spells : Rules → Net → List Line → Type 0) (Said-by : Net → List (S L) → Type 0)
+      (to : (n : Net) (said : List (S L)) → Said-by n said → Spells present n (map ll said))
+      (back : (n : Net) (l : List Line) → Spells present n l → (said : List (S L)) × (l ≡ map ll said) × Said-by n said) (text : Bytes) where
     -- the lines of the law are statements
     record Known (i : ℕ) (front : List Line) (line : Line) : Type 0 where
       before : List (S L)
@@ -71,7 +71,7 @@ module _ {L : Lang} {line-of : (k : L .Kind) → L .Pay k → List Said} (C : Cl
       told : line ≡ ll this
       at : SaysAt line-of text i before this
 
-    known : (i : ℕ) (front : List Line) (line : Line) → Law.SaysAt Spells text i front line → Known i front line
+    known : (i : ℕ) (front : List Line) (line : Line) → Law.SaysAt present Spells text i front line → Known i front line
     known i front line s =
         let b = s .begins in
         let o = back (b .net) ((front ++ (line ∷ [])) ++ b .rest) (b .spelled) in
@@ -79,9 +79,9 @@ module _ {L : Lang} {line-of : (k : L .Kind) → L .Pay k → List Said} (C : Cl
       where
         by : {said : List (S L)} → Parted ll said front line → Known i front line
         by p =
-            let before = lines-back line-of (p .before) (subst (SayLines 0 (s .at .before)) (p .fronted) (s .at .said)) in
+            let before = lines-back line-of (p .before) (subst (SayLines present 0 (s .at .before)) (p .fronted) (s .at .said)) in
             let same : front ++ (line ∷ []) ≡ map ll (p .before ++ (p .this ∷ [])) = ap₂ (λ (f : List Line) (l : Line). f ++ (l ∷ [])) (p .fronted) (p .told) ∙ sym (map-append ll (p .before) (p .this ∷ [])) in
-            let all = lines-back line-of (p .before ++ (p .this ∷ [])) (subst (SayLines 0 (s .at .before ++ (s .this ∷ []))) same (s .says)) in
+            let all = lines-back line-of (p .before ++ (p .this ∷ [])) (subst (SayLines present 0 (s .at .before ++ (s .this ∷ []))) same (s .says)) in
             let z : 0 + behind (s .at .before) ≡ behind (s .at .before) = omega arith in
             record {
               before = p .before;
@@ -93,7 +93,7 @@ module _ {L : Lang} {line-of : (k : L .Kind) → L .Pay k → List Said} (C : Cl
 
     -- and the statements of a spelled text are lines of the law
     module _ (n : Net) (said : List (S L)) (all : SpellsLines line-of 0 (linesOf text) said) (net : Said-by n said) where
-      law-at : (i : ℕ) (front : List (S L)) (x : S L) → SaysAt line-of text i front x → Law.SaysAt Spells text i (map ll front) (ll x)
+      law-at : (i : ℕ) (front : List (S L)) (x : S L) → SaysAt line-of text i front x → Law.SaysAt present Spells text i (map ll front) (ll x)
       law-at i front x s =
           let o = says-only C text said all i front x s in
           let z : behind (s .before) ≡ 0 + behind (s .before) = omega arith in
@@ -101,8 +101,8 @@ module _ {L : Lang} {line-of : (k : L .Kind) → L .Pay k → List Said} (C : Cl
           record {
             this = s .this;
             at = record { before = s .before; rest = s .rest; cut = s .cut; number = s .number; said = lines-to line-of begin (s .said) };
-            says = subst (SayLines 0 (s .before ++ (s .this ∷ []))) (map-append ll front (x ∷ [])) (lines-to line-of begin (one-more (s .said) (s .this) x (moved z (s .says))));
-            begins = record { rest = map ll (o .0); net = n; spelled = subst (Spells n) whole (to n said net) };
+            says = subst (SayLines present 0 (s .before ++ (s .this ∷ []))) (map-append ll front (x ∷ [])) (lines-to line-of begin (one-more (s .said) (s .this) x (moved z (s .says))));
+            begins = record { rest = map ll (o .0); net = n; spelled = subst (Spells present n) whole (to n said net) };
           }
 
       -- ## The first at fault. F: by statements, G: by lines
@@ -111,7 +111,7 @@ module _ {L : Lang} {line-of : (k : L .Kind) → L .Pay k → List Said} (C : Cl
         fault-of : {i m : ℕ} {front : List Line} {line : Line} (w : Known i front line) → G front line m → F (w .before) (w .this) m
         fault-of {m = m} {line = line} w g = under (w .before) (w .this) m (subst (λ (l : Line). G (map ll (w .before)) l m) (w .told) (subst (λ (f : List Line). G f line m) (w .fronted) g))
 
-        pub first-to : (i k : ℕ) → FirstLine line-of F text i k → Law.FirstFault Spells G text i k
+        pub first-to : (i k : ℕ) → FirstLine line-of F text i k → Law.FirstFault present Spells G text i k
         first-to i k f = record {
           front = map ll (f .front);
           line = ll (f .this);
@@ -120,7 +120,7 @@ module _ {L : Lang} {line-of : (k : L .Kind) → L .Pay k → List Said} (C : Cl
           first = λ j m front line l s g. let w = known j front line s in f .first j m (w .before) (w .this) l (w .at) (fault-of w g);
         }
 
-        pub first-back : (i k : ℕ) → Law.FirstFault Spells G text i k → FirstLine line-of F text i k
+        pub first-back : (i k : ℕ) → Law.FirstFault present Spells G text i k → FirstLine line-of F text i k
         first-back i k f = let w = known i (f .front) (f .line) (f .at) in record {
           front = w .before;
           this = w .this;

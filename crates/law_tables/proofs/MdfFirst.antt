@@ -5,7 +5,7 @@ use Prim.Native.Nat.{ℕ}
 use Rattle.terms.specs.Ascii.{Bytes}
 use Rattle.terms.specs.Words.{Among}
 use Rattle.line.specs.Content.{Field}
-use Rattle.law.specs.Network.{AnyOrder}
+use Rattle.law.specs.Network.{present}
 use Rattle.law.specs.Network as LawNetwork
 use Rattle.law.specs.Faults as Law
 use Rattle.grammar.specs.MissionStatements.{Statement, Limit, orders, say, ofKind, RNDF, goal, limit, end-speed-limits}
@@ -62,8 +62,8 @@ module _ (n : Network Field) where
       (record { id = i; there = w; missing = λ m. let t = limit-told i front m in d (t .0) (t .1) (t .2) }) refl
 
   module _ (m : Mission Field) (text : Bytes) (h : SpellsMdf m text) where
-    pub mdf-first-to : (i k : ℕ) → FirstMdfFault n text i k → Law.FirstFault (LawNetwork.SpellsMission AnyOrder) (Law.MdfFault n) text i k
-    mdf-first-to = Any.first-to mdf-clear mdf-begins (LawNetwork.SpellsMission AnyOrder) SpellsMission mission-to mission-back text m (h .said) (mdf-said m text h) (h .net) (MdfFault n) (Law.MdfFault n) over under
+    pub mdf-first-to : (i k : ℕ) → FirstMdfFault n text i k → Law.FirstFault present LawNetwork.SpellsMission (Law.MdfFault n) text i k
+    mdf-first-to = Any.first-to mdf-clear mdf-begins LawNetwork.SpellsMission SpellsMission mission-to mission-back text m (h .said) (mdf-said m text h) (h .net) (MdfFault n) (Law.MdfFault n) over under
 
-    pub mdf-first-back : (i k : ℕ) → Law.FirstFault (LawNetwork.SpellsMission AnyOrder) (Law.MdfFault n) text i k → FirstMdfFault n text i k
-    mdf-first-back = Any.first-back mdf-clear mdf-begins (LawNetwork.SpellsMission AnyOrder) SpellsMission mission-to mission-back text m (h .said) (mdf-said m text h) (h .net) (MdfFault n) (Law.MdfFault n) over under
+    pub mdf-first-back : (i k : ℕ) → Law.FirstFault present LawNetwork.SpellsMission (Law.MdfFault n) text i k → FirstMdfFault n text i k
+    mdf-first-back = Any.first-back mdf-clear mdf-begins LawNetwork.SpellsMission SpellsMission mission-to mission-back text m (h .said) (mdf-said m text h) (h .net) (MdfFault n) (Law.MdfFault n) over under

@@ -5,7 +5,7 @@ use Prim.Native.Nat.{ℕ}
 use Rattle.terms.specs.Ascii.{Bytes}
 use Rattle.terms.specs.Words.{Among}
 use Rattle.line.specs.Content.{Field}
-use Rattle.law.specs.Network.{AnyOrder}
+use Rattle.law.specs.Network.{present}
 use Rattle.law.specs.Network as LawNetwork
 use Rattle.law.specs.Faults.{RndfFault}
 use Rattle.law.specs.Faults as Law
@@ -48,8 +48,8 @@ module _ (n : Network Field) where
       repeated v (rndf-line-one x (say checkpoint v) q) (subst (λ (i : ℕ). Among i (map (λ c. c .number) (ofKind checkpoint front))) s told) refl
 
   module _ (text : Bytes) (h : SpellsRndf n text) where
-    pub rndf-first-to : (i k : ℕ) → FirstRndfFault n text i k → Law.FirstFault (LawNetwork.SpellsNetwork AnyOrder) (RndfFault n) text i k
-    rndf-first-to = Any.first-to rndf-clear rndf-begins (LawNetwork.SpellsNetwork AnyOrder) SpellsNetwork network-to network-back text n (h .said) (rndf-said n text h) (h .net) (ReferenceFault n) (RndfFault n) over under
+    pub rndf-first-to : (i k : ℕ) → FirstRndfFault n text i k → Law.FirstFault present LawNetwork.SpellsNetwork (RndfFault n) text i k
+    rndf-first-to = Any.first-to rndf-clear rndf-begins LawNetwork.SpellsNetwork SpellsNetwork network-to network-back text n (h .said) (rndf-said n text h) (h .net) (ReferenceFault n) (RndfFault n) over under
 
-    pub rndf-first-back : (i k : ℕ) → Law.FirstFault (LawNetwork.SpellsNetwork AnyOrder) (RndfFault n) text i k → FirstRndfFault n text i k
-    rndf-first-back = Any.first-back rndf-clear rndf-begins (LawNetwork.SpellsNetwork AnyOrder) SpellsNetwork network-to network-back text n (h .said) (rndf-said n text h) (h .net) (ReferenceFault n) (RndfFault n) over under
+    pub rndf-first-back : (i k : ℕ) → Law.FirstFault present LawNetwork.SpellsNetwork (RndfFault n) text i k → FirstRndfFault n text i k
+    rndf-first-back = Any.first-back rndf-clear rndf-begins LawNetwork.SpellsNetwork SpellsNetwork network-to network-back text n (h .said) (rndf-said n text h) (h .net) (ReferenceFault n) (RndfFault n) over under

@@ -4,7 +4,7 @@ use mathlib.Core.List.{[], _∷_}
 use Rattle.terms.specs.Ascii.{ascii}
 use Rattle.scan.specs.Allowed.{separates, all}
 use Rattle.scan.specs.Reach.{upTo, first, two, stopsBy}
-use Rattle.line.specs.Content.{at, parted}
+use Rattle.line.specs.Content.{at, parted, parted-by}
 use Rattle.line.specs.Lines.{linesOf, dropCr}
 use Rattle.line.specs.Forms.{outerOf, noteOf, closes, formOf, fieldsAt}
 use Rattle.line.specs.declared.Form.the-variants.{Bad, Body}
@@ -33,7 +33,7 @@ unfolding ascii separates all upTo first two stopsBy outerOf noteOf closes formO
 backslash = refl
 
 fields : fieldsAt 7 (ascii "\tab\t\tc") ≡ at 8 (ascii "ab") ∷ at 12 (ascii "c") ∷ []
-unfolding ascii separates parted fieldsAt
+unfolding ascii separates parted-by fieldsAt
 fields = refl
 
 -- 01: "An unfinished last line counts; after a final LF there is no further line."

@@ -14,7 +14,7 @@ use Rattle.scan.specs.Allowed.{separates}
 use Rattle.scan.specs.Reach.{upTo, reach, begins, fails, stopsBy}
 use Rattle.scan.specs.declared.Until.the-variants.{Separator, NotSeparator}
 use Rattle.scan.proofs.Reach.{reach-le}
-use Rattle.line.specs.Content.{Field, at, parted}
+use Rattle.line.specs.Content.{Field, at, parted, parted-by}
 use Rattle.line.specs.Forms.{glue, fieldsAt, spanAt, filled, countOf, fieldsIn, fieldIn, listed, SpanWithin, FieldsWithin}
 use Rattle.line.specs.declared.Span.{Span}
 use Rattle.line.specs.declared.Fields.{Fields}
@@ -54,7 +54,7 @@ alone n b t e = rw e
 
 -- a field is taken whole
 whole : (n b : ℕ) (t : Bytes) → separates b ≡ false → fieldsAt n (b ∷ t) ≡ at n (b ∷ take (upTo parts t) t) ∷ fieldsAt (n + suc (upTo parts t)) (drop (upTo parts t) t)
-unfolding upTo stopsBy parted begins
+unfolding upTo stopsBy parted-by begins
 whole n b [] e = alone n b [] e ∙ (unfold fieldsAt in refl)
 whole n b (d ∷ t) e = alone n b (d ∷ t) e ∙ go (separates d) (whole (suc n) d t)
   where

@@ -10,7 +10,7 @@ use Rattle.terms.specs.Words.{pick, Each}
 use Rattle.scan.specs.Allowed.{separates, fieldByte, outside, all}
 use Rattle.terms.proofs.Tests.{clash, both, and}
 use Rattle.scan.proofs.Bytes.{field-no-separator, field-outside, separator-outside, all-imp, all-append}
-use Rattle.line.specs.Content.{Field, at, IsField, parted, SpellsFields, nothing, separator, field}
+use Rattle.line.specs.Content.{Field, at, IsField, parted, parted-by, SpellsFields, nothing, separator, field}
 use Rattle.line.specs.Forms.{glue, fieldsAt}
 
 -- every byte of spelled fields is allowed
@@ -31,7 +31,7 @@ whole-field (b ∷ d ∷ f) a r s h e =
     let n : suc a + suc (length f) ≡ a + suc (suc (length f)) = omega arith in
     let p = both (fieldByte b) (fieldByte d && all fieldByte f) h in
     let q = both (fieldByte d) (all fieldByte f) (p .1) in
-    let i : parted (d ∷ (f ++ r)) ≡ false = unfold parted in field-no-separator d (q .0) in
+    let i : parted (d ∷ (f ++ r)) ≡ false = unfold parted-by in field-no-separator d (q .0) in
     let ih : fieldsAt (suc a) (d ∷ (f ++ r)) ≡ at (suc a) (d ∷ f) ∷ fieldsAt (suc a + suc (length f)) r = whole-field (d ∷ f) (suc a) r (omega arith) (p .1) e in
     rw (field-no-separator b (p .0)) (glued i ih n)
   where
@@ -51,7 +51,7 @@ pub fields-one : {a : ℕ} {l : Bytes} {fs gs : List Field} → SpellsFields a l
 fields-one p q = sym (fields-are p) ∙ fields-are q
 
 lengthen : {a b : ℕ} {l : Bytes} {fs : List Field} → fieldByte b ≡ true → SpellsFields (suc a) l fs → parted l ≡ false → SpellsFields a (b ∷ l) (glue false a b fs)
-unfolding parted
+unfolding parted-by
 lengthen h nothing e = clash e
 lengthen h (separator q p) e = clash (sym q ∙ e)
 lengthen {a} {b} h (field {bytes = f} {rest = r} {fields = fs} w q p) e =

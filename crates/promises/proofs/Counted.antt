@@ -10,7 +10,7 @@ use Rattle.terms.specs.Ascii.{ascii}
 use Rattle.terms.specs.Words.{pick}
 use Rattle.scan.specs.Reach.{sameBytes}
 use Rattle.line.specs.Content.{Field}
-use Rattle.law.specs.Network.{Network, Mission, Line, AnyOrder, SpellsNetwork, SpellsMission}
+use Rattle.law.specs.Network.{Network, Mission, Line, SpellsNetwork, SpellsMission, present}
 use Rattle.law.specs.Tables.{gather, total}
 use Rattle.grammar.specs.Language.{Lang, S, allOf}
 use Rattle.grammar.specs.Statements.{Kind, Says, Statement, lines, say, ofKind, RNDF-name, num-segments, num-zones, format-version, creation-date, segment, num-lanes, segment-name, end-segment, lane, num-waypoints, lane-width, left-boundary, right-boundary, checkpoint, stop, exit, end-lane, zone, num-spots, zone-name, end-zone, perimeter, num-perimeterpoints, end-perimeter, spot, spot-width, end-spot, end-file, point}
@@ -132,7 +132,7 @@ module _ (ss : List (Statement Field)) where
       let exits = summed (lines Field) rndf-law-line exit (how-many "exit") length refl (how-many-step "exit") length-append (λ s. ap (λ (c : Nine). c .exits) (each (s .kind) (s .val))) ss in
       λ i. record { segments = segments i; lanes = lanes i; zones = zones i; spots = spots i; points = waypoints i + borders i + 2 * spots i; checkpoints = checkpoints i; stops = stops i; exits = exits i }
 
-pub network-counted : (n : Network Field) (said : List Line) → SpellsNetwork AnyOrder n said → rows-used n ≡ declared said
+pub network-counted : (n : Network Field) (said : List Line) → SpellsNetwork present n said → rows-used n ≡ declared said
 network-counted n said h =
     let x = network-back n said h in
     sym (counts-are n) ∙ ap (λ (c : Old.Counts). N.rows-used c) (tables-declared n (x .0) (x .2)) ∙ all-alike (x .0) ∙ sym (ap (λ (l : List Line). declared l) (x .1))
@@ -157,7 +157,7 @@ each-mission M.end-file v = refl
 each-mission M.goal v = refl
 each-mission M.limit v = refl
 
-pub mission-counted : (m : Mission Field) (said : List Line) → SpellsMission AnyOrder m said → mission-rows-used m ≡ mission-declared said
+pub mission-counted : (m : Mission Field) (said : List Line) → SpellsMission present m said → mission-rows-used m ≡ mission-declared said
 mission-counted m said h =
     let x = mission-back m said h in
     let goals = summed (M.orders Field) mdf-law-line M.num-checkpoints (together "num_checkpoints") Old.together refl (together-step "num_checkpoints") together-append (λ s. ap (λ (c : Old.MissionCounts). c .goals) (each-mission (s .kind) (s .val))) (x .0) in

@@ -40,7 +40,7 @@ use Rattle.find_line.specs.FoundLines.{mdfLineOf}
 use Rattle.find_line.proofs.Theorems.{mdf-line-there}
 use Rattle.fault_lines.specs.FaultLines.{FirstMdfFault}
 use Rattle.fault_lines.proofs.MdfFaults.{foreign-goal-line}
-use Rattle.law.specs.Network.{largest, AnyOrder}
+use Rattle.law.specs.Network.{largest, present}
 use Rattle.law.specs.Network as Law
 use Rattle.law.specs.Short.{SpellsMdf}
 use Rattle.law.specs.Faults.{BadLine, FirstFault, MdfFault}
@@ -76,7 +76,7 @@ record Answered : Type 0 where
   pub limit-5-0 : read-mdf limit-5-0 ≡ read lines-5-0
 
 answered : Answered
-unfolding ascii Answers.readText Answers.walk Lines.linesOf Judge.judge Lines.dropCr Forms.formOf Forms.closes Forms.noteOf Forms.outerOf Forms.fieldsAt Content.parted Allowed.separates Allowed.all Reach.two Reach.sameBytes Reach.begins Reach.first Reach.upTo Reach.stopsBy Judge.tell Judge.read Judge.numbered Number.integerOf Number.plainOf Number.plain Number.worth Number.numberOf Word.indexOf Keywords.mdf-keywords Machine.step Machine.guard Stands.stands
+unfolding ascii Answers.readText Answers.walk Lines.linesOf Judge.judge Lines.dropCr Forms.formOf Forms.closes Forms.noteOf Forms.outerOf Forms.fieldsAt Content.parted-by Allowed.separates Allowed.all Reach.two Reach.sameBytes Reach.begins Reach.first Reach.upTo Reach.stopsBy Judge.tell Judge.read Judge.numbered Number.integerOf Number.plainOf Number.plain Number.worth Number.numberOf Word.indexOf Keywords.mdf-keywords Machine.step Machine.guard Stands.stands
 answered = record { round = refl; goal-8 = refl; limit-10-5 = refl; limit-5-0 = refl }
 
 -- ## What is spelled
@@ -104,7 +104,7 @@ spelled = record { round = mdf-to mission round (spelled-by round mission round-
 
 -- ## What has a fault
 goal-on-5 : mdfLineOf goal-8 11 0 ≡ 5
-unfolding ascii place-of Standing.standing Standing.speaks Lines.linesOf Lines.dropCr Forms.formOf Forms.closes Forms.noteOf Forms.outerOf Forms.fieldsAt Content.parted Allowed.separates Allowed.all Reach.two Reach.sameBytes Reach.begins Reach.first Reach.upTo Reach.stopsBy
+unfolding ascii place-of Standing.standing Standing.speaks Lines.linesOf Lines.dropCr Forms.formOf Forms.closes Forms.noteOf Forms.outerOf Forms.fieldsAt Content.parted-by Allowed.separates Allowed.all Reach.two Reach.sameBytes Reach.begins Reach.first Reach.upTo Reach.stopsBy
 goal-on-5 = mdf-line-there goal 0 goal-8 goal-8-lines (answered .goal-8) (lit< tt)
 
 wrong-goal : FirstMdfFault network goal-8 5 15
@@ -112,8 +112,8 @@ unfolding first-fault is-among
 wrong-goal = subst (λ (i : ℕ). FirstMdfFault network goal-8 i 15) goal-on-5 (foreign-goal-line network mission-goal-8 goal-8 goal-8-read refl (fault 0 15) refl)
 
 pub record Faults : Type 0 where
-  pub goal-8 : FirstFault (Law.SpellsMission AnyOrder) (MdfFault network) goal-8 5 15
-  pub limit-10-5 : BadLine (Law.SpellsMission AnyOrder) limit-10-5 9 9
+  pub goal-8 : FirstFault present Law.SpellsMission (MdfFault network) goal-8 5 15
+  pub limit-10-5 : BadLine present Law.SpellsMission limit-10-5 9 9
 
 pub faults : Faults
 faults = record { goal-8 = mdf-first-to network mission-goal-8 goal-8 goal-8-read 5 15 wrong-goal; limit-10-5 = mdf-bad-to limit-10-5 9 9 (mdf-bad-line-right limit-10-5 9 9 (answered .limit-10-5)) }

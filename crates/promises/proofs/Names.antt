@@ -11,7 +11,7 @@ use Rattle.line.specs.Content.{Field, Content}
 use Rattle.line.specs.Text.{Ended}
 use Rattle.line.specs.Located.{Within, EachLine}
 use Rattle.line.proofs.Located.{stands, cut-fields}
-use Rattle.law.specs.Network.{Network, Mission, Segment, Zone, Said, Line, word, name, numbers, coordinate, boundary, SpellFields, Mixed, left, right, AnyOrder, line, SpellsSegment, SpellsZone, SayLines, done, blank, statement, file-options}
+use Rattle.law.specs.Network.{Network, Mission, Segment, Zone, Said, Line, word, name, numbers, coordinate, boundary, SpellFields, Mixed, left, right, AnyOrder, line, SpellsSegment, SpellsZone, SayLines, done, blank, statement, file-options, present}
 use Rattle.law.specs.Network as Law
 use Rattle.law.specs.Short.{SpellsRndf, SpellsMdf}
 use Rattle.law.specs.Tables.{name-words}
@@ -70,7 +70,7 @@ module _ (text : Bytes) where
   abbrev NamesStand : Line → Type 0
   NamesStand = Each Stands
 
-  lines-stand : {a : ℕ} {ls : List Bytes} {said : List Line} → EachLine FieldsStand a ls → SayLines a ls said → Each NamesStand said
+  lines-stand : {a : ℕ} {ls : List Bytes} {said : List Line} → EachLine FieldsStand a ls → SayLines present a ls said → Each NamesStand said
   lines-stand h done = tt
   lines-stand h (blank s rest) = lines-stand (h .1) rest
   lines-stand h (statement {s = s} {said = said} x rest) = (fields-stand (x .fields) (s ∷ said) (h .0 (x .content) (x .fields) (x .ended) (x .fielded)) (x .spelled), lines-stand (h .1) rest)
@@ -87,7 +87,7 @@ module _ (text : Bytes) where
       let b = unmixed NamesStand (o .1 .2) (a .1) in
       (given (λ v. line "format_version" (name v ∷ [])) (λ v k. k .1 .0) version (a .0), given (λ v. line "creation_date" (name v ∷ [])) (λ v k. k .1 .0) date (b .0))
 
-  in-segments : {i : ℕ} {ss : List (Segment Field)} {said : List Line} → InTurn (SpellsSegment AnyOrder) i ss said → Each NamesStand said → Each (λ s. Asked text (s .name)) ss
+  in-segments : {i : ℕ} {ss : List (Segment Field)} {said : List Line} → InTurn (SpellsSegment present) i ss said → Each NamesStand said → Each (λ s. Asked text (s .name)) ss
   in-segments nothing e = tt
   in-segments (then {a = a} {u = u} {v = v} s rest) e =
       let k = parted NamesStand u v e in
@@ -95,7 +95,7 @@ module _ (text : Bytes) where
       let p = parted NamesStand (map (λ v. line "segment_name" (name v ∷ [])) (perhaps (a .name))) (s .lanes ++ (line "end_segment" [] ∷ [])) (l .1 .1) in
       (given (λ v. line "segment_name" (name v ∷ [])) (λ v k. k .1 .0) (a .name) (p .0), in-segments rest (k .1))
 
-  in-zones : {i : ℕ} {zs : List (Zone Field)} {said : List Line} → InTurn (SpellsZone AnyOrder) i zs said → Each NamesStand said → Each (λ z. Asked text (z .name)) zs
+  in-zones : {i : ℕ} {zs : List (Zone Field)} {said : List Line} → InTurn (SpellsZone present) i zs said → Each NamesStand said → Each (λ z. Asked text (z .name)) zs
   in-zones nothing e = tt
   in-zones (then {a = a} {u = u} {v = v} s rest) e =
       let k = parted NamesStand u v e in

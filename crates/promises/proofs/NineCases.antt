@@ -6,6 +6,7 @@ use native.Mathlib.Omega.{arith}
 use lib.Dec.{lit≤}
 use lib.ListN.{length}
 use Rattle.terms.specs.Ascii.{Bytes, ascii}
+use Rattle.law.specs.Network.{present}
 use Rattle.law.specs.Tables.{Lent, MissionLent, HasRoom, MissionHasRoom, filled, mission-filled}
 use Rattle.law.specs.Faults.{Fits}
 use Rattle.replies.specs.declared.PairReply.{PairReply}
@@ -37,16 +38,16 @@ fitting minimum maximum = record {
   all = λ i b. inl (let low = b .low in let high : i ≤ 1 = b .high in omega arith);
 }
 
-pub round-taken : (u : MissionLent) → MissionHasRoom mission u → AcceptsMdf network round u mission
+pub round-taken : (u : MissionLent) → MissionHasRoom mission u → AcceptsMdf present network round u mission
 round-taken u room = record { size = small .round; spelled = spelled .round; room = room; right = fitting 0 15 }
 
 -- ## Pairs that are refused
 -- by the RNDF, with any MDF
-pub rndf-refused-so : (rndf mdf : Bytes) (t : Lent) (u : MissionLent) (line number : ℕ) → RefusesRndf rndf t line number → PairRefused rndf mdf t u 1 line number
+pub rndf-refused-so : (rndf mdf : Bytes) (t : Lent) (u : MissionLent) (line number : ℕ) → RefusesRndf present rndf t line number → PairRefused rndf mdf t u 1 line number
 rndf-refused-so rndf mdf t u line number h r l k x = pair-refusal-only rndf mdf t u r l k x (refusal 1 line number) (inl (refl, h))
 
 -- by the MDF, with yard A
-pub mdf-refused-so : (mdf : Bytes) (t : Lent) (u : MissionLent) (line number : ℕ) → HasRoom network t → RefusesMdf network mdf u line number → PairRefused yard mdf t u 2 line number
+pub mdf-refused-so : (mdf : Bytes) (t : Lent) (u : MissionLent) (line number : ℕ) → HasRoom network t → RefusesMdf present network mdf u line number → PairRefused yard mdf t u 2 line number
 mdf-refused-so mdf t u line number room h r l k x = pair-refusal-only yard mdf t u r l k x (refusal 2 line number) (inr (refl, (network, yard-taken t room, h)))
 
 pub goal-refused : (t : Lent) (u : MissionLent) → HasRoom network t → MissionHasRoom mission u → PairRefused yard goal-8 t u 2 5 15
@@ -86,18 +87,18 @@ unfolding ascii
 its-file minimum maximum = refl
 
 -- with any limit of segment 1
-taken-with : (mdf : Bytes) (minimum maximum : ℕ) (t : Lent) (u : MissionLent) → HasRoom network t → AcceptsMdf network mdf u (mission-with 7 minimum maximum) → (r : PairReply) (l : Lent) (k : MissionLent) → ReadsPair yard mdf t u r l k
+taken-with : (mdf : Bytes) (minimum maximum : ℕ) (t : Lent) (u : MissionLent) → HasRoom network t → AcceptsMdf present network mdf u (mission-with 7 minimum maximum) → (r : PairReply) (l : Lent) (k : MissionLent) → ReadsPair present yard mdf t u r l k
     → (r ≡ Pair.Accepted counts yard-file mission-counts round-file) × (l ≡ filled network t) × (k ≡ mission-filled (mission-with 7 minimum maximum) u)
 taken-with mdf minimum maximum t u room a r l k x =
     let s = spelled-pair-accepted yard mdf t u r l k x network (mission-with 7 minimum maximum) (yard-taken t room) a in
     (s .0 ∙ (λ i. Pair.Accepted (replied .0 i) (replied .1 i) mission-counts (its-file minimum maximum i)), s .1, s .2)
 
-pub yard-a : (t : Lent) (u : MissionLent) → HasRoom network t → MissionHasRoom mission u → (r : PairReply) (l : Lent) (k : MissionLent) → ReadsPair yard round t u r l k
+pub yard-a : (t : Lent) (u : MissionLent) → HasRoom network t → MissionHasRoom mission u → (r : PairReply) (l : Lent) (k : MissionLent) → ReadsPair present yard round t u r l k
     → (r ≡ Pair.Accepted counts yard-file mission-counts round-file) × (l ≡ filled network t) × (k ≡ mission-filled mission u)
 yard-a t u room mission-room = taken-with round 0 15 t u room (round-taken u mission-room)
 
 -- L1: "`1>5>0` is then accepted"
-pub minimum-without-maximum : (t : Lent) (u : MissionLent) → HasRoom network t → MissionHasRoom mission-5-0 u → (r : PairReply) (l : Lent) (k : MissionLent) → ReadsPair yard limit-5-0 t u r l k
+pub minimum-without-maximum : (t : Lent) (u : MissionLent) → HasRoom network t → MissionHasRoom mission-5-0 u → (r : PairReply) (l : Lent) (k : MissionLent) → ReadsPair present yard limit-5-0 t u r l k
     → (r ≡ Pair.Accepted counts yard-file mission-counts round-file) × (l ≡ filled network t) × (k ≡ mission-filled mission-5-0 u)
 minimum-without-maximum t u room mission-room = taken-with limit-5-0 5 0 t u room (record { size = small .limit-5-0; spelled = spelled .limit-5-0; room = mission-room; right = fitting 5 0 })
 
@@ -105,7 +106,7 @@ minimum-without-maximum t u room mission-room = taken-with limit-5-0 5 0 t u roo
 mission-words-are : mission-filled mission mission-used ≡ round-words
 mission-words-are = refl
 
-pub yard-a-read : (r : PairReply) (l : Lent) (k : MissionLent) → ReadsPair yard round used mission-used r l k → (r ≡ Pair.Accepted counts yard-file mission-counts round-file) × (l ≡ yard-words) × (k ≡ round-words)
+pub yard-a-read : (r : PairReply) (l : Lent) (k : MissionLent) → ReadsPair present yard round used mission-used r l k → (r ≡ Pair.Accepted counts yard-file mission-counts round-file) × (l ≡ yard-words) × (k ≡ round-words)
 yard-a-read r l k x =
     let a = yard-a used mission-used room-in-used (record { goals = lit≤ tt; limits = lit≤ tt }) r l k x in
     (a .0, a .1 ∙ words-are, a .2 ∙ mission-words-are)
@@ -114,7 +115,7 @@ yard-a-read r l k x =
 zero-kept : mission-filled mission-5-0 mission-used ≡ words-5-0
 zero-kept = refl
 
-pub minimum-without-maximum-read : (r : PairReply) (l : Lent) (k : MissionLent) → ReadsPair yard limit-5-0 used mission-used r l k → (r ≡ Pair.Accepted counts yard-file mission-counts round-file) × (l ≡ yard-words) × (k ≡ words-5-0)
+pub minimum-without-maximum-read : (r : PairReply) (l : Lent) (k : MissionLent) → ReadsPair present yard limit-5-0 used mission-used r l k → (r ≡ Pair.Accepted counts yard-file mission-counts round-file) × (l ≡ yard-words) × (k ≡ words-5-0)
 minimum-without-maximum-read r l k x =
     let a = minimum-without-maximum used mission-used room-in-used (record { goals = lit≤ tt; limits = lit≤ tt }) r l k x in
     (a .0, a .1 ∙ words-are, a .2 ∙ zero-kept)

@@ -9,17 +9,17 @@ use Rattle.line.specs.Text.{Cut}
 use Rattle.line.proofs.Cuts.{cut-one}
 use Rattle.refusal.specs.Numbers.{OfForm, OfReference}
 use Rattle.refusal.proofs.Apart.{form-or-reference, form-not-size, form-not-end, form-not-room, reference-not-size, reference-not-end, reference-not-room}
-use Rattle.law.specs.Network.{Line}
+use Rattle.law.specs.Network.{Line, Rules}
 use Rattle.law.specs.Faults.{BadLine, Unended}
 use Rattle.replies.specs.Replies.{most, Refuses, too-long, bad-line, unended, no-room, bad-reference}
 use Rattle.promises.specs.Refusals as Numbers
 use Rattle.promises.specs.Refusals.{OneOfFive, Begin, Hopeless, RefusedLine, NoRoom, WrongReference}
 
 -- ## By number. `form`, `reference`: which numbers a bad line and a wrong reference have
-module _ {Net : Type 0} (Spells : Net → List Line → Type 0) (Roomy Right : Net → Type 0) (Wrong : Net → List Line → Line → ℕ → Type 0) (text : Bytes)
-    (form : (line number : ℕ) → BadLine Spells text line number → OfForm number) (reference : (n : Net) (front : List Line) (line : Line) (number : ℕ) → Wrong n front line number → OfReference number) where
+module _ (rules : Rules) {Net : Type 0} (Spells : Rules → Net → List Line → Type 0) (Roomy Right : Net → Type 0) (Wrong : Net → List Line → Line → ℕ → Type 0) (text : Bytes)
+    (form : (line number : ℕ) → BadLine rules Spells text line number → OfForm number) (reference : (n : Net) (front : List Line) (line : Line) (number : ℕ) → Wrong n front line number → OfReference number) where
   abbrev Refused : (line number : ℕ) → Type 0
-  Refused = Refuses Spells Roomy Right Wrong text
+  Refused = Refuses rules Spells Roomy Right Wrong text
 
   -- no other numbers are given
   pub number-by : (line number : ℕ) → Refused line number → OneOfFive number
@@ -36,28 +36,28 @@ module _ {Net : Type 0} (Spells : Net → List Line → Type 0) (Roomy Right : N
   size-by line number (no-room n size h f) e = absurd (omega arith)
   size-by line number (bad-reference n size h room f) e = absurd (reference-not-size (reference n (f .front) (f .line) number (f .fault)) e)
 
-  pub line-by : (line number : ℕ) → Refused line number → OfForm number → BadLine Spells text line number
+  pub line-by : (line number : ℕ) → Refused line number → OfForm number → BadLine rules Spells text line number
   line-by line number (too-long h) k = absurd (form-not-size k refl)
   line-by line number (bad-line size b) k = b
   line-by line number (unended size u) k = absurd (form-not-end k refl)
   line-by line number (no-room n size h f) k = absurd (form-not-room k refl)
   line-by line number (bad-reference n size h room f) k = absurd (form-or-reference k (reference n (f .front) (f .line) number (f .fault)))
 
-  pub end-by : (line number : ℕ) → Refused line number → number ≡ 10 → Unended Spells text line
+  pub end-by : (line number : ℕ) → Refused line number → number ≡ 10 → Unended rules Spells text line
   end-by line number (too-long h) e = absurd (omega arith)
   end-by line number (bad-line size b) e = absurd (form-not-end (form line number b) e)
   end-by line number (unended size u) e = u
   end-by line number (no-room n size h f) e = absurd (omega arith)
   end-by line number (bad-reference n size h room f) e = absurd (reference-not-end (reference n (f .front) (f .line) number (f .fault)) e)
 
-  pub room-by : (line number : ℕ) → Refused line number → number ≡ 11 → (line ≡ 0) × NoRoom Spells Roomy text
+  pub room-by : (line number : ℕ) → Refused line number → number ≡ 11 → (line ≡ 0) × NoRoom rules Spells Roomy text
   room-by line number (too-long h) e = absurd (omega arith)
   room-by line number (bad-line size b) e = absurd (form-not-room (form line number b) e)
   room-by line number (unended size u) e = absurd (omega arith)
   room-by line number (no-room n size h f) e = (refl, record { net = n; spelled = h; none = f })
   room-by line number (bad-reference n size h room f) e = absurd (reference-not-room (reference n (f .front) (f .line) number (f .fault)) e)
 
-  pub reference-by : (line number : ℕ) → Refused line number → OfReference number → WrongReference Spells Roomy Wrong text line number
+  pub reference-by : (line number : ℕ) → Refused line number → OfReference number → WrongReference rules Spells Roomy Wrong text line number
   reference-by line number (too-long h) k = absurd (reference-not-size k refl)
   reference-by line number (bad-line size b) k = absurd (form-or-reference (form line number b) k)
   reference-by line number (unended size u) k = absurd (reference-not-end k refl)
@@ -74,9 +74,9 @@ same-place (b ∷ a) (b′ ∷ a′) x x′ rest rest′ e k =
     let p = same-place a a′ x x′ rest rest′ (tail-eq-of-cons-eq e) k′ in
     (λ i. head-eq-of-cons-eq e i ∷ p .0 i, p .1)
 
-module _ {Net : Type 0} (Spells : Net → List Line → Type 0) where
-  pub refused-by : (text : Bytes) (line number : ℕ) → BadLine Spells text line number → (before : List Bytes) (this : Bytes) (rest : List Bytes) → Cut text (before ++ (this ∷ rest)) → line ≡ suc (length before)
-      → Begin Spells before → Hopeless Spells before this → RefusedLine Spells text line number
+module _ (rules : Rules) {Net : Type 0} (Spells : Rules → Net → List Line → Type 0) where
+  pub refused-by : (text : Bytes) (line number : ℕ) → BadLine rules Spells text line number → (before : List Bytes) (this : Bytes) (rest : List Bytes) → Cut text (before ++ (this ∷ rest)) → line ≡ suc (length before)
+      → Begin rules Spells before → Hopeless rules Spells before this → RefusedLine rules Spells text line number
   refused-by text line number b before this rest c i h g =
       let j = b .at .number in
       let k : length before ≡ length (b .at .before) = omega arith in
@@ -85,7 +85,7 @@ module _ {Net : Type 0} (Spells : Net → List Line → Type 0) where
         front = b .front;
         this = b .this;
         at = b .at;
-        begins = subst (Begin Spells) (p .0) h;
-        hopeless = subst (Hopeless Spells (b .at .before)) (p .1) (subst (λ (lines : List Bytes). Hopeless Spells lines this) (p .0) g);
+        begins = subst (Begin rules Spells) (p .0) h;
+        hopeless = subst (Hopeless rules Spells (b .at .before)) (p .1) (subst (λ (lines : List Bytes). Hopeless rules Spells lines this) (p .0) g);
         fault = b .fault;
       }

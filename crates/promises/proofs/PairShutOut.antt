@@ -6,7 +6,7 @@ use Prim.Native.Nat.{ℕ}
 use native.Mathlib.Omega.{arith}
 use Rattle.terms.specs.Ascii.{Bytes}
 use Rattle.line.specs.Content.{Field}
-use Rattle.law.specs.Network.{Network, Mission}
+use Rattle.law.specs.Network.{Network, Mission, present}
 use Rattle.law.specs.Short.{SpellsRndf, SpellsMdf}
 use Rattle.law.specs.Tables.{Lent, MissionLent, zeros, mission-zeros}
 use Rattle.rows.specs.declared.FileRow.{FileRow}
@@ -85,7 +85,7 @@ module _ (f : PairReader) where
   pub invents-counts : (rndf mdf : Bytes) (t : Lent) (u : MissionLent) → PairMeets f rndf mdf t u → (c : Counts) (file : FileRow) (d : MissionCounts) (own : MissionFileRow) (n : Network Field) (m : Mission Field) → SpellsRndf n rndf → SpellsMdf m mdf
       → f rndf mdf t u .reply ≡ Pair.Accepted c file d own → ((c ≡ rows-used n) × (d ≡ mission-rows-used m) → ⊥) → ⊥
   invents-counts rndf mdf t u x c file d own n m h g e not =
-      let s = pair-tables-are rndf mdf t u c file d own (f rndf mdf t u .left) (f rndf mdf t u .mission-left) (subst (λ (r : PairReply). ReadsPair rndf mdf t u r (f rndf mdf t u .left) (f rndf mdf t u .mission-left)) e x) n m h g in
+      let s = pair-tables-are rndf mdf t u c file d own (f rndf mdf t u .left) (f rndf mdf t u .mission-left) (subst (λ (r : PairReply). ReadsPair present rndf mdf t u r (f rndf mdf t u .left) (f rndf mdf t u .mission-left)) e x) n m h g in
       not (s .counted, s .mission-counted)
 
   -- 01: "one that judges only the first line, lane or segment and nods the rest through": of the RNDF; or that nods the MDF through
@@ -105,5 +105,5 @@ module _ (f : PairReader) where
   rndf-only = never yard limit-10-5 2 9 9 wrong-limit
 
   -- and in general: what it accepts spells a network and a mission to the last line
-  pub all-judged : (rndf mdf : Bytes) (t : Lent) (u : MissionLent) → PairMeets f rndf mdf t u → IsPairAccepted (f rndf mdf t u .reply) → PairAcceptable rndf mdf t u
+  pub all-judged : (rndf mdf : Bytes) (t : Lent) (u : MissionLent) → PairMeets f rndf mdf t u → IsPairAccepted (f rndf mdf t u .reply) → PairAcceptable present rndf mdf t u
   all-judged rndf mdf t u m = pair-accepted-exactly rndf mdf t u (f rndf mdf t u .reply) (f rndf mdf t u .left) (f rndf mdf t u .mission-left) m .0

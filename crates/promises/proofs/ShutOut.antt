@@ -5,7 +5,7 @@ use Prim.Native.Nat.{ℕ}
 use native.Mathlib.Omega.{arith}
 use Rattle.terms.specs.Ascii.{Bytes}
 use Rattle.line.specs.Content.{Field}
-use Rattle.law.specs.Network.{Network}
+use Rattle.law.specs.Network.{Network, present}
 use Rattle.law.specs.Short.{SpellsRndf}
 use Rattle.law.specs.Tables.{Lent, zeros}
 use Rattle.rows.specs.declared.FileRow.{FileRow}
@@ -66,13 +66,13 @@ module _ (f : Reader) where
 
   -- 01: "one that invents row counts": of any text they are those of the network that it spells, and of yard A 1 segment, 1 lane, 2 points, 1 checkpoint and 1 exit, whatever is lent
   pub invents-counts : (text : Bytes) (t : Lent) → Meets f text t → (c : Counts) (file : FileRow) (n : Network Field) → SpellsRndf n text → f text t .0 ≡ Reply.Accepted c file → (c ≡ rows-used n → ⊥) → ⊥
-  invents-counts text t m c file n h e not = not (tables-are text t c file (f text t .1) (subst (λ (r : RndfReply). ReadsRndf text t r (f text t .1)) e m) n h .0)
+  invents-counts text t m c file n h e not = not (tables-are text t c file (f text t .1) (subst (λ (r : RndfReply). ReadsRndf present text t r (f text t .1)) e m) n h .0)
 
   pub invents-yard-counts : (t : Lent) → Meets f yard t → (c : Counts) (file : FileRow) → f yard t .0 ≡ Reply.Accepted c file → (c ≡ counts → ⊥) → ⊥
   invents-yard-counts t m c file e not = invents-counts yard t m c file network (spelled .yard) e (λ q. not (q ∙ replied .0))
 
   -- 01: "one that judges only the first line, lane or segment and nods the rest through": it would accept a text whose first line, lane or segment is good, and whose second is not
-  never : (text : Bytes) (line number : ℕ) → RefusesRndf text used line number → Meets f text used → IsAccepted (f text used .0) → ⊥
+  never : (text : Bytes) (line number : ℕ) → RefusesRndf present text used line number → Meets f text used → IsAccepted (f text used .0) → ⊥
   never text line number h m a = subst IsAccepted (refusal-only text used (f text used .0) (f text used .1) line number m h .0) a
 
   pub first-line-only : Meets f second-line used → IsAccepted (f second-line used .0) → ⊥
@@ -85,5 +85,5 @@ module _ (f : Reader) where
   first-segment-only = never second-segment 15 9 (seconds used .segment)
 
   -- and in general: what it accepts spells a network to the last line
-  pub all-judged : (text : Bytes) (t : Lent) → Meets f text t → IsAccepted (f text t .0) → Acceptable text t
+  pub all-judged : (text : Bytes) (t : Lent) → Meets f text t → IsAccepted (f text t .0) → Acceptable present text t
   all-judged text t m = accepted-exactly text t (f text t .0) (f text t .1) m .0

@@ -6,6 +6,7 @@ use native.Mathlib.Omega.{arith}
 use lib.Dec.{lit≤}
 use lib.ListN.{length}
 use Rattle.terms.specs.Ascii.{Bytes, ascii}
+use Rattle.law.specs.Network.{present}
 use Rattle.law.specs.Tables.{Lent, HasRoom, filled}
 use Rattle.law.specs.Faults.{Sound, waypoint, first}
 use Rattle.replies.specs.declared.RndfReply.{RndfReply}
@@ -37,14 +38,14 @@ small = record { yard = lit≤ tt; entry-3 = lit≤ tt; line-8-twice = lit≤ tt
 right : Sound network
 right = record { entries = (waypoint _ _ first first (record { low = omega arith; high = omega arith }), tt); numbers = ((λ a. a), tt) }
 
-pub yard-taken : (t : Lent) → HasRoom network t → AcceptsRndf yard t network
+pub yard-taken : (t : Lent) → HasRoom network t → AcceptsRndf present yard t network
 yard-taken t room = record { size = small .yard; spelled = spelled .yard; room = room; right = right }
 
 pub replied : (rows-used network ≡ counts) × (network-file network ≡ yard-file)
 unfolding ascii
 replied = (refl, refl)
 
-pub yard-accepted : (t : Lent) (r : RndfReply) (l : Lent) → ReadsRndf yard t r l → HasRoom network t → (r ≡ Reply.Accepted counts yard-file) × (l ≡ filled network t)
+pub yard-accepted : (t : Lent) (r : RndfReply) (l : Lent) → ReadsRndf present yard t r l → HasRoom network t → (r ≡ Reply.Accepted counts yard-file) × (l ≡ filled network t)
 yard-accepted t r l x room =
     let a = spelled-accepted yard t r l x network (yard-taken t room) in
     (a .0 ∙ (λ i. Reply.Accepted (replied .0 i) (replied .1 i)), a .1)
@@ -56,7 +57,7 @@ room-in-used = record { segments = lit≤ tt; lanes = lit≤ tt; zones = lit≤ 
 pub words-are : filled network used ≡ yard-words
 words-are = refl
 
-pub yard-read : (r : RndfReply) (l : Lent) → ReadsRndf yard used r l → (r ≡ Reply.Accepted counts yard-file) × (l ≡ yard-words)
+pub yard-read : (r : RndfReply) (l : Lent) → ReadsRndf present yard used r l → (r ≡ Reply.Accepted counts yard-file) × (l ≡ yard-words)
 yard-read r l x = let a = yard-accepted used r l x room-in-used in (a .0, a .1 ∙ words-are)
 
 -- ## One change each
@@ -68,13 +69,13 @@ less-room t room =
 
 -- the seven cases of document 01 that are faults of the RNDF
 pub record Seven (t : Lent) : Type 0 where
-  pub entry-3 : RefusesRndf entry-3 t 9 12
-  pub exit-from-3 : RefusesRndf exit-from-3 t 9 9
-  pub three-waypoints : RefusesRndf three-waypoints t 12 5
-  pub one-waypoint : RefusesRndf one-waypoint t 8 9
-  pub without-end : RefusesRndf without-end t 14 10
-  pub nothing : RefusesRndf [] t 1 10
-  pub line-8-twice : RefusesRndf line-8-twice t 9 13
+  pub entry-3 : RefusesRndf present entry-3 t 9 12
+  pub exit-from-3 : RefusesRndf present exit-from-3 t 9 9
+  pub three-waypoints : RefusesRndf present three-waypoints t 12 5
+  pub one-waypoint : RefusesRndf present one-waypoint t 8 9
+  pub without-end : RefusesRndf present without-end t 14 10
+  pub nothing : RefusesRndf present [] t 1 10
+  pub line-8-twice : RefusesRndf present line-8-twice t 9 13
 
 pub seven : (t : Lent) → HasRoom network-twice t → Seven t
 seven t room = record {
@@ -89,13 +90,13 @@ seven t room = record {
 
 -- a good first line, lane or segment does not help where the second is not, whatever is lent
 pub record Seconds (t : Lent) : Type 0 where
-  pub line : RefusesRndf second-line t 2 5
-  pub lane : RefusesRndf second-lane t 12 9
-  pub segment : RefusesRndf second-segment t 15 9
+  pub line : RefusesRndf present second-line t 2 5
+  pub lane : RefusesRndf present second-lane t 12 9
+  pub segment : RefusesRndf present second-segment t 15 9
 
 pub seconds : (t : Lent) → Seconds t
 seconds t = record { line = bad-line (small .second-line) (faults .second-line); lane = bad-line (small .second-lane) (faults .second-lane); segment = bad-line (small .second-segment) (faults .second-segment) }
 
 -- what is refused so gets that reply, and leaves the lent tables zero
-pub refused : (text : Bytes) (t : Lent) (line number : ℕ) → RefusesRndf text t line number → Refused text t line number
+pub refused : (text : Bytes) (t : Lent) (line number : ℕ) → RefusesRndf present text t line number → Refused text t line number
 refused text t line number h r l x = refusal-only text t r l line number x h

@@ -40,7 +40,7 @@ use Rattle.walk.specs.Standing as Standing
 use Rattle.find_line.proofs.Theorems.{rndf-line-there}
 use Rattle.fault_lines.specs.FaultLines.{FirstRndfFault}
 use Rattle.fault_lines.proofs.RndfFaults.{exit-line, checkpoint-line, only-undeclared, only-repeated}
-use Rattle.law.specs.Network.{AnyOrder}
+use Rattle.law.specs.Network.{present}
 use Rattle.law.specs.Network as Law
 use Rattle.law.specs.Short.{SpellsRndf}
 use Rattle.law.specs.Faults.{BadLine, Unended, FirstFault, RndfFault}
@@ -86,7 +86,7 @@ record Answered : Type 0 where
   pub second-segment : read-rndf second-segment ≡ faulty 15 9
 
 answered : Answered
-unfolding ascii Answers.readText Answers.walk Lines.linesOf Judge.judge Lines.dropCr Forms.formOf Forms.closes Forms.noteOf Forms.outerOf Forms.fieldsAt Content.parted Allowed.separates Allowed.all Reach.two Reach.sameBytes Reach.begins Reach.first Reach.upTo Reach.stopsBy Judge.tell Judge.read Judge.numbered Number.integerOf Number.plainOf Number.plain Number.worth Number.numberOf Number.pairOf Number.tripleOf Coordinate.coordinateOf Coordinate.millionthsOf Word.boundary-number Word.indexOf Keywords.rndf-keywords Keywords.boundary-words Machine.step Machine.guard Stands.stands
+unfolding ascii Answers.readText Answers.walk Lines.linesOf Judge.judge Lines.dropCr Forms.formOf Forms.closes Forms.noteOf Forms.outerOf Forms.fieldsAt Content.parted-by Allowed.separates Allowed.all Reach.two Reach.sameBytes Reach.begins Reach.first Reach.upTo Reach.stopsBy Judge.tell Judge.read Judge.numbered Number.integerOf Number.plainOf Number.plain Number.worth Number.numberOf Number.pairOf Number.tripleOf Coordinate.coordinateOf Coordinate.millionthsOf Word.boundary-number Word.indexOf Keywords.rndf-keywords Keywords.boundary-words Machine.step Machine.guard Stands.stands
 answered = record { yard = refl; entry-3 = refl; line-8-twice = refl; exit-from-3 = refl; three-waypoints = refl; one-waypoint = refl; without-end = refl; nothing = refl; second-line = refl; second-lane = refl; second-segment = refl }
 
 -- ## What is spelled
@@ -110,14 +110,14 @@ pub spelled : Spelled
 spelled = record { yard = rndf-to network yard (spelled-by yard network yard-lines (answered .yard) (omega arith) (house .0)); entry-3 = rndf-to network-entry-3 entry-3 entry-3-read; line-8-twice = rndf-to network-twice line-8-twice twice-read }
 
 -- ## What has a fault
-bad : (text : Bytes) (line number : ℕ) → read-rndf text ≡ faulty line number → BadLine (Law.SpellsNetwork AnyOrder) text line number
+bad : (text : Bytes) (line number : ℕ) → read-rndf text ≡ faulty line number → BadLine present Law.SpellsNetwork text line number
 bad text line number e = rndf-bad-to text line number (rndf-bad-line-right text line number e)
 
-open-ended : (text : Bytes) (line : ℕ) → read-rndf text ≡ short line → Unended (Law.SpellsNetwork AnyOrder) text line
+open-ended : (text : Bytes) (line : ℕ) → read-rndf text ≡ short line → Unended present Law.SpellsNetwork text line
 open-ended text line e = rndf-unended-to text line (rndf-unended-right text line e)
 
 exit-on-9 : exit-line entry-3 0 ≡ 9
-unfolding ascii place-of Standing.standing Standing.speaks Lines.linesOf Lines.dropCr Forms.formOf Forms.closes Forms.noteOf Forms.outerOf Forms.fieldsAt Content.parted Allowed.separates Allowed.all Reach.two Reach.sameBytes Reach.begins Reach.first Reach.upTo Reach.stopsBy
+unfolding ascii place-of Standing.standing Standing.speaks Lines.linesOf Lines.dropCr Forms.formOf Forms.closes Forms.noteOf Forms.outerOf Forms.fieldsAt Content.parted-by Allowed.separates Allowed.all Reach.two Reach.sameBytes Reach.begins Reach.first Reach.upTo Reach.stopsBy
 exit-on-9 = rndf-line-there exit 0 entry-3 entry-3-lines (answered .entry-3) (lit< tt)
 
 wrong-entry : FirstRndfFault network-entry-3 entry-3 9 12
@@ -125,7 +125,7 @@ unfolding first-fault is-among resolve tables-with
 wrong-entry = subst (λ (i : ℕ). FirstRndfFault network-entry-3 entry-3 i 12) exit-on-9 (only-undeclared network-entry-3 entry-3 entry-3-read (fault 0 12) refl refl)
 
 checkpoint-on-9 : checkpoint-line line-8-twice 1 ≡ 9
-unfolding ascii place-of Standing.standing Standing.speaks Lines.linesOf Lines.dropCr Forms.formOf Forms.closes Forms.noteOf Forms.outerOf Forms.fieldsAt Content.parted Allowed.separates Allowed.all Reach.two Reach.sameBytes Reach.begins Reach.first Reach.upTo Reach.stopsBy
+unfolding ascii place-of Standing.standing Standing.speaks Lines.linesOf Lines.dropCr Forms.formOf Forms.closes Forms.noteOf Forms.outerOf Forms.fieldsAt Content.parted-by Allowed.separates Allowed.all Reach.two Reach.sameBytes Reach.begins Reach.first Reach.upTo Reach.stopsBy
 checkpoint-on-9 = rndf-line-there checkpoint 1 line-8-twice twice-lines (answered .line-8-twice) (lit< tt)
 
 seven-twice : FirstRndfFault network-twice line-8-twice 9 13
@@ -133,16 +133,16 @@ unfolding first-fault is-among resolve tables-with
 seven-twice = subst (λ (i : ℕ). FirstRndfFault network-twice line-8-twice i 13) checkpoint-on-9 (only-repeated network-twice line-8-twice twice-read (fault 1 13) refl refl)
 
 pub record Faults : Type 0 where
-  pub entry-3 : FirstFault (Law.SpellsNetwork AnyOrder) (RndfFault network-entry-3) entry-3 9 12
-  pub exit-from-3 : BadLine (Law.SpellsNetwork AnyOrder) exit-from-3 9 9
-  pub three-waypoints : BadLine (Law.SpellsNetwork AnyOrder) three-waypoints 12 5
-  pub one-waypoint : BadLine (Law.SpellsNetwork AnyOrder) one-waypoint 8 9
-  pub without-end : Unended (Law.SpellsNetwork AnyOrder) without-end 14
-  pub nothing : Unended (Law.SpellsNetwork AnyOrder) [] 1
-  pub line-8-twice : FirstFault (Law.SpellsNetwork AnyOrder) (RndfFault network-twice) line-8-twice 9 13
-  pub second-line : BadLine (Law.SpellsNetwork AnyOrder) second-line 2 5
-  pub second-lane : BadLine (Law.SpellsNetwork AnyOrder) second-lane 12 9
-  pub second-segment : BadLine (Law.SpellsNetwork AnyOrder) second-segment 15 9
+  pub entry-3 : FirstFault present Law.SpellsNetwork (RndfFault network-entry-3) entry-3 9 12
+  pub exit-from-3 : BadLine present Law.SpellsNetwork exit-from-3 9 9
+  pub three-waypoints : BadLine present Law.SpellsNetwork three-waypoints 12 5
+  pub one-waypoint : BadLine present Law.SpellsNetwork one-waypoint 8 9
+  pub without-end : Unended present Law.SpellsNetwork without-end 14
+  pub nothing : Unended present Law.SpellsNetwork [] 1
+  pub line-8-twice : FirstFault present Law.SpellsNetwork (RndfFault network-twice) line-8-twice 9 13
+  pub second-line : BadLine present Law.SpellsNetwork second-line 2 5
+  pub second-lane : BadLine present Law.SpellsNetwork second-lane 12 9
+  pub second-segment : BadLine present Law.SpellsNetwork second-segment 15 9
 
 pub faults : Faults
 faults = record {

@@ -1,7 +1,7 @@
 -- WHAT A READER MUST BELIEVE. What is accepted, and what asking for a name gives. Document 01, "How much a contract has to say", "Tables". Assumes nothing.
 use Rattle.terms.specs.Words.{_≡_, [], Option, none, some, length, Bytes, Each}
 use Rattle.line.specs.Line.{Field}
-use Rattle.law.specs.Network.{Network, Mission}
+use Rattle.law.specs.Network.{Network, Mission, Rules}
 use Rattle.law.specs.Tables.{Lent, MissionLent, filled, mission-filled}
 use Rattle.rows.specs.declared.FileRow.{FileRow}
 use Rattle.rows.specs.declared.MissionFileRow.{MissionFileRow}
@@ -25,15 +25,15 @@ IsPairAccepted (Pair.Refused x) = ⊥
 
 -- ## Texts to be accepted. 01: "every pair that spells a network and mission is accepted"
 -- the text spells a network whose references are right; it is not too long, and there is room
-abbrev pub Acceptable : Bytes → Lent → Type 0
-Acceptable text t = (n : Network Field) × AcceptsRndf text t n
+abbrev pub Acceptable : Rules → Bytes → Lent → Type 0
+Acceptable rules text t = (n : Network Field) × AcceptsRndf rules text t n
 
 -- likewise the MDF, with a mission that fits the network
-pub record PairAcceptable (rndf mdf : Bytes) (t : Lent) (u : MissionLent) : Type 0 where
+pub record PairAcceptable (rules : Rules) (rndf mdf : Bytes) (t : Lent) (u : MissionLent) : Type 0 where
   pub net : Network Field
   pub mission : Mission Field
-  pub network-accepted : AcceptsRndf rndf t net
-  pub mission-accepted : AcceptsMdf net mdf u mission
+  pub network-accepted : AcceptsRndf rules rndf t net
+  pub mission-accepted : AcceptsMdf rules net mdf u mission
 
 -- ## Meaning
 abbrev pub mission-rows-used : Mission Field → MissionCounts

@@ -1,5 +1,6 @@
 -- WHAT A READER MUST BELIEVE. The table of yard A's nine cases, and what it is that a text, or a pair, is refused. Document 01, "Yard A". Assumes nothing.
 use Rattle.terms.specs.Words.{_≡_, List, [], _∷_, ℕ, Bytes, Each}
+use Rattle.law.specs.Network.{present}
 use Rattle.law.specs.Tables.{Lent, MissionLent, zeros, mission-zeros}
 use Rattle.replies.specs.declared.RndfReply.{RndfReply}
 use Rattle.replies.specs.declared.RndfReply.the-variants as Reply
@@ -10,10 +11,10 @@ use Rattle.promises.specs.Yards.{yard, entry-3, exit-from-3, three-waypo
 
 -- whatever meets the contract gives this reply, and leaves all lent tables zero
 abbrev pub Refused : Bytes → Lent → (line number : ℕ) → Type 0
-Refused text t line number = (r : RndfReply) (l : Lent) → ReadsRndf text t r l → (r ≡ Reply.Refused (refusal 1 line number)) × (l ≡ zeros t)
+Refused text t line number = (r : RndfReply) (l : Lent) → ReadsRndf present text t r l → (r ≡ Reply.Refused (refusal 1 line number)) × (l ≡ zeros t)
 
 abbrev pub PairRefused : (rndf mdf : Bytes) → Lent → MissionLent → (file line number : ℕ) → Type 0
-PairRefused rndf mdf t u file line number = (r : PairReply) (l : Lent) (k : MissionLent) → ReadsPair rndf mdf t u r l k → (r ≡ Pair.Refused (refusal file line number)) × (l ≡ zeros t) × (k ≡ mission-zeros u)
+PairRefused rndf mdf t u file line number = (r : PairReply) (l : Lent) (k : MissionLent) → ReadsPair present rndf mdf t u r l k → (r ≡ Pair.Refused (refusal file line number)) × (l ≡ zeros t) × (k ≡ mission-zeros u)
 
 pub record Case : Type 0 where
   pub rndf : Bytes

@@ -1,5 +1,6 @@
 -- WHAT A READER MUST BELIEVE. What a reader does, and that it meets its contract on some texts and lent tables. Document 01, "The contracts have to shut out". Assumes nothing.
 use Rattle.terms.specs.Words.{Bytes}
+use Rattle.law.specs.Network.{present}
 use Rattle.law.specs.Tables.{Lent, MissionLent}
 use Rattle.replies.specs.declared.RndfReply.{RndfReply}
 use Rattle.replies.specs.declared.PairReply.{PairReply}
@@ -11,7 +12,7 @@ abbrev pub Reader : Type 0
 Reader = Bytes → Lent → RndfReply × Lent
 
 abbrev pub Meets : Reader → Bytes → Lent → Type 0
-Meets f text t = ReadsRndf text t (f text t .0) (f text t .1)
+Meets f text t = ReadsRndf present text t (f text t .0) (f text t .1)
 
 -- of an RNDF with its MDF
 pub record Read : Type 0 where
@@ -23,7 +24,7 @@ abbrev pub PairReader : Type 0
 PairReader = (rndf mdf : Bytes) → Lent → MissionLent → Read
 
 abbrev pub PairMeets : PairReader → (rndf mdf : Bytes) → Lent → MissionLent → Type 0
-PairMeets f rndf mdf t u = ReadsPair rndf mdf t u (f rndf mdf t u .reply) (f rndf mdf t u .left) (f rndf mdf t u .mission-left)
+PairMeets f rndf mdf t u = ReadsPair present rndf mdf t u (f rndf mdf t u .reply) (f rndf mdf t u .left) (f rndf mdf t u .mission-left)
 
 -- what it does with a pair and tables that were in use; and that it meets the contract there
 abbrev pub done : PairReader → (rndf mdf : Bytes) → Read

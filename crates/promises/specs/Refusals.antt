@@ -2,18 +2,11 @@
 use Rattle.terms.specs.Words.{_≡_, List, _∷_, _++_, _⊎_, ℕ, suc, length, Bytes}
 use Rattle.line.specs.Line.{Cut, Field}
 use Rattle.refusal.specs.Numbers.{OfForm, OfReference}
-use Rattle.law.specs.Network.{Network, Mission, Line, AnyOrder, SpellsNetwork, SpellsMission, SpellsText}
+use Rattle.law.specs.Network.{Network, Line, Rules, SpellsText}
 use Rattle.law.specs.Tables.{Lent, MissionLent}
 use Rattle.law.specs.Faults.{LineAt, Fault, BadLine, Unended, FirstFault}
 use Rattle.refusal.specs.declared.Refusal.{Refusal}
 use Rattle.replies.specs.Replies.{AcceptsRndf, RefusesRndf, RefusesMdf}
-
--- how an RNDF is spelled, and an MDF
-abbrev pub Rndf : Network Field → List Line → Type 0
-Rndf = SpellsNetwork AnyOrder
-
-abbrev pub Mdf : Mission Field → List Line → Type 0
-Mdf = SpellsMission AnyOrder
 
 -- the numbers that a reader gives: each tells one of five things (RefusedLine, RefusedEnd, NoRoom, WrongReference; 1: the text is too long)
 pub data OneOfFive (number : ℕ) : Type 0 where
@@ -24,15 +17,15 @@ pub data OneOfFive (number : ℕ) : Type 0 where
   reference : OfReference number → OneOfFive number
 
 -- for the lines that spell a network, or a mission
-module _ {Net : Type 0} (Spells : Net → List Line → Type 0) where
+module _ (rules : Rules) {Net : Type 0} (Spells : Rules → Net → List Line → Type 0) where
   -- 01: "'Well-formed' means spelled by the grammar, entries still as identifiers and 12 to 18 left aside"
   abbrev pub WellFormed : Bytes → Type 0
-  WellFormed text = (n : Net) × SpellsText Spells n text
+  WellFormed text = (n : Net) × SpellsText rules Spells n text
 
   -- 01: "no fault of 2 to 10"
   pub record NoFormFault (text : Bytes) : Type 0 where
-    pub no-bad-line : (line number : ℕ) → BadLine Spells text line number → ⊥
-    pub ended : (line : ℕ) → Unended Spells text line → ⊥
+    pub no-bad-line : (line number : ℕ) → BadLine rules Spells text line number → ⊥
+    pub ended : (line : ℕ) → Unended rules Spells text line → ⊥
 
   -- these are the first lines of some well-formed text
   pub record Begin (lines : List Bytes) : Type 0 where
@@ -49,10 +42,10 @@ module _ {Net : Type 0} (Spells : Net → List Line → Type 0) where
   pub record RefusedLine (text : Bytes) (line number : ℕ) : Type 0 where
     pub front : List Line
     pub this : Bytes
-    pub at : LineAt text line front this
+    pub at : LineAt rules text line front this
     pub begins : Begin (at .before)
     pub hopeless : Hopeless (at .before) this
-    pub fault : Fault Spells front this number
+    pub fault : Fault rules Spells front this number
 
   -- 10, at "lines + 1". 01: "10 is given only if every line is good, so the text begins some well-formed file": its lines are the first of some well-formed text, and it is none itself
   pub record RefusedEnd (text : Bytes) (line : ℕ) : Type 0 where
@@ -65,20 +58,20 @@ module _ {Net : Type 0} (Spells : Net → List Line → Type 0) where
   -- 11: the text is well-formed, and there is no room for the rows of what it spells
   pub record NoRoom (Roomy : Net → Type 0) (text : Bytes) : Type 0 where
     pub net : Net
-    pub spelled : SpellsText Spells net text
+    pub spelled : SpellsText rules Spells net text
     pub none : Roomy net → ⊥
 
   -- a number of reference (12 to 18): the text is well-formed, there is room, and this is the first line with a wrong reference
   pub record WrongReference (Roomy : Net → Type 0) (Wrong : Net → List Line → Line → ℕ → Type 0) (text : Bytes) (line number : ℕ) : Type 0 where
     pub net : Net
-    pub spelled : SpellsText Spells net text
+    pub spelled : SpellsText rules Spells net text
     pub room : Roomy net
-    pub fault : FirstFault Spells (Wrong net) text line number
+    pub fault : FirstFault rules Spells (Wrong net) text line number
 
 -- 01: "Each gives file (1 RNDF, 2 MDF)": this holds of the RNDF, or that of the MDF, as the refusal says
 abbrev pub OfFile : Refusal → (Rndf Mdf : Type 0) → Type 0
 OfFile x Rndf Mdf = ((x .file ≡ 1) × Rndf) ⊎ ((x .file ≡ 2) × Mdf)
 
 -- 01: "Order: for the RNDF ..; Then the MDF likewise": why a pair is refused so: the RNDF's first refusal, else the MDF's for the network that the RNDF spells
-abbrev pub PairRefuses : (rndf mdf : Bytes) → Lent → MissionLent → Refusal → Type 0
-PairRefuses rndf mdf t u x = OfFile x (RefusesRndf rndf t (x .line) (x .number)) ((n : Network Field) × AcceptsRndf rndf t n × RefusesMdf n mdf u (x .line) (x .number))
+abbrev pub PairRefuses : Rules → (rndf mdf : Bytes) → Lent → MissionLent → Refusal → Type 0
+PairRefuses rules rndf mdf t u x = OfFile x (RefusesRndf rules rndf t (x .line) (x .number)) ((n : Network Field) × AcceptsRndf rules rndf t n × RefusesMdf rules n mdf u (x .line) (x .number))

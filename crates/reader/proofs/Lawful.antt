@@ -5,7 +5,7 @@ use Prim.Native.Nat.{ℕ}
 use lib.ListN.{length}
 use Rattle.terms.specs.Ascii.{Bytes}
 use Rattle.line.specs.Content.{Field}
-use Rattle.law.specs.Network.{Network, Mission, AnyOrder, SpellsNetwork, SpellsMission}
+use Rattle.law.specs.Network.{Network, Mission, SpellsNetwork, SpellsMission, present}
 use Rattle.law.specs.Tables as Law
 use Rattle.law.specs.Tables.{Lent, MissionLent}
 use Rattle.grammar.specs.Tables.{tables, mission-tables}
@@ -47,50 +47,50 @@ mission-file-is m = λ i. record { name = New.stretch (some (m .name)); rndf = N
 
 -- ## An RNDF
 module _ (text : Bytes) (t : Lent) where
-  pub accepts-to : (n : Network Field) → N.AcceptsRndf text t n → New.AcceptsRndf text t n
+  pub accepts-to : (n : Network Field) → N.AcceptsRndf text t n → New.AcceptsRndf present text t n
   accepts-to n a = record { size = a .size; spelled = rndf-to n text (a .spelled); room = room-to n t (a .room); right = a .sound }
 
-  pub accepts-back : (n : Network Field) → New.AcceptsRndf text t n → N.AcceptsRndf text t n
+  pub accepts-back : (n : Network Field) → New.AcceptsRndf present text t n → N.AcceptsRndf text t n
   accepts-back n a = record { size = a .size; spelled = rndf-back n text (a .spelled); room = room-back n t (a .room); sound = a .right }
 
-  pub refuses-to : (line number : ℕ) → N.RefusesRndf text t line number → New.RefusesRndf text t line number
+  pub refuses-to : (line number : ℕ) → N.RefusesRndf text t line number → New.RefusesRndf present text t line number
   refuses-to line number (N.too-long h) = New.too-long h
   refuses-to line number (N.bad-line size b) = New.bad-line size (rndf-bad-to text line number b)
   refuses-to line number (N.unended size u) = New.unended size (rndf-unended-to text line u)
   refuses-to line number (N.no-room n size h f) = New.no-room n size (rndf-to n text h) (λ r. f (room-back n t r))
   refuses-to line number (N.bad-reference n size h room f) = New.bad-reference n size (rndf-to n text h) (room-to n t room) (rndf-first-to n text h line number f)
 
-  pub refuses-back : (line number : ℕ) → New.RefusesRndf text t line number → N.RefusesRndf text t line number
+  pub refuses-back : (line number : ℕ) → New.RefusesRndf present text t line number → N.RefusesRndf text t line number
   refuses-back line number (New.too-long h) = N.too-long h
   refuses-back line number (New.bad-line size b) = N.bad-line size (rndf-bad-back text line number b)
   refuses-back line number (New.unended size u) = N.unended size (rndf-unended-back text line u)
   refuses-back line number (New.no-room n size h f) = N.no-room n size (rndf-back n text h) (λ r. f (room-to n t r))
   refuses-back line number (New.bad-reference n size h room f) = N.bad-reference n size (rndf-back n text h) (room-back n t room) (rndf-first-back n text (rndf-back n text h) line number f)
 
-  pub rndf-reads-to : (reply : RndfReply) (left : Lent) → Old.ReadsRndf text t reply left → New.ReadsRndf text t reply left
+  pub rndf-reads-to : (reply : RndfReply) (left : Lent) → Old.ReadsRndf text t reply left → New.ReadsRndf present text t reply left
   rndf-reads-to reply left (Old.accepted n a e k) = New.accepted n (accepts-to n a) (e ∙ ap₂ Reply.Accepted (counts-are n) (file-is n)) (k ∙ filled-same n (a .sound) t)
   rndf-reads-to reply left (Old.refused line number a e k) = New.refused line number (refuses-to line number a) e (k ∙ zeros-same t)
 
-  pub rndf-reads-back : (reply : RndfReply) (left : Lent) → New.ReadsRndf text t reply left → Old.ReadsRndf text t reply left
+  pub rndf-reads-back : (reply : RndfReply) (left : Lent) → New.ReadsRndf present text t reply left → Old.ReadsRndf text t reply left
   rndf-reads-back reply left (New.accepted n a e k) = Old.accepted n (accepts-back n a) (e ∙ sym (ap₂ Reply.Accepted (counts-are n) (file-is n))) (k ∙ sym (filled-same n (a .right) t))
   rndf-reads-back reply left (New.refused line number a e k) = Old.refused line number (refuses-back line number a) e (k ∙ sym (zeros-same t))
 
 -- ## An MDF for a network
 module _ (n : Network Field) (mdf : Bytes) (u : MissionLent) where
-  pub mdf-accepts-to : (m : Mission Field) → M.AcceptsMdf n mdf u m → New.AcceptsMdf n mdf u m
+  pub mdf-accepts-to : (m : Mission Field) → M.AcceptsMdf n mdf u m → New.AcceptsMdf present n mdf u m
   mdf-accepts-to m a = record { size = a .size; spelled = mdf-to m mdf (a .spelled); room = mission-room-to m u (a .room); right = fits-to n m (a .fits) }
 
-  pub mdf-accepts-back : (m : Mission Field) → New.AcceptsMdf n mdf u m → M.AcceptsMdf n mdf u m
+  pub mdf-accepts-back : (m : Mission Field) → New.AcceptsMdf present n mdf u m → M.AcceptsMdf n mdf u m
   mdf-accepts-back m a = record { size = a .size; spelled = mdf-back m mdf (a .spelled); room = mission-room-back m u (a .room); fits = fits-back n m (a .right) }
 
-  pub mdf-refuses-to : (line number : ℕ) → M.RefusesMdf n mdf u line number → New.RefusesMdf n mdf u line number
+  pub mdf-refuses-to : (line number : ℕ) → M.RefusesMdf n mdf u line number → New.RefusesMdf present n mdf u line number
   mdf-refuses-to line number (M.too-long h) = New.too-long h
   mdf-refuses-to line number (M.bad-line size b) = New.bad-line size (mdf-bad-to mdf line number b)
   mdf-refuses-to line number (M.unended size x) = New.unended size (mdf-unended-to mdf line x)
   mdf-refuses-to line number (M.no-room {m} size h f) = New.no-room m size (mdf-to m mdf h) (λ r. f (mission-room-back m u r))
   mdf-refuses-to line number (M.bad-reference {m} size h room f) = New.bad-reference m size (mdf-to m mdf h) (mission-room-to m u room) (mdf-first-to n m mdf h line number f)
 
-  pub mdf-refuses-back : (line number : ℕ) → New.RefusesMdf n mdf u line number → M.RefusesMdf n mdf u line number
+  pub mdf-refuses-back : (line number : ℕ) → New.RefusesMdf present n mdf u line number → M.RefusesMdf n mdf u line number
   mdf-refuses-back line number (New.too-long h) = M.too-long h
   mdf-refuses-back line number (New.bad-line size b) = M.bad-line size (mdf-bad-back mdf line number b)
   mdf-refuses-back line number (New.unended size x) = M.unended size (mdf-unended-back mdf line x)
@@ -102,12 +102,12 @@ module _ (rndf mdf : Bytes) (t : Lent) (u : MissionLent) where
   replied : (n : Network Field) (m : Mission Field) → Pair.Accepted (N.rows-used (sizes (tables n))) (Rows.network-file n) (M.rows-used m) (Rows.mission-file m) ≡ Pair.Accepted (New.rows-used n) (New.network-file n) (M.rows-used m) (New.mission-file m)
   replied n m = λ i. Pair.Accepted (counts-are n i) (file-is n i) (M.rows-used m) (mission-file-is m i)
 
-  pub pair-reads-to : (reply : PairReply) (left : Lent) (mission-left : MissionLent) → Old.ReadsPair rndf mdf t u reply left mission-left → New.ReadsPair rndf mdf t u reply left mission-left
+  pub pair-reads-to : (reply : PairReply) (left : Lent) (mission-left : MissionLent) → Old.ReadsPair rndf mdf t u reply left mission-left → New.ReadsPair present rndf mdf t u reply left mission-left
   pair-reads-to reply left mission-left (Old.accepted n m a b e k l) = New.accepted n m (accepts-to rndf t n a) (mdf-accepts-to n mdf u m b) (e ∙ replied n m) (k ∙ filled-same n (a .sound) t) (l ∙ mission-filled-same m u)
   pair-reads-to reply left mission-left (Old.rndf-refused line number a e k l) = New.rndf-refused line number (refuses-to rndf t line number a) e (k ∙ zeros-same t) (l ∙ mission-zeros-same u)
   pair-reads-to reply left mission-left (Old.mdf-refused n line number a b e k l) = New.mdf-refused n line number (accepts-to rndf t n a) (mdf-refuses-to n mdf u line number b) e (k ∙ zeros-same t) (l ∙ mission-zeros-same u)
 
-  pub pair-reads-back : (reply : PairReply) (left : Lent) (mission-left : MissionLent) → New.ReadsPair rndf mdf t u reply left mission-left → Old.ReadsPair rndf mdf t u reply left mission-left
+  pub pair-reads-back : (reply : PairReply) (left : Lent) (mission-left : MissionLent) → New.ReadsPair present rndf mdf t u reply left mission-left → Old.ReadsPair rndf mdf t u reply left mission-left
   pair-reads-back reply left mission-left (New.accepted n m a b e k l) = Old.accepted n m (accepts-back rndf t n a) (mdf-accepts-back n mdf u m b) (e ∙ sym (replied n m)) (k ∙ sym (filled-same n (a .right) t)) (l ∙ sym (mission-filled-same m u))
   pair-reads-back reply left mission-left (New.rndf-refused line number a e k l) = Old.rndf-refused line number (refuses-back rndf t line number a) e (k ∙ sym (zeros-same t)) (l ∙ sym (mission-zeros-same u))
   pair-reads-back reply left mission-left (New.mdf-refused n line number a b e k l) = Old.mdf-refused n line number (accepts-back rndf t n a) (mdf-refuses-back n mdf u line number b) e (k ∙ sym (zeros-same t)) (l ∙ sym (mission-zeros-same u))

@@ -7,6 +7,7 @@ use native.Mathlib.Omega.{arith}
 use lib.ListN.{length}
 use Rattle.terms.specs.Ascii.{Bytes}
 use Rattle.line.specs.Content.{Field}
+use Rattle.law.specs.Network.{present}
 use Rattle.grammar.specs.Network.{Network}
 use Rattle.grammar.specs.Mission.{Mission}
 use Rattle.grammar.specs.Tables.{point-row, tables, mission-tables}
@@ -114,15 +115,15 @@ meant rndf mdf t u = go (readOf rndf t) (NT.meant rndf t)
 
 -- ## The contract
 pub pair-accepted : (rndf mdf : Bytes) (t left : Lent) (u mission-left : MissionLent) (c : Counts) (file : FileRow) (m : MissionCounts) (g : MissionFileRow) → P.accepted c file m g left mission-left ≡ pairOf rndf mdf t u
-    → ReadsPair rndf mdf t u (Pair.Accepted c file m g) left mission-left
+    → ReadsPair present rndf mdf t u (Pair.Accepted c file m g) left mission-left
 pair-accepted rndf mdf t left u mission-left c file m g e =
     let h = subst (Meant rndf mdf t u) (sym e) (meant rndf mdf t u) in
     pair-reads-to rndf mdf t u (Pair.Accepted c file m g) left mission-left (accepted (h .net) (h .mission) (h .accepts) (h .takes) (h .reply) (h .holds) (h .mission-holds))
 
 pub pair-refused : (rndf mdf : Bytes) (t behind left : Lent) (u mission-behind mission-left : MissionLent) (file line number : ℕ) → P.refused file line number ≡ pairOf rndf mdf t u
-    → left ≡ zeros behind → zeros behind ≡ zeros t → mission-left ≡ mission-zeros mission-behind → mission-zeros mission-behind ≡ mission-zeros u → ReadsPair rndf mdf t u (Pair.Refused (refusal file line number)) left mission-left
+    → left ≡ zeros behind → zeros behind ≡ zeros t → mission-left ≡ mission-zeros mission-behind → mission-zeros mission-behind ≡ mission-zeros u → ReadsPair present rndf mdf t u (Pair.Refused (refusal file line number)) left mission-left
 pair-refused rndf mdf t behind left u mission-behind mission-left file line number e z k y j = go (subst (Meant rndf mdf t u) (sym e) (meant rndf mdf t u))
   where
-    go : Refused rndf mdf t u file line number → ReadsPair rndf mdf t u (Pair.Refused (refusal file line number)) left mission-left
+    go : Refused rndf mdf t u file line number → ReadsPair present rndf mdf t u (Pair.Refused (refusal file line number)) left mission-left
     go (by-rndf h f) = pair-reads-to rndf mdf t u (Pair.Refused (refusal file line number)) left mission-left (rndf-refused line number h (ap (λ (x : ℕ). Pair.Refused (refusal x line number)) f) (z ∙ k) (y ∙ j))
     go (by-mdf n a h f) = pair-reads-to rndf mdf t u (Pair.Refused (refusal file line number)) left mission-left (mdf-refused n line number a h (ap (λ (x : ℕ). Pair.Refused (refusal x line number)) f) (z ∙ k) (y ∙ j))

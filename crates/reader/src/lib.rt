@@ -20,6 +20,7 @@ use rows::FileRow;
 use rows::clear;
 ghost use mathlib.Core.Path.{_≡_};
 ghost use Rattle.progress.specs.Given.{fitted};
+ghost use Rattle.law.specs.Network.{present};
 ghost use Rattle.law.specs.Tables.{lent, mission-lent};
 ghost use Rattle.replies.specs.Replies.{ReadsRndf, ReadsPair};
 ghost use Prim.Native.Nat.{_+_};
@@ -37,7 +38,7 @@ pub fn read_rndf(
     stops: &mut [u32],
     exits: &mut [u32],
 ) -> RndfReply
-    ensures { λ r. ⌜ ReadsRndf (now (text .entry)) (lent (now (segments .entry)) (now (lanes .entry)) (now (zones .entry)) (now (spots .entry)) (now (points .entry)) (now (checkpoints .entry)) (now (stops .entry)) (now (exits .entry))) r (lent (now (segments .exit)) (now (lanes .exit)) (now (zones .exit)) (now (spots .exit)) (now (points .exit)) (now (checkpoints .exit)) (now (stops .exit)) (now (exits .exit))) ⌝ }
+    ensures { λ r. ⌜ ReadsRndf present (now (text .entry)) (lent (now (segments .entry)) (now (lanes .entry)) (now (zones .entry)) (now (spots .entry)) (now (points .entry)) (now (checkpoints .entry)) (now (stops .entry)) (now (exits .entry))) r (lent (now (segments .exit)) (now (lanes .exit)) (now (zones .exit)) (now (spots .exit)) (now (points .exit)) (now (checkpoints .exit)) (now (stops .exit)) (now (exits .exit))) ⌝ }
 {
     let reply = read_network(
         text,
@@ -158,7 +159,7 @@ pub fn read_pair(
     goals: &mut [u32],
     limits: &mut [u32],
 ) -> PairReply
-    ensures { λ r. ⌜ ReadsPair (now (rndf .entry)) (now (mdf .entry)) (lent (now (segments .entry)) (now (lanes .entry)) (now (zones .entry)) (now (spots .entry)) (now (points .entry)) (now (checkpoints .entry)) (now (stops .entry)) (now (exits .entry))) (mission-lent (now (goals .entry)) (now (limits .entry))) r (lent (now (segments .exit)) (now (lanes .exit)) (now (zones .exit)) (now (spots .exit)) (now (points .exit)) (now (checkpoints .exit)) (now (stops .exit)) (now (exits .exit))) (mission-lent (now (goals .exit)) (now (limits .exit))) ⌝ }
+    ensures { λ r. ⌜ ReadsPair present (now (rndf .entry)) (now (mdf .entry)) (lent (now (segments .entry)) (now (lanes .entry)) (now (zones .entry)) (now (spots .entry)) (now (points .entry)) (now (checkpoints .entry)) (now (stops .entry)) (now (exits .entry))) (mission-lent (now (goals .entry)) (now (limits .entry))) r (lent (now (segments .exit)) (now (lanes .exit)) (now (zones .exit)) (now (spots .exit)) (now (points .exit)) (now (checkpoints .exit)) (now (stops .exit)) (now (exits .exit))) (mission-lent (now (goals .exit)) (now (limits .exit))) ⌝ }
 {
     let reply = read_both(
         rndf,

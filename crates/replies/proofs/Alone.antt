@@ -3,7 +3,7 @@ use mathlib.Core.Path.{_≡_, sym, subst}
 use Prim.Native.Nat.{ℕ}
 use Rattle.terms.specs.Ascii.{Bytes}
 use Rattle.line.specs.Content.{Field}
-use Rattle.law.specs.Network.{Network, Mission, AnyOrder, SpellsNetwork, SpellsMission, SpellsText}
+use Rattle.law.specs.Network.{Network, Mission, SpellsNetwork, SpellsMission, SpellsText, present}
 use Rattle.law.specs.Tables.{Lent, MissionLent, HasRoom, MissionHasRoom}
 use Rattle.law.specs.Faults.{RndfFault, MdfFault, Sound, Fits, FirstFault}
 use Rattle.text.proofs.Theorems.{one-rndf, one-mdf}
@@ -18,7 +18,7 @@ use Rattle.law_tables.proofs.RndfFirst.{rndf-first-back}
 use Rattle.law_tables.proofs.MdfFirst.{mdf-first-back}
 use Rattle.replies.proofs.OneAnswer.{Alone}
 
-pub rndf-alone : (text : Bytes) (t : Lent) → Alone (SpellsNetwork AnyOrder) (λ n. HasRoom n t) Sound RndfFault text
+pub rndf-alone : (text : Bytes) (t : Lent) → Alone present SpellsNetwork (λ n. HasRoom n t) Sound RndfFault text
 rndf-alone text t = record {
   one = same;
   bad-one = λ i k i′ k′ b b′. F.rndf-one-bad-line text i k i′ k′ (rndf-bad-back text i k b) (rndf-bad-back text i′ k′ b′);
@@ -31,16 +31,16 @@ rndf-alone text t = record {
 }
   where
     Spelled : Network Field → Type 0
-    Spelled n = SpellsText (SpellsNetwork AnyOrder) n text
+    Spelled n = SpellsText present SpellsNetwork n text
 
     same : (n n′ : Network Field) → Spelled n → Spelled n′ → n ≡ n′
     same n n′ s s′ = one-rndf n n′ text (rndf-back n text s) (rndf-back n′ text s′)
 
-    of-one : (n n′ : Network Field) → Spelled n → Spelled n′ → (i k : ℕ) → FirstFault (SpellsNetwork AnyOrder) (RndfFault n′) text i k → FirstFault (SpellsNetwork AnyOrder) (RndfFault n) text i k
-    of-one n n′ s s′ i k = subst (λ (m : Network Field). FirstFault (SpellsNetwork AnyOrder) (RndfFault m) text i k) (sym (same n n′ s s′))
+    of-one : (n n′ : Network Field) → Spelled n → Spelled n′ → (i k : ℕ) → FirstFault present SpellsNetwork (RndfFault n′) text i k → FirstFault present SpellsNetwork (RndfFault n) text i k
+    of-one n n′ s s′ i k = subst (λ (m : Network Field). FirstFault present SpellsNetwork (RndfFault m) text i k) (sym (same n n′ s s′))
 
 -- n: the network of the RNDF, which was accepted before
-pub mdf-alone : (n : Network Field) (text : Bytes) (u : MissionLent) → Alone (SpellsMission AnyOrder) (λ m. MissionHasRoom m u) (Fits n) (λ m. MdfFault n) text
+pub mdf-alone : (n : Network Field) (text : Bytes) (u : MissionLent) → Alone present SpellsMission (λ m. MissionHasRoom m u) (Fits n) (λ m. MdfFault n) text
 mdf-alone n text u = record {
   one = same;
   bad-one = λ i k i′ k′ b b′. F.mdf-one-bad-line text i k i′ k′ (mdf-bad-back text i k b) (mdf-bad-back text i′ k′ b′);
@@ -53,10 +53,10 @@ mdf-alone n text u = record {
 }
   where
     Spelled : Mission Field → Type 0
-    Spelled m = SpellsText (SpellsMission AnyOrder) m text
+    Spelled m = SpellsText present SpellsMission m text
 
     same : (m m′ : Mission Field) → Spelled m → Spelled m′ → m ≡ m′
     same m m′ s s′ = one-mdf m m′ text (mdf-back m text s) (mdf-back m′ text s′)
 
-    first-back : (m : Mission Field) → Spelled m → (i k : ℕ) → FirstFault (SpellsMission AnyOrder) (MdfFault n) text i k → FirstMdfFault n text i k
+    first-back : (m : Mission Field) → Spelled m → (i k : ℕ) → FirstFault present SpellsMission (MdfFault n) text i k → FirstMdfFault n text i k
     first-back m s = mdf-first-back n m text (mdf-back m text s)

@@ -13,7 +13,7 @@ use Rattle.terms.specs.Ascii.{Bytes}
 use Rattle.line.specs.Content.{Field}
 use Rattle.scan.specs.Reach.{sameBytes}
 use Rattle.scan.proofs.Equal.{same-equal, false-differ}
-use Rattle.law.specs.Network.{Network, Mission}
+use Rattle.law.specs.Network.{Network, Mission, present}
 use Rattle.law.specs.Tables.{Lent, MissionLent, Room, HasRoom, MissionHasRoom, segment-rows, lane-rows, zone-rows, spot-rows, point-rows, checkpoint-rows, stop-rows, exit-rows, goal-rows, limit-rows}
 use Rattle.grammar.specs.References.{all-numbers, parts}
 use Rattle.text.specs.Spelling.{SpellsRndf, SpellsMdf}
@@ -73,7 +73,7 @@ mission-roomy m u =
 -- ## An RNDF
 module _ (text : Bytes) (t : Lent) where
   abbrev Answered : Type 0
-  Answered = ((n : Network Field) × AcceptsRndf text t n) ⊎ ((line : ℕ) × (number : ℕ) × RefusesRndf text t line number)
+  Answered = ((n : Network Field) × AcceptsRndf present text t n) ⊎ ((line : ℕ) × (number : ℕ) × RefusesRndf present text t line number)
 
   module _ (size : length text ≤ most) (n : Network Field) (s : SpellsRndf n text) (room : HasRoom n t) where
     -- 12 and 13 stand on different lines
@@ -109,7 +109,7 @@ module _ (text : Bytes) (t : Lent) where
 -- ## An MDF for a network
 module _ (n : Network Field) (text : Bytes) (u : MissionLent) where
   abbrev MdfAnswered : Type 0
-  MdfAnswered = ((m : Mission Field) × AcceptsMdf n text u m) ⊎ ((line : ℕ) × (number : ℕ) × RefusesMdf n text u line number)
+  MdfAnswered = ((m : Mission Field) × AcceptsMdf present n text u m) ⊎ ((line : ℕ) × (number : ℕ) × RefusesMdf present n text u line number)
 
   module _ (size : length text ≤ most) (m : Mission Field) (s : SpellsMdf m text) (room : MissionHasRoom m u) where
     abbrev ids : List ℕ

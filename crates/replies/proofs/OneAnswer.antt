@@ -5,27 +5,27 @@ use Prim.Native.Nat.{ℕ, _≤_, _<_}
 use native.Mathlib.Omega.{arith}
 use lib.ListN.{length}
 use Rattle.terms.specs.Ascii.{Bytes}
-use Rattle.law.specs.Network.{Line, SpellsText}
+use Rattle.law.specs.Network.{Line, SpellsText, Rules}
 use Rattle.law.specs.Faults.{BadLine, Unended, FirstFault}
 use Rattle.replies.specs.Replies.{most, Accepts, Refuses, too-long, bad-line, unended, no-room, bad-reference}
 
-module _ {Net : Type 0} (Spells : Net → List Line → Type 0) (Roomy Right : Net → Type 0) (Wrong : Net → List Line → Line → ℕ → Type 0) (text : Bytes) where
+module _ (rules : Rules) {Net : Type 0} (Spells : Rules → Net → List Line → Type 0) (Roomy Right : Net → Type 0) (Wrong : Net → List Line → Line → ℕ → Type 0) (text : Bytes) where
   pub record Alone : Type 0 where
-    pub one : (n n′ : Net) → SpellsText Spells n text → SpellsText Spells n′ text → n ≡ n′
-    pub bad-one : (i k i′ k′ : ℕ) → BadLine Spells text i k → BadLine Spells text i′ k′ → (i ≡ i′) × (k ≡ k′)
-    pub unended-one : (i i′ : ℕ) → Unended Spells text i → Unended Spells text i′ → i ≡ i′
-    pub bad-or-unended : (i k j : ℕ) → BadLine Spells text i k → Unended Spells text j → ⊥
-    pub bad-or-spelled : (i k : ℕ) (n : Net) → BadLine Spells text i k → SpellsText Spells n text → ⊥
-    pub unended-or-spelled : (i : ℕ) (n : Net) → Unended Spells text i → SpellsText Spells n text → ⊥
-    pub wrong-one : (n n′ : Net) → SpellsText Spells n text → SpellsText Spells n′ text → (i k i′ k′ : ℕ) → FirstFault Spells (Wrong n) text i k → FirstFault Spells (Wrong n′) text i′ k′ → (i ≡ i′) × (k ≡ k′)
-    pub wrong-or-right : (n n′ : Net) → SpellsText Spells n text → SpellsText Spells n′ text → (i k : ℕ) → FirstFault Spells (Wrong n) text i k → Right n′ → ⊥
+    pub one : (n n′ : Net) → SpellsText rules Spells n text → SpellsText rules Spells n′ text → n ≡ n′
+    pub bad-one : (i k i′ k′ : ℕ) → BadLine rules Spells text i k → BadLine rules Spells text i′ k′ → (i ≡ i′) × (k ≡ k′)
+    pub unended-one : (i i′ : ℕ) → Unended rules Spells text i → Unended rules Spells text i′ → i ≡ i′
+    pub bad-or-unended : (i k j : ℕ) → BadLine rules Spells text i k → Unended rules Spells text j → ⊥
+    pub bad-or-spelled : (i k : ℕ) (n : Net) → BadLine rules Spells text i k → SpellsText rules Spells n text → ⊥
+    pub unended-or-spelled : (i : ℕ) (n : Net) → Unended rules Spells text i → SpellsText rules Spells n text → ⊥
+    pub wrong-one : (n n′ : Net) → SpellsText rules Spells n text → SpellsText rules Spells n′ text → (i k i′ k′ : ℕ) → FirstFault rules Spells (Wrong n) text i k → FirstFault rules Spells (Wrong n′) text i′ k′ → (i ≡ i′) × (k ≡ k′)
+    pub wrong-or-right : (n n′ : Net) → SpellsText rules Spells n text → SpellsText rules Spells n′ text → (i k : ℕ) → FirstFault rules Spells (Wrong n) text i k → Right n′ → ⊥
 
   module _ (s : Alone) where
     abbrev Taken : Net → Type 0
-    Taken = Accepts Spells Roomy Right Wrong text
+    Taken = Accepts rules Spells Roomy Right Wrong text
 
     abbrev Left : (line number : ℕ) → Type 0
-    Left = Refuses Spells Roomy Right Wrong text
+    Left = Refuses rules Spells Roomy Right Wrong text
 
     sizes-clash : {X : Type 0} → most < length text → length text ≤ most → X
     sizes-clash a b = absurd (omega arith)

@@ -5,7 +5,7 @@ use Prim.Native.Nat.{ℕ}
 use lib.ListN.{length}
 use Rattle.terms.specs.Ascii.{Bytes}
 use Rattle.line.specs.Content.{Field}
-use Rattle.law.specs.Network.{Network, Mission, AnyOrder, SpellsNetwork, SpellsMission}
+use Rattle.law.specs.Network.{Network, Mission, SpellsNetwork, SpellsMission, present}
 use Rattle.law.specs.Tables.{Lent, MissionLent, HasRoom, MissionHasRoom, filled, mission-filled, zeros, mission-zeros}
 use Rattle.law.specs.Faults.{RndfFault, MdfFault, Sound, Fits}
 use Rattle.replies.specs.declared.RndfReply.{RndfReply}
@@ -19,27 +19,27 @@ use Rattle.replies.proofs.Decided.{rndf-answered, mdf-answered}
 
 -- ## One file
 module _ (text : Bytes) (t : Lent) where
-  pub rndf-accepts-one : (n n′ : Network Field) → AcceptsRndf text t n → AcceptsRndf text t n′ → n ≡ n′
-  rndf-accepts-one = One.accepts-one (SpellsNetwork AnyOrder) (λ n. HasRoom n t) Sound RndfFault text (rndf-alone text t)
+  pub rndf-accepts-one : (n n′ : Network Field) → AcceptsRndf present text t n → AcceptsRndf present text t n′ → n ≡ n′
+  rndf-accepts-one = One.accepts-one present SpellsNetwork (λ n. HasRoom n t) Sound RndfFault text (rndf-alone text t)
 
-  pub rndf-never-both : (n : Network Field) (line number : ℕ) → AcceptsRndf text t n → RefusesRndf text t line number → ⊥
-  rndf-never-both = One.never-both (SpellsNetwork AnyOrder) (λ n. HasRoom n t) Sound RndfFault text (rndf-alone text t)
+  pub rndf-never-both : (n : Network Field) (line number : ℕ) → AcceptsRndf present text t n → RefusesRndf present text t line number → ⊥
+  rndf-never-both = One.never-both present SpellsNetwork (λ n. HasRoom n t) Sound RndfFault text (rndf-alone text t)
 
-  pub rndf-refuses-one : (line number line′ number′ : ℕ) → RefusesRndf text t line number → RefusesRndf text t line′ number′ → (line ≡ line′) × (number ≡ number′)
-  rndf-refuses-one = One.refuses-one (SpellsNetwork AnyOrder) (λ n. HasRoom n t) Sound RndfFault text (rndf-alone text t)
+  pub rndf-refuses-one : (line number line′ number′ : ℕ) → RefusesRndf present text t line number → RefusesRndf present text t line′ number′ → (line ≡ line′) × (number ≡ number′)
+  rndf-refuses-one = One.refuses-one present SpellsNetwork (λ n. HasRoom n t) Sound RndfFault text (rndf-alone text t)
 
 module _ (n : Network Field) (text : Bytes) (u : MissionLent) where
-  pub mdf-accepts-one : (m m′ : Mission Field) → AcceptsMdf n text u m → AcceptsMdf n text u m′ → m ≡ m′
-  mdf-accepts-one = One.accepts-one (SpellsMission AnyOrder) (λ m. MissionHasRoom m u) (Fits n) (λ m. MdfFault n) text (mdf-alone n text u)
+  pub mdf-accepts-one : (m m′ : Mission Field) → AcceptsMdf present n text u m → AcceptsMdf present n text u m′ → m ≡ m′
+  mdf-accepts-one = One.accepts-one present SpellsMission (λ m. MissionHasRoom m u) (Fits n) (λ m. MdfFault n) text (mdf-alone n text u)
 
-  pub mdf-never-both : (m : Mission Field) (line number : ℕ) → AcceptsMdf n text u m → RefusesMdf n text u line number → ⊥
-  mdf-never-both = One.never-both (SpellsMission AnyOrder) (λ m. MissionHasRoom m u) (Fits n) (λ m. MdfFault n) text (mdf-alone n text u)
+  pub mdf-never-both : (m : Mission Field) (line number : ℕ) → AcceptsMdf present n text u m → RefusesMdf present n text u line number → ⊥
+  mdf-never-both = One.never-both present SpellsMission (λ m. MissionHasRoom m u) (Fits n) (λ m. MdfFault n) text (mdf-alone n text u)
 
-  pub mdf-refuses-one : (line number line′ number′ : ℕ) → RefusesMdf n text u line number → RefusesMdf n text u line′ number′ → (line ≡ line′) × (number ≡ number′)
-  mdf-refuses-one = One.refuses-one (SpellsMission AnyOrder) (λ m. MissionHasRoom m u) (Fits n) (λ m. MdfFault n) text (mdf-alone n text u)
+  pub mdf-refuses-one : (line number line′ number′ : ℕ) → RefusesMdf present n text u line number → RefusesMdf present n text u line′ number′ → (line ≡ line′) × (number ≡ number′)
+  mdf-refuses-one = One.refuses-one present SpellsMission (λ m. MissionHasRoom m u) (Fits n) (λ m. MdfFault n) text (mdf-alone n text u)
 
 -- ## An RNDF: no second reply, and no second memory
-pub rndf-settled : (text : Bytes) (t : Lent) (r r′ : RndfReply) (l l′ : Lent) → ReadsRndf text t r l → ReadsRndf text t r′ l′ → (r ≡ r′) × (l ≡ l′)
+pub rndf-settled : (text : Bytes) (t : Lent) (r r′ : RndfReply) (l l′ : Lent) → ReadsRndf present text t r l → ReadsRndf present text t r′ l′ → (r ≡ r′) × (l ≡ l′)
 rndf-settled text t r r′ l l′ (accepted n a e k) (accepted n′ a′ e′ k′) =
     let q = rndf-accepts-one text t n n′ a a′ in
     (e ∙ ap (λ (x : Network Field). Reply.Accepted (rows-used x) (network-file x)) q ∙ sym e′, k ∙ ap (λ (x : Network Field). filled x t) q ∙ sym k′)
@@ -55,34 +55,34 @@ taken n m = Pair.Accepted (rows-used n) (network-file n) (record { goals = lengt
 
 module _ (rndf mdf : Bytes) (t : Lent) (u : MissionLent) where
   -- the RNDF that both speak of is one network
-  network-one : (P : Network Field → Type 0) (n n′ : Network Field) → AcceptsRndf rndf t n → AcceptsRndf rndf t n′ → P n′ → P n
+  network-one : (P : Network Field → Type 0) (n n′ : Network Field) → AcceptsRndf present rndf t n → AcceptsRndf present rndf t n′ → P n′ → P n
   network-one P n n′ a a′ = subst P (sym (rndf-accepts-one rndf t n n′ a a′))
 
-  pub pair-settled : (r r′ : PairReply) (l l′ : Lent) (k k′ : MissionLent) → ReadsPair rndf mdf t u r l k → ReadsPair rndf mdf t u r′ l′ k′ → (r ≡ r′) × (l ≡ l′) × (k ≡ k′)
+  pub pair-settled : (r r′ : PairReply) (l l′ : Lent) (k k′ : MissionLent) → ReadsPair present rndf mdf t u r l k → ReadsPair present rndf mdf t u r′ l′ k′ → (r ≡ r′) × (l ≡ l′) × (k ≡ k′)
   pair-settled r r′ l l′ k k′ (accepted n m a b e p q) (accepted n′ m′ a′ b′ e′ p′ q′) =
       let x = rndf-accepts-one rndf t n n′ a a′ in
-      let y = mdf-accepts-one n mdf u m m′ b (network-one (λ (z : Network Field). AcceptsMdf z mdf u m′) n n′ a a′ b′) in
+      let y = mdf-accepts-one n mdf u m m′ b (network-one (λ (z : Network Field). AcceptsMdf present z mdf u m′) n n′ a a′ b′) in
       (e ∙ ap₂ taken x y ∙ sym e′, p ∙ ap (λ (z : Network Field). filled z t) x ∙ sym p′, q ∙ ap (λ (z : Mission Field). mission-filled z u) y ∙ sym q′)
   pair-settled r r′ l l′ k k′ (accepted n m a b e p q) (rndf-refused line number b′ e′ p′ q′) = absurd (rndf-never-both rndf t n line number a b′)
   pair-settled r r′ l l′ k k′ (accepted n m a b e p q) (mdf-refused n′ line number a′ b′ e′ p′ q′) =
-      absurd (mdf-never-both n mdf u m line number b (network-one (λ (z : Network Field). RefusesMdf z mdf u line number) n n′ a a′ b′))
+      absurd (mdf-never-both n mdf u m line number b (network-one (λ (z : Network Field). RefusesMdf present z mdf u line number) n n′ a a′ b′))
   pair-settled r r′ l l′ k k′ (rndf-refused line number b e p q) (accepted n m a′ b′ e′ p′ q′) = absurd (rndf-never-both rndf t n line number a′ b)
   pair-settled r r′ l l′ k k′ (rndf-refused line number b e p q) (rndf-refused line′ number′ b′ e′ p′ q′) =
       let x = rndf-refuses-one rndf t line number line′ number′ b b′ in
       (e ∙ ap₂ (λ (y z : ℕ). Pair.Refused (refusal 1 y z)) (x .0) (x .1) ∙ sym e′, p ∙ sym p′, q ∙ sym q′)
   pair-settled r r′ l l′ k k′ (rndf-refused line number b e p q) (mdf-refused n line′ number′ a′ b′ e′ p′ q′) = absurd (rndf-never-both rndf t n line number a′ b)
   pair-settled r r′ l l′ k k′ (mdf-refused n line number a b e p q) (accepted n′ m a′ b′ e′ p′ q′) =
-      absurd (mdf-never-both n mdf u m line number (network-one (λ (z : Network Field). AcceptsMdf z mdf u m) n n′ a a′ b′) b)
+      absurd (mdf-never-both n mdf u m line number (network-one (λ (z : Network Field). AcceptsMdf present z mdf u m) n n′ a a′ b′) b)
   pair-settled r r′ l l′ k k′ (mdf-refused n line number a b e p q) (rndf-refused line′ number′ b′ e′ p′ q′) = absurd (rndf-never-both rndf t n line′ number′ a b′)
   pair-settled r r′ l l′ k k′ (mdf-refused n line number a b e p q) (mdf-refused n′ line′ number′ a′ b′ e′ p′ q′) =
-      let x = mdf-refuses-one n mdf u line number line′ number′ b (network-one (λ (z : Network Field). RefusesMdf z mdf u line′ number′) n n′ a a′ b′) in
+      let x = mdf-refuses-one n mdf u line number line′ number′ b (network-one (λ (z : Network Field). RefusesMdf present z mdf u line′ number′) n n′ a a′ b′) in
       (e ∙ ap₂ (λ (y z : ℕ). Pair.Refused (refusal 2 y z)) (x .0) (x .1) ∙ sym e′, p ∙ sym p′, q ∙ sym q′)
 
 -- ## One there is
-pub rndf-some : (text : Bytes) (t : Lent) → (r : RndfReply) × (l : Lent) × ReadsRndf text t r l
+pub rndf-some : (text : Bytes) (t : Lent) → (r : RndfReply) × (l : Lent) × ReadsRndf present text t r l
 rndf-some text t = go (rndf-answered text t)
   where
-    go : ((n : Network Field) × AcceptsRndf text t n) ⊎ ((line : ℕ) × (number : ℕ) × RefusesRndf text t line number) → (r : RndfReply) × (l : Lent) × ReadsRndf text t r l
+    go : ((n : Network Field) × AcceptsRndf present text t n) ⊎ ((line : ℕ) × (number : ℕ) × RefusesRndf present text t line number) → (r : RndfReply) × (l : Lent) × ReadsRndf present text t r l
     go (inl x) = (Reply.Accepted (rows-used (x .0)) (network-file (x .0)), filled (x .0) t, accepted (x .0) (x .1) refl refl)
     go (inr x) = (Reply.Refused (refusal 1 (x .0) (x .1)), zeros t, refused (x .0) (x .1) (x .2) refl refl)
 
@@ -91,15 +91,15 @@ module _ (rndf mdf : Bytes) (t : Lent) (u : MissionLent) where
     pub reply : PairReply
     pub left : Lent
     pub mission-left : MissionLent
-    pub reads : ReadsPair rndf mdf t u reply left mission-left
+    pub reads : ReadsPair present rndf mdf t u reply left mission-left
 
-  by-mission : (n : Network Field) → AcceptsRndf rndf t n → ((m : Mission Field) × AcceptsMdf n mdf u m) ⊎ ((line : ℕ) × (number : ℕ) × RefusesMdf n mdf u line number) → Some
+  by-mission : (n : Network Field) → AcceptsRndf present rndf t n → ((m : Mission Field) × AcceptsMdf present n mdf u m) ⊎ ((line : ℕ) × (number : ℕ) × RefusesMdf present n mdf u line number) → Some
   by-mission n a (inl x) = record { reply = taken n (x .0); left = filled n t; mission-left = mission-filled (x .0) u; reads = accepted n (x .0) a (x .1) refl refl refl }
   by-mission n a (inr x) = record { reply = Pair.Refused (refusal 2 (x .0) (x .1)); left = zeros t; mission-left = mission-zeros u; reads = mdf-refused n (x .0) (x .1) a (x .2) refl refl refl }
 
   pub pair-some : Some
   pair-some = go (rndf-answered rndf t)
     where
-      go : ((n : Network Field) × AcceptsRndf rndf t n) ⊎ ((line : ℕ) × (number : ℕ) × RefusesRndf rndf t line number) → Some
+      go : ((n : Network Field) × AcceptsRndf present rndf t n) ⊎ ((line : ℕ) × (number : ℕ) × RefusesRndf present rndf t line number) → Some
       go (inl x) = by-mission (x .0) (x .1) (mdf-answered (x .0) mdf u)
       go (inr x) = record { reply = Pair.Refused (refusal 1 (x .0) (x .1)); left = zeros t; mission-left = mission-zeros u; reads = rndf-refused (x .0) (x .1) (x .2) refl refl refl }

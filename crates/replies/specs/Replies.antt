@@ -1,7 +1,7 @@
 -- WHAT A READER MUST BELIEVE. What the entry points reply, and what the lent tables then hold. Document 01, "Refusal numbers", "Tables". Assumes nothing.
 use Rattle.terms.specs.Words.{_≡_, List, Option, none, some, ℕ, _≤_, _<_, length, Bytes}
 use Rattle.line.specs.Line.{Field}
-use Rattle.law.specs.Network.{Network, Mission, Line, AnyOrder, SpellsNetwork, SpellsMission, SpellsText}
+use Rattle.law.specs.Network.{Network, Mission, Line, Rules, SpellsNetwork, SpellsMission, SpellsText}
 use Rattle.law.specs.Tables.{Lent, MissionLent, segment-rows, lane-rows, zone-rows, spot-rows, point-rows, checkpoint-rows, stop-rows, exit-rows, HasRoom, MissionHasRoom, filled, mission-filled, zeros, mission-zeros}
 use Rattle.law.specs.Faults.{BadLine, Unended, FirstFault, RndfFault, MdfFault, Sound, Fits}
 use Rattle.rows.specs.declared.Stretch.{Stretch}
@@ -19,35 +19,35 @@ abbrev pub most : ℕ
 most = 16777215
 
 -- ## One file: how it is spelled; whether there is room for what it spells, and its references are right; which lines have wrong ones
-module _ {Net : Type 0} (Spells : Net → List Line → Type 0) (Roomy Right : Net → Type 0) (Wrong : Net → List Line → Line → ℕ → Type 0) (text : Bytes) where
+module _ (rules : Rules) {Net : Type 0} (Spells : Rules → Net → List Line → Type 0) (Roomy Right : Net → Type 0) (Wrong : Net → List Line → Line → ℕ → Type 0) (text : Bytes) where
   pub record Accepts (n : Net) : Type 0 where
     pub size : length text ≤ most
-    pub spelled : SpellsText Spells n text
+    pub spelled : SpellsText rules Spells n text
     pub room : Roomy n
     pub right : Right n
 
   -- 01: "Order: for the RNDF 1; then the first line with a fault of 2 to 9, ..; then 10; 11; then the first line with 12 or 13. Then the MDF likewise, 14 to 18 by first line"
   pub data Refuses : (line number : ℕ) → Type 0 where
     too-long : most < length text → Refuses 0 1
-    bad-line : {line number : ℕ} → length text ≤ most → BadLine Spells text line number → Refuses line number
-    unended : {line : ℕ} → length text ≤ most → Unended Spells text line → Refuses line 10
-    no-room : (n : Net) → length text ≤ most → SpellsText Spells n text → (Roomy n → ⊥) → Refuses 0 11
-    bad-reference : (n : Net) {line number : ℕ} → length text ≤ most → SpellsText Spells n text → Roomy n → FirstFault Spells (Wrong n) text line number → Refuses line number
+    bad-line : {line number : ℕ} → length text ≤ most → BadLine rules Spells text line number → Refuses line number
+    unended : {line : ℕ} → length text ≤ most → Unended rules Spells text line → Refuses line 10
+    no-room : (n : Net) → length text ≤ most → SpellsText rules Spells n text → (Roomy n → ⊥) → Refuses 0 11
+    bad-reference : (n : Net) {line number : ℕ} → length text ≤ most → SpellsText rules Spells n text → Roomy n → FirstFault rules Spells (Wrong n) text line number → Refuses line number
 
--- t: the tables as they were lent; u: those of the MDF; n: the network of the RNDF, which was accepted before
-module _ (text : Bytes) (t : Lent) where
+-- rules: those of the entry points are `present`; t: the tables as they were lent; u: those of the MDF; n: the network of the RNDF, which was accepted before
+module _ (rules : Rules) (text : Bytes) (t : Lent) where
   abbrev pub AcceptsRndf : Network Field → Type 0
-  AcceptsRndf = Accepts (SpellsNetwork AnyOrder) (λ n. HasRoom n t) Sound RndfFault text
+  AcceptsRndf = Accepts rules SpellsNetwork (λ n. HasRoom n t) Sound RndfFault text
 
   abbrev pub RefusesRndf : (line number : ℕ) → Type 0
-  RefusesRndf = Refuses (SpellsNetwork AnyOrder) (λ n. HasRoom n t) Sound RndfFault text
+  RefusesRndf = Refuses rules SpellsNetwork (λ n. HasRoom n t) Sound RndfFault text
 
-module _ (n : Network Field) (text : Bytes) (u : MissionLent) where
+module _ (rules : Rules) (n : Network Field) (text : Bytes) (u : MissionLent) where
   abbrev pub AcceptsMdf : Mission Field → Type 0
-  AcceptsMdf = Accepts (SpellsMission AnyOrder) (λ m. MissionHasRoom m u) (Fits n) (λ m. MdfFault n) text
+  AcceptsMdf = Accepts rules SpellsMission (λ m. MissionHasRoom m u) (Fits n) (λ m. MdfFault n) text
 
   abbrev pub RefusesMdf : (line number : ℕ) → Type 0
-  RefusesMdf = Refuses (SpellsMission AnyOrder) (λ m. MissionHasRoom m u) (Fits n) (λ m. MdfFault n) text
+  RefusesMdf = Refuses rules SpellsMission (λ m. MissionHasRoom m u) (Fits n) (λ m. MdfFault n) text
 
 -- ## What is replied
 -- 01: "Each gives file (1 RNDF, 2 MDF), line, number."
@@ -71,18 +71,18 @@ abbrev pub mission-file : Mission Field → MissionFileRow
 mission-file m = record { name = stretch (some (m .name)); rndf = stretch (some (m .rndf)); version = stretch (m .version); date = stretch (m .date) }
 
 -- ## An RNDF alone: the reply, and what is left in the lent tables
-pub data ReadsRndf (text : Bytes) (t : Lent) (reply : RndfReply) (left : Lent) : Type 0 where
+pub data ReadsRndf (rules : Rules) (text : Bytes) (t : Lent) (reply : RndfReply) (left : Lent) : Type 0 where
   -- 01: "rows beyond are zero"
-  accepted : (n : Network Field) → AcceptsRndf text t n → reply ≡ Reply.Accepted (rows-used n) (network-file n) → left ≡ filled n t → ReadsRndf text t reply left
+  accepted : (n : Network Field) → AcceptsRndf rules text t n → reply ≡ Reply.Accepted (rows-used n) (network-file n) → left ≡ filled n t → ReadsRndf rules text t reply left
   -- 01: "All lent tables .. are then zero over their whole length"
-  refused : (line number : ℕ) → RefusesRndf text t line number → reply ≡ Reply.Refused (refusal 1 line number) → left ≡ zeros t → ReadsRndf text t reply left
+  refused : (line number : ℕ) → RefusesRndf rules text t line number → reply ≡ Reply.Refused (refusal 1 line number) → left ≡ zeros t → ReadsRndf rules text t reply left
 
 -- ## An RNDF with its MDF
-pub data ReadsPair (rndf mdf : Bytes) (t : Lent) (u : MissionLent) (reply : PairReply) (left : Lent) (mission-left : MissionLent) : Type 0 where
-  accepted : (n : Network Field) (m : Mission Field) → AcceptsRndf rndf t n → AcceptsMdf n mdf u m → reply ≡ Pair.Accepted (rows-used n) (network-file n) (record { goals = length (m .goals); limits = length (m .limits) }) (mission-file m)
-      → left ≡ filled n t → mission-left ≡ mission-filled m u → ReadsPair rndf mdf t u reply left mission-left
+pub data ReadsPair (rules : Rules) (rndf mdf : Bytes) (t : Lent) (u : MissionLent) (reply : PairReply) (left : Lent) (mission-left : MissionLent) : Type 0 where
+  accepted : (n : Network Field) (m : Mission Field) → AcceptsRndf rules rndf t n → AcceptsMdf rules n mdf u m → reply ≡ Pair.Accepted (rows-used n) (network-file n) (record { goals = length (m .goals); limits = length (m .limits) }) (mission-file m)
+      → left ≡ filled n t → mission-left ≡ mission-filled m u → ReadsPair rules rndf mdf t u reply left mission-left
   -- 01: "for the RNDF 1; ..": everything about the RNDF comes first
-  rndf-refused : (line number : ℕ) → RefusesRndf rndf t line number → reply ≡ Pair.Refused (refusal 1 line number) → left ≡ zeros t → mission-left ≡ mission-zeros u → ReadsPair rndf mdf t u reply left mission-left
+  rndf-refused : (line number : ℕ) → RefusesRndf rules rndf t line number → reply ≡ Pair.Refused (refusal 1 line number) → left ≡ zeros t → mission-left ≡ mission-zeros u → ReadsPair rules rndf mdf t u reply left mission-left
   -- 01: "Then the MDF likewise"
-  mdf-refused : (n : Network Field) (line number : ℕ) → AcceptsRndf rndf t n → RefusesMdf n mdf u line number → reply ≡ Pair.Refused (refusal 2 line number)
-      → left ≡ zeros t → mission-left ≡ mission-zeros u → ReadsPair rndf mdf t u reply left mission-left
+  mdf-refused : (n : Network Field) (line number : ℕ) → AcceptsRndf rules rndf t n → RefusesMdf rules n mdf u line number → reply ≡ Pair.Refused (refusal 2 line number)
+      → left ≡ zeros t → mission-left ≡ mission-zeros u → ReadsPair rules rndf mdf t u reply left mission-left

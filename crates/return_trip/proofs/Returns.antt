@@ -4,7 +4,7 @@ use Prim.Native.Nat.{_≤_}
 use lib.ListN.{length}
 use Rattle.terms.specs.Ascii.{Bytes}
 use Rattle.line.specs.Content.{Field}
-use Rattle.law.specs.Network.{Network, Mission}
+use Rattle.law.specs.Network.{Network, Mission, present}
 use Rattle.law.specs.Tables as Law
 use Rattle.law.specs.Tables.{Lent, MissionLent}
 use Rattle.grammar.specs.Names.{network-named, mission-named}
@@ -38,13 +38,13 @@ use Rattle.same.specs.Same.{SameNetwork, SameMission}
 use Rattle.return_trip.specs.Returns.{RndfReturns, MdfReturns, PairReturns}
 
 -- ## The house writing: one and only one
-pub rndf-house : (text : Bytes) (t : Lent) (n : Network Field) → AcceptsRndf text t n → (house : Bytes) × HouseRndf n house
+pub rndf-house : (text : Bytes) (t : Lent) (n : Network Field) → AcceptsRndf present text t n → (house : Bytes) × HouseRndf n house
 rndf-house text t n a = let s = Texts.rndf-back n text (a .spelled) in (house-rndf n, house-rndf-is n (network-ranges n (s .said) (s .net)))
 
 pub one-rndf-house : (n : Network Field) (house house′ : Bytes) → HouseRndf n house → HouseRndf n house′ → house ≡ house′
 one-rndf-house n house house′ h h′ = house-rndf-only n house h ∙ sym (house-rndf-only n house′ h′)
 
-pub mdf-house : (mdf : Bytes) (u : MissionLent) (n : Network Field) (m : Mission Field) → AcceptsMdf n mdf u m → (house : Bytes) × HouseMdf m house
+pub mdf-house : (mdf : Bytes) (u : MissionLent) (n : Network Field) (m : Mission Field) → AcceptsMdf present n mdf u m → (house : Bytes) × HouseMdf m house
 mdf-house mdf u n m a = let s = Texts.mdf-back m mdf (a .spelled) in (house-mdf m, house-mdf-is m (mission-ranges m (s .said) (s .net)))
 
 pub one-mdf-house : (m : Mission Field) (house house′ : Bytes) → HouseMdf m house → HouseMdf m house′ → house ≡ house′
@@ -52,7 +52,7 @@ one-mdf-house m house house′ h h′ = house-mdf-only m house h ∙ sym (house-
 
 -- ## Accepted again
 -- in any tables that have room for its rows
-pub rndf-returns-in : (text : Bytes) (t t′ : Lent) (n : Network Field) → AcceptsRndf text t n → (house : Bytes) → HouseRndf n house → length house ≤ most → Law.HasRoom n t′ → RndfReturns n house t′
+pub rndf-returns-in : (text : Bytes) (t t′ : Lent) (n : Network Field) → AcceptsRndf present text t n → (house : Bytes) → HouseRndf n house → length house ≤ most → Law.HasRoom n t′ → RndfReturns n house t′
 rndf-returns-in text t t′ n a house h size room =
     let e = house-rndf-only n house h in
     let b = rndf-back n text (Texts.rndf-back n text (a .spelled)) in
@@ -69,11 +69,11 @@ rndf-returns-in text t t′ n a house h size room =
     })
 
 -- so in the same tables: as many rows are needed
-pub rndf-returns : (text : Bytes) (t : Lent) (n : Network Field) → AcceptsRndf text t n → (house : Bytes) → HouseRndf n house → length house ≤ most → RndfReturns n house t
+pub rndf-returns : (text : Bytes) (t : Lent) (n : Network Field) → AcceptsRndf present text t n → (house : Bytes) → HouseRndf n house → length house ≤ most → RndfReturns n house t
 rndf-returns text t n a house h size = rndf-returns-in text t t n a house h size (a .room)
 
 -- for every network that is the same as the one that the MDF was accepted for: that one, or what its house writing spells
-pub mdf-returns : (mdf : Bytes) (u : MissionLent) (n n′ : Network Field) (m : Mission Field) → AcceptsMdf n mdf u m → SameNetwork n′ n → (house : Bytes) → HouseMdf m house → length house ≤ most → MdfReturns n′ m house u
+pub mdf-returns : (mdf : Bytes) (u : MissionLent) (n n′ : Network Field) (m : Mission Field) → AcceptsMdf present n mdf u m → SameNetwork n′ n → (house : Bytes) → HouseMdf m house → length house ≤ most → MdfReturns n′ m house u
 mdf-returns mdf u n n′ m a e house h size =
     let q = house-mdf-only m house h in
     let b = mdf-back m mdf (Texts.mdf-back m mdf (a .spelled)) in
@@ -90,7 +90,7 @@ mdf-returns mdf u n n′ m a e house h size =
     })
 
 -- THE RETURN TRIP
-pub pair-returns : (rndf mdf : Bytes) (t : Lent) (u : MissionLent) (n : Network Field) (m : Mission Field) → AcceptsRndf rndf t n → AcceptsMdf n mdf u m
+pub pair-returns : (rndf mdf : Bytes) (t : Lent) (u : MissionLent) (n : Network Field) (m : Mission Field) → AcceptsRndf present rndf t n → AcceptsMdf present n mdf u m
     → (rndf-house mdf-house : Bytes) → HouseRndf n rndf-house → HouseMdf m mdf-house → length rndf-house ≤ most → length mdf-house ≤ most → PairReturns n m rndf-house mdf-house t u
 pair-returns rndf mdf t u n m a b v w h g size mission-size =
     let x = rndf-returns rndf t n a v h size in
@@ -105,7 +105,7 @@ mission-counts-alike m m′ e =
     let q : mission-sizes (mission-tables m) ≡ mission-sizes (mission-tables m′) = mission-sizes-alike bytes-of m m′ e in
     ap (λ (c : MissionCounts). record { goals = c .goals; limits = c .limits }) (sym (mission-counts-same m) ∙ q ∙ mission-counts-same m′)
 
-pub rndf-read-again : (text : Bytes) (t : Lent) (n : Network Field) → AcceptsRndf text t n → (house : Bytes) → HouseRndf n house → length house ≤ most → (reply : RndfReply) (left : Lent) → ReadsRndf house t reply left
+pub rndf-read-again : (text : Bytes) (t : Lent) (n : Network Field) → AcceptsRndf present text t n → (house : Bytes) → HouseRndf n house → length house ≤ most → (reply : RndfReply) (left : Lent) → ReadsRndf present house t reply left
     → (x : RndfReturns n house t) × (reply ≡ Reply.Accepted (rows-used n) (network-file (x .again))) × (left ≡ Law.filled (x .again) t)
 rndf-read-again text t n a house g size reply left h =
     let x = rndf-returns text t n a house g size in
@@ -113,9 +113,9 @@ rndf-read-again text t n a house g size reply left h =
     (x, s .0 ∙ ap (λ (c : Declared.Counts). Reply.Accepted c (network-file (x .again))) (counts-alike (x .again) n (x .same)), s .1)
 
 -- and the goals and limits are the same words
-pub pair-read-again : (rndf mdf : Bytes) (t : Lent) (u : MissionLent) (n : Network Field) (m : Mission Field) → AcceptsRndf rndf t n → AcceptsMdf n mdf u m
+pub pair-read-again : (rndf mdf : Bytes) (t : Lent) (u : MissionLent) (n : Network Field) (m : Mission Field) → AcceptsRndf present rndf t n → AcceptsMdf present n mdf u m
     → (rndf-house mdf-house : Bytes) → HouseRndf n rndf-house → HouseMdf m mdf-house → length rndf-house ≤ most → length mdf-house ≤ most
-    → (reply : PairReply) (left : Lent) (mission-left : MissionLent) → ReadsPair rndf-house mdf-house t u reply left mission-left
+    → (reply : PairReply) (left : Lent) (mission-left : MissionLent) → ReadsPair present rndf-house mdf-house t u reply left mission-left
     → (x : PairReturns n m rndf-house mdf-house t u) × (reply ≡ Pair.Accepted (rows-used n) (network-file (x .network .again)) (mission-rows-used m) (mission-file (x .mission .again)))
     × (left ≡ Law.filled (x .network .again) t) × (mission-left ≡ Law.mission-filled m u)
 pair-read-again rndf mdf t u n m a b v w g f size mission-size reply left mission-left h =

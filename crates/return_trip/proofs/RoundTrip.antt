@@ -8,7 +8,7 @@ use lib.ListN.{length, take, replicate, length-append}
 use Rattle.terms.specs.Ascii.{Bytes}
 use Rattle.terms.specs.Words.{Each}
 use Rattle.line.specs.Content.{Field}
-use Rattle.law.specs.Network.{Network, Mission, Lane, Segment, Perimeter, Spot, Zone}
+use Rattle.law.specs.Network.{Network, Mission, Lane, Segment, Perimeter, Spot, Zone, present}
 use Rattle.law.specs.Tables.{Lent, MissionLent, gather, along, name-words, first-spot, spot-points, first-zone-point, zone-size, zone-rows-from, zone-rows, holding, filled}
 use Rattle.law.specs.Faults.{Sound}
 use Rattle.law.specs.Short.{SpellsRndf, SpellsMdf}
@@ -196,7 +196,7 @@ module _ (text text′ : Bytes) where
 record RndfWritten (text : Bytes) (t left : Lent) (c : Counts) (file : FileRow) (k : ℕ) (out : Bytes) : Type 0 where
   pub net : Network Field
   pub writing : Bytes
-  pub accepts : AcceptsRndf text t net
+  pub accepts : AcceptsRndf present text t net
   pub house : HouseRndf net writing
   pub size : length writing ≤ most
   pub first : take k out ≡ writing
@@ -216,7 +216,7 @@ abbrev long-in : WriteReply → ℕ
 long-in (Write.Written c file k) = k
 long-in (Write.Refused why) = 0
 
-rndf-written : (text : Bytes) (t left : Lent) (lent : ℕ) (c : Counts) (file : FileRow) (k : ℕ) (out : Bytes) → WritesRndf text t lent (Write.Written c file k) left out → RndfWritten text t left c file k out
+rndf-written : (text : Bytes) (t left : Lent) (lent : ℕ) (c : Counts) (file : FileRow) (k : ℕ) (out : Bytes) → WritesRndf present text t lent (Write.Written c file k) left out → RndfWritten text t left c file k out
 rndf-written text t left lent c file k out (W.refused why h e z) = absurd (wrote-or-not e)
 rndf-written text t left lent c file k out (W.too-long n writing c′ file′ l h s g f e p z) = absurd (wrote-or-not e)
 rndf-written text t left lent c file k out (W.written n writing c′ file′ h s g f e z) =
@@ -225,7 +225,7 @@ rndf-written text t left lent c file k out (W.written n writing c′ file′ h s
     record {
       net = n;
       writing = writing;
-      accepts = subst (AcceptsRndf text t) (one-spelled text (a .0) n (a .1 .spelled) s) (a .1);
+      accepts = subst (AcceptsRndf present text t) (one-spelled text (a .0) n (a .1 .spelled) s) (a .1);
       house = g;
       size = f .size;
       first = first-are lent writing out k z (ap long-in e);
@@ -238,8 +238,8 @@ record MdfWritten (rndf mdf : Bytes) (t left : Lent) (u mission-left : MissionLe
   pub net : Network Field
   pub mission : Mission Field
   pub writing : Bytes
-  pub accepts : AcceptsRndf rndf t net
-  pub takes : AcceptsMdf net mdf u mission
+  pub accepts : AcceptsRndf present rndf t net
+  pub takes : AcceptsMdf present net mdf u mission
   pub house : HouseMdf mission writing
   pub size : length writing ≤ most
   pub first : take k out ≡ writing
@@ -255,11 +255,11 @@ mdf-long-in (WriteMdf.Written c file d own k) = k
 mdf-long-in (WriteMdf.Refused why) = 0
 
 mdf-written : (rndf mdf : Bytes) (t left : Lent) (u mission-left : MissionLent) (lent : ℕ) (c : Counts) (file : FileRow) (d : MissionCounts) (own : MissionFileRow) (k : ℕ) (out : Bytes)
-    → WritesMdf rndf mdf t u lent (WriteMdf.Written c file d own k) left mission-left out → MdfWritten rndf mdf t left u mission-left c file d own k out
+    → WritesMdf present rndf mdf t u lent (WriteMdf.Written c file d own k) left mission-left out → MdfWritten rndf mdf t left u mission-left c file d own k out
 mdf-written rndf mdf t left u mission-left lent c file d own k out (W.refused why h e z) = absurd (mdf-wrote-or-not e)
 mdf-written rndf mdf t left u mission-left lent c file d own k out (W.too-long m writing c′ file′ d′ own′ l l′ h s g f e p q z) = absurd (mdf-wrote-or-not e)
 mdf-written rndf mdf t left u mission-left lent c file d own k out (W.written m writing c′ file′ d′ own′ h s g f e z) =
-    let h′ : ReadsPair rndf mdf t u (Pair.Accepted c file d own) left mission-left = subst (λ (r : WriteMdfReply). ReadsPair rndf mdf t u (written-as r (Pair.Accepted c′ file′ d′ own′)) left mission-left) (sym e) h in
+    let h′ : ReadsPair present rndf mdf t u (Pair.Accepted c file d own) left mission-left = subst (λ (r : WriteMdfReply). ReadsPair present rndf mdf t u (written-as r (Pair.Accepted c′ file′ d′ own′)) left mission-left) (sym e) h in
     let a = pair-accepted-spelled rndf mdf t u c file d own left mission-left h′ in
     let same = one-mission mdf (a .mission) m (a .mission-accepted .spelled) s in
     record {
@@ -267,7 +267,7 @@ mdf-written rndf mdf t left u mission-left lent c file d own k out (W.written m 
       mission = m;
       writing = writing;
       accepts = a .network-accepted;
-      takes = subst (AcceptsMdf (a .net) mdf u) same (a .mission-accepted);
+      takes = subst (AcceptsMdf present (a .net) mdf u) same (a .mission-accepted);
       house = g;
       size = f .size;
       first = first-are lent writing out k z (ap mdf-long-in e);
@@ -276,12 +276,12 @@ mdf-written rndf mdf t left u mission-left lent c file d own k out (W.written m 
 
 -- ## THE THEOREMS
 -- of an RNDF
-pub rndf-round-trip : (text : Bytes) (t left : Lent) (lent : ℕ) (c : Counts) (file : FileRow) (k : ℕ) (out : Bytes) → WritesRndf text t lent (Write.Written c file k) left out
-    → (reply : RndfReply) (left′ : Lent) → ReadsRndf (take k out) t reply left′ → RndfRoundTrip text (take k out) c file left reply left′
+pub rndf-round-trip : (text : Bytes) (t left : Lent) (lent : ℕ) (c : Counts) (file : FileRow) (k : ℕ) (out : Bytes) → WritesRndf present text t lent (Write.Written c file k) left out
+    → (reply : RndfReply) (left′ : Lent) → ReadsRndf present (take k out) t reply left′ → RndfRoundTrip text (take k out) c file left reply left′
 rndf-round-trip text t left lent c file k out w reply left′ h =
     let x = rndf-written text t left lent c file k out w in
     let n = x .net in
-    let r = rndf-read-again text t n (x .accepts) (x .writing) (x .house) (x .size) reply left′ (subst (λ (b : Bytes). ReadsRndf b t reply left′) (x .first) h) in
+    let r = rndf-read-again text t n (x .accepts) (x .writing) (x .house) (x .size) reply left′ (subst (λ (b : Bytes). ReadsRndf present b t reply left′) (x .first) h) in
     let y = r .0 in
     let n′ = y .again in
     let spelled′ = subst (SpellsRndf n′) (sym (x .first)) (y .accepts .spelled) in
@@ -295,15 +295,15 @@ rndf-round-trip text t left lent c file k out w reply left′ h =
 
 -- of a pair: what was written of the RNDF, with what was written of the MDF
 pub pair-round-trip : (rndf mdf : Bytes) (t left₁ left : Lent) (u mission-left : MissionLent) (lent₁ lent : ℕ) (c₁ : Counts) (file₁ : FileRow) (k₁ : ℕ) (out₁ : Bytes) (c : Counts) (file : FileRow) (d : MissionCounts) (own : MissionFileRow) (k : ℕ) (out : Bytes)
-    → WritesRndf rndf t lent₁ (Write.Written c₁ file₁ k₁) left₁ out₁ → WritesMdf rndf mdf t u lent (WriteMdf.Written c file d own k) left mission-left out
-    → (reply : PairReply) (left′ : Lent) (mission-left′ : MissionLent) → ReadsPair (take k₁ out₁) (take k out) t u reply left′ mission-left′ → PairRoundTrip rndf mdf (take k₁ out₁) (take k out) c file d own left mission-left reply left′ mission-left′
+    → WritesRndf present rndf t lent₁ (Write.Written c₁ file₁ k₁) left₁ out₁ → WritesMdf present rndf mdf t u lent (WriteMdf.Written c file d own k) left mission-left out
+    → (reply : PairReply) (left′ : Lent) (mission-left′ : MissionLent) → ReadsPair present (take k₁ out₁) (take k out) t u reply left′ mission-left′ → PairRoundTrip rndf mdf (take k₁ out₁) (take k out) c file d own left mission-left reply left′ mission-left′
 pair-round-trip rndf mdf t left₁ left u mission-left lent₁ lent c₁ file₁ k₁ out₁ c file d own k out w₁ w reply left′ mission-left′ h =
     let x₁ = rndf-written rndf t left₁ lent₁ c₁ file₁ k₁ out₁ w₁ in
     let x = mdf-written rndf mdf t left u mission-left lent c file d own k out w in
     let n = x .net in
     let m = x .mission in
     let house = subst (λ (y : Network Field). HouseRndf y (x₁ .writing)) (one-spelled rndf (x₁ .net) n (x₁ .accepts .spelled) (x .accepts .spelled)) (x₁ .house) in
-    let h′ = subst (λ (b : Bytes). ReadsPair b (x .writing) t u reply left′ mission-left′) (x₁ .first) (subst (λ (b : Bytes). ReadsPair (take k₁ out₁) b t u reply left′ mission-left′) (x .first) h) in
+    let h′ = subst (λ (b : Bytes). ReadsPair present b (x .writing) t u reply left′ mission-left′) (x₁ .first) (subst (λ (b : Bytes). ReadsPair present (take k₁ out₁) b t u reply left′ mission-left′) (x .first) h) in
     let r = pair-read-again rndf mdf t u n m (x .accepts) (x .takes) (x₁ .writing) (x .writing) house (x .house) (x₁ .size) (x .size) reply left′ mission-left′ h′ in
     let y = r .0 .network in
     let z = r .0 .mission in

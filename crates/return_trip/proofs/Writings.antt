@@ -6,6 +6,7 @@ use lib.Seq.{take-at}
 use Prim.Native.Nat.{_-_}
 use Rattle.terms.specs.Ascii.{Bytes}
 use Rattle.line.specs.Content.{Field}
+use Rattle.law.specs.Network.{present}
 use Rattle.grammar.specs.Network.{Network}
 use Rattle.grammar.specs.Mission.{Mission}
 use Rattle.grammar.specs.Names.{network-named}
@@ -91,10 +92,10 @@ wrote text t left lent c file k out (W.written n c′ file′ h s f e z) =
       first = first-are lent (house-rndf (x .net)) out k holds long;
     }
 
-pub rndf-written : (text : Bytes) (t left : Lent) (lent : ℕ) (c : Counts) (file : FileRow) (k : ℕ) (out : Bytes) → WritesRndf text t lent (Write.Written c file k) left out → RndfWritten text t lent c k out
+pub rndf-written : (text : Bytes) (t left : Lent) (lent : ℕ) (c : Counts) (file : FileRow) (k : ℕ) (out : Bytes) → WritesRndf present text t lent (Write.Written c file k) left out → RndfWritten text t lent c k out
 rndf-written text t left lent c file k out w = wrote text t left lent c file k out (rndf-writes-back text t lent (Write.Written c file k) left out w)
 
-module _ (text : Bytes) (t left : Lent) (lent : ℕ) (c : Counts) (file : FileRow) (k : ℕ) (out : Bytes) (w : WritesRndf text t lent (Write.Written c file k) left out) where
+module _ (text : Bytes) (t left : Lent) (lent : ℕ) (c : Counts) (file : FileRow) (k : ℕ) (out : Bytes) (w : WritesRndf present text t lent (Write.Written c file k) left out) where
   -- it is accepted again
   came-back : (t′ : Lent) → RoomFor c t′ → (x : RndfWritten text t lent c k out) × RndfReturns (x .taken .net) t′
   came-back t′ room =
@@ -103,13 +104,13 @@ module _ (text : Bytes) (t left : Lent) (lent : ℕ) (c : Counts) (file : FileRo
       (x, rndf-returns-in text t t′ (y .net) (y .accepts) (x .fits .size) (room-as t′ (rows-used (sizes (tables (y .net)))) (subst (λ (d : Counts). RoomFor d t′) (y .counted) room)))
 
   -- THE RETURN TRIP
-  pub rndf-comes-back : (t′ left′ : Lent) (reply : RndfReply) → RoomFor c t′ → ReadsRndf (take k out) t′ reply left′ → RndfReadBack text (take k out) c reply
+  pub rndf-comes-back : (t′ left′ : Lent) (reply : RndfReply) → RoomFor c t′ → ReadsRndf present (take k out) t′ reply left′ → RndfReadBack text (take k out) c reply
   rndf-comes-back t′ left′ reply room h =
       let b = came-back t′ room in
       let x = b .0 in
       let y = b .1 in
       let n′ = y .again in
-      let r′ = replies-so (house-rndf (x .taken .net)) t′ left′ n′ reply (y .accepts) (subst (λ (z : Bytes). ReadsRndf z t′ reply left′) (x .first) h) in
+      let r′ = replies-so (house-rndf (x .taken .net)) t′ left′ n′ reply (y .accepts) (subst (λ (z : Bytes). ReadsRndf present z t′ reply left′) (x .first) h) in
       record {
         file = Rows.network-file n′;
         replied = r′ ∙ ap (λ (z : F.Counts). Reply.Accepted (rows-used z) (Rows.network-file n′)) (sizes-alike bytes-of n′ (x .taken .net) (y .same)) ∙ ap (λ (z : Counts). Reply.Accepted z (Rows.network-file n′)) (sym (x .taken .counted));
@@ -117,7 +118,7 @@ module _ (text : Bytes) (t left : Lent) (lent : ℕ) (c : Counts) (file : FileRo
       }
 
   -- and what is written of it again, into any output that is long enough, are the same bytes
-  pub rndf-written-again : (t′ left′ : Lent) (lent′ : ℕ) (reply : WriteReply) (out′ : Bytes) → RoomFor c t′ → k ≤ lent′ → WritesRndf (take k out) t′ lent′ reply left′ out′
+  pub rndf-written-again : (t′ left′ : Lent) (lent′ : ℕ) (reply : WriteReply) (out′ : Bytes) → RoomFor c t′ → k ≤ lent′ → WritesRndf present (take k out) t′ lent′ reply left′ out′
       → ((row : FileRow) × (reply ≡ Write.Written c row k)) × (out′ ≡ filled lent′ (take k out))
   rndf-written-again t′ left′ lent′ reply out′ room long v =
       go (rndf-written text t left lent c file k out w) (rndf-writes-back (take k out) t′ lent′ reply left′ out′ v)
@@ -166,7 +167,7 @@ mdf-wrote rndf mdf t left u mission-left lent c file d row k out (W.written m c�
     }
 
 pub mdf-written : (rndf mdf : Bytes) (t left : Lent) (u mission-left : MissionLent) (lent : ℕ) (c : Counts) (file : FileRow) (d : MissionCounts) (row : MissionFileRow) (k : ℕ) (out : Bytes)
-    → WritesMdf rndf mdf t u lent (WriteMdf.Written c file d row k) left mission-left out → MdfWritten rndf mdf t u lent c d k out
+    → WritesMdf present rndf mdf t u lent (WriteMdf.Written c file d row k) left mission-left out → MdfWritten rndf mdf t u lent c d k out
 mdf-written rndf mdf t left u mission-left lent c file d row k out w = mdf-wrote rndf mdf t left u mission-left lent c file d row k out (mdf-writes-back rndf mdf t u lent (WriteMdf.Written c file d row k) left mission-left out w)
 
 -- an accepted MDF's house writing, for another network that is the same, in any tables with room
@@ -181,16 +182,16 @@ mdf-returns-in mdf u u′ n n′ m a e size room =
     }
 
 module _ (rndf mdf : Bytes) (t left : Lent) (u mission-left : MissionLent) (lent : ℕ) (c : Counts) (file : FileRow) (d : MissionCounts) (row : MissionFileRow) (k : ℕ) (out : Bytes)
-    (w : WritesMdf rndf mdf t u lent (WriteMdf.Written c file d row k) left mission-left out) where
+    (w : WritesMdf present rndf mdf t u lent (WriteMdf.Written c file d row k) left mission-left out) where
   -- with any RNDF that is accepted as the same network
   came-back-with : (x : MdfWritten rndf mdf t u lent c d k out) (rndf′ : Bytes) (t′ left′ : Lent) (u′ mission-left′ : MissionLent) (n′ : Network Field) (reply : PairReply) → AcceptsRndf rndf′ t′ n′ → SameNetwork n′ (x .taken .net) → MissionRoomFor d u′
-      → ReadsPair rndf′ (take k out) t′ u′ reply left′ mission-left′ → PairReadBack rndf mdf rndf′ (take k out) c d reply
+      → ReadsPair present rndf′ (take k out) t′ u′ reply left′ mission-left′ → PairReadBack rndf mdf rndf′ (take k out) c d reply
   came-back-with x rndf′ t′ left′ u′ mission-left′ n′ reply a e room h =
       let n = x .taken .net in
       let m = x .taken .mission in
       let y = mdf-returns-in mdf u u′ n n′ m (x .taken .takes) e (x .fits .size) (mission-room-as u′ (M.rows-used m) (subst (λ (z : MissionCounts). MissionRoomFor z u′) (x .taken .mission-counted) room)) in
       let m′ = y .again in
-      let r′ = pair-replies-so rndf′ (house-mdf m) t′ left′ u′ mission-left′ n′ m′ reply a (y .accepts) (subst (λ (z : Bytes). ReadsPair rndf′ z t′ u′ reply left′ mission-left′) (x .first) h) in
+      let r′ = pair-replies-so rndf′ (house-mdf m) t′ left′ u′ mission-left′ n′ m′ reply a (y .accepts) (subst (λ (z : Bytes). ReadsPair present rndf′ z t′ u′ reply left′ mission-left′) (x .first) h) in
       let one = ap rows-used (sizes-alike bytes-of n′ n e) ∙ sym (x .taken .counted) in
       let two = ap (λ (z : F.MissionCounts). counts-as z) (mission-sizes-alike bytes-of m′ m (y .same)) ∙ sym (x .taken .mission-counted) in
       record {
@@ -202,15 +203,15 @@ module _ (rndf mdf : Bytes) (t left : Lent) (u mission-left : MissionLent) (lent
       }
 
   -- THE RETURN TRIP: with the RNDF that was read then
-  pub mdf-comes-back : (t′ left′ : Lent) (u′ mission-left′ : MissionLent) (reply : PairReply) → RoomFor c t′ → MissionRoomFor d u′ → ReadsPair rndf (take k out) t′ u′ reply left′ mission-left′ → PairReadBack rndf mdf rndf (take k out) c d reply
+  pub mdf-comes-back : (t′ left′ : Lent) (u′ mission-left′ : MissionLent) (reply : PairReply) → RoomFor c t′ → MissionRoomFor d u′ → ReadsPair present rndf (take k out) t′ u′ reply left′ mission-left′ → PairReadBack rndf mdf rndf (take k out) c d reply
   mdf-comes-back t′ left′ u′ mission-left′ reply room mission-room h =
       let x = mdf-written rndf mdf t left u mission-left lent c file d row k out w in
       let a = x .taken .accepts in
       came-back-with x rndf t′ left′ u′ mission-left′ (x .taken .net) reply (record { size = a .size; spelled = a .spelled; room = room-as t′ (rows-used (sizes (tables (x .taken .net)))) (subst (λ (z : Counts). RoomFor z t′) (x .taken .counted) room); sound = a .sound }) refl mission-room h
 
   -- with what was written of that RNDF
-  pub pair-comes-back : (s held : Lent) (room-lent : ℕ) (c₁ : Counts) (file₁ : FileRow) (k₁ : ℕ) (out₁ : Bytes) → WritesRndf rndf s room-lent (Write.Written c₁ file₁ k₁) held out₁
-      → (t′ left′ : Lent) (u′ mission-left′ : MissionLent) (reply : PairReply) → RoomFor c t′ → MissionRoomFor d u′ → ReadsPair (take k₁ out₁) (take k out) t′ u′ reply left′ mission-left′ → PairReadBack rndf mdf (take k₁ out₁) (take k out) c d reply
+  pub pair-comes-back : (s held : Lent) (room-lent : ℕ) (c₁ : Counts) (file₁ : FileRow) (k₁ : ℕ) (out₁ : Bytes) → WritesRndf present rndf s room-lent (Write.Written c₁ file₁ k₁) held out₁
+      → (t′ left′ : Lent) (u′ mission-left′ : MissionLent) (reply : PairReply) → RoomFor c t′ → MissionRoomFor d u′ → ReadsPair present (take k₁ out₁) (take k out) t′ u′ reply left′ mission-left′ → PairReadBack rndf mdf (take k₁ out₁) (take k out) c d reply
   pair-comes-back s held room-lent c₁ file₁ k₁ out₁ v t′ left′ u′ mission-left′ reply room mission-room h =
       let x = mdf-written rndf mdf t left u mission-left lent c file d row k out w in
       let y = rndf-written rndf s held room-lent c₁ file₁ k₁ out₁ v in
@@ -222,7 +223,7 @@ module _ (rndf mdf : Bytes) (t left : Lent) (u mission-left : MissionLent) (lent
       came-back-with x (take k₁ out₁) t′ left′ u′ mission-left′ (r′ .again) reply (subst (λ (z : Bytes). AcceptsRndf z t′ (r′ .again)) (sym (b .0 .first)) (r′ .accepts)) same mission-room h
 
   -- what is written of it again, into any output that is long enough, are the same bytes
-  pub mdf-written-again : (t′ left′ : Lent) (u′ mission-left′ : MissionLent) (lent′ : ℕ) (reply : WriteMdfReply) (out′ : Bytes) → RoomFor c t′ → MissionRoomFor d u′ → k ≤ lent′ → WritesMdf rndf (take k out) t′ u′ lent′ reply left′ mission-left′ out′
+  pub mdf-written-again : (t′ left′ : Lent) (u′ mission-left′ : MissionLent) (lent′ : ℕ) (reply : WriteMdfReply) (out′ : Bytes) → RoomFor c t′ → MissionRoomFor d u′ → k ≤ lent′ → WritesMdf present rndf (take k out) t′ u′ lent′ reply left′ mission-left′ out′
       → ((file′ : FileRow) × (row′ : MissionFileRow) × (reply ≡ WriteMdf.Written c file′ d row′ k)) × (out′ ≡ filled lent′ (take k out))
   mdf-written-again t′ left′ u′ mission-left′ lent′ reply out′ room mission-room long v = go (mdf-written rndf mdf t left u mission-left lent c file d row k out w) (mdf-writes-back rndf (take k out) t′ u′ lent′ reply left′ mission-left′ out′ v)
     where

@@ -15,9 +15,12 @@ separates b = eqb b (code "\t")
 abbrev pub fieldByte : ℕ → Bool
 fieldByte b = within 33 126 b && (not (eqb b (code "\\")) && not (eqb b (code "*")))
 
--- 01: "Outside comments the bytes are 33 to 126 and tab, but no backslash and no `*`."
+-- 01: "Outside comments the bytes are 33 to 126 and tab, but no backslash and no `*`.": those of fields, and those that separate them
+abbrev pub allowed-outside : (separates : ℕ → Bool) → ℕ → Bool
+allowed-outside separates b = separates b || fieldByte b
+
 abbrev pub outside : ℕ → Bool
-outside b = separates b || fieldByte b
+outside = allowed-outside separates
 
 -- 01: "Inside, 32 to 126 and tab."
 abbrev pub inside : ℕ → Bool

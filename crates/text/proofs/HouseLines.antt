@@ -11,7 +11,7 @@ use Rattle.terms.specs.Ascii.{Bytes, ascii}
 use Rattle.terms.specs.Words.{Each, Between}
 use Rattle.scan.specs.Allowed.{digit, separates}
 use Rattle.scan.proofs.Reach.{begins-some}
-use Rattle.line.specs.Content.{Field, at, IsField, parted, SpellsFields, nothing, separator, field, Content}
+use Rattle.line.specs.Content.{Field, at, IsField, parted, parted-by, SpellsFields, nothing, separator, field, Content}
 use Rattle.line.proofs.Contents.{content-ended}
 use Rattle.number.specs.House.{houseInteger, housePair, houseTriple}
 use Rattle.number.proofs.House.{numbers-field, house-integer-spells, house-integer-short, house-integer-bytes, house-integer-first, house-pair-spells, house-pair-short, house-pair-bytes, house-pair-first, house-triple-spells, house-triple-short, house-triple-bytes, house-triple-first}
@@ -102,7 +102,7 @@ located a [] = []
 located a (f ∷ fs) = at a f ∷ located (suc (a + length f)) fs
 
 pub tabbed-fields : (a : ℕ) (fs : List Bytes) → Each IsField fs → SpellsFields a (tabbed fs) (located a fs)
-unfolding tabbed parted ascii separates
+unfolding tabbed parted-by ascii separates
 tabbed-fields a [] h = nothing
 tabbed-fields a (f ∷ []) h = subst (λ (l : Bytes). SpellsFields a l (at a f ∷ [])) (append-nil f) (field (h .0) refl nothing)
 tabbed-fields a (f ∷ g ∷ fs) h = field (h .0) refl (separator refl (tabbed-fields (suc (a + length f)) (g ∷ fs) (h .1)))

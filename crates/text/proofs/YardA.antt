@@ -57,5 +57,5 @@ pub cases : Holds (
     (yard "num_waypoints\t2\t/*/\n" "", some (7, 3)) ∷
     (yard "num_waypoints\t2 /**/\n" "", some (7, 4)) ∷
     (yard "\t/* x * */\t\r\n\nnum_waypoints\t2/**/\nleft_boundary\tsolid_white\n" "end_file\r\n\t/* */", none) ∷ [])
-unfolding ascii Answers.readText Answers.walk Lines.linesOf Judge.judge Lines.dropCr Forms.formOf Forms.closes Forms.noteOf Forms.outerOf Forms.fieldsAt Content.parted Allowed.separates Allowed.all Reach.two Reach.sameBytes Reach.begins Reach.first Reach.upTo Reach.stopsBy Judge.tell Judge.read Judge.numbered Number.integerOf Number.plainOf Number.plain Number.worth Number.numberOf Number.pairOf Number.tripleOf Coordinate.coordinateOf Coordinate.millionthsOf Word.boundary-number Word.indexOf Keywords.rndf-keywords Keywords.boundary-words Machine.step Machine.guard Stands.stands
+unfolding ascii Answers.readText Answers.walk Lines.linesOf Judge.judge Lines.dropCr Forms.formOf Forms.closes Forms.noteOf Forms.outerOf Forms.fieldsAt Content.parted-by Allowed.separates Allowed.all Reach.two Reach.sameBytes Reach.begins Reach.first Reach.upTo Reach.stopsBy Judge.tell Judge.read Judge.numbered Number.integerOf Number.plainOf Number.plain Number.worth Number.numberOf Number.pairOf Number.tripleOf Coordinate.coordinateOf Coordinate.millionthsOf Word.boundary-number Word.indexOf Keywords.rndf-keywords Keywords.boundary-words Machine.step Machine.guard Stands.stands
 cases = (refl, (refl, (refl, (refl, (refl, (refl, (refl, (refl, (refl, (refl, (refl, tt)))))))))))

@@ -4,6 +4,7 @@ use Prim.Native.Nat.{ℕ}
 use native.Mathlib.Omega.{arith}
 use Rattle.terms.specs.Ascii.{Bytes}
 use Rattle.line.specs.Content.{Field}
+use Rattle.law.specs.Network.{present}
 use Rattle.grammar.specs.Network.{Network}
 use Rattle.grammar.specs.Mission.{Mission}
 use Rattle.grammar.specs.Tables.{tables, mission-tables}
@@ -59,24 +60,24 @@ pub record Taken (text : Bytes) (t : Lent) (c : Counts) : Type 0 where
   pub counted : c ≡ rows-used (sizes (tables net))
 
 module _ (text : Bytes) (t left : Lent) where
-  pub accepted-spells : (c : Counts) (file : FileRow) → ReadsRndf text t (Reply.Accepted c file) left → (n : Network Field) × SpellsRndf n text
+  pub accepted-spells : (c : Counts) (file : FileRow) → ReadsRndf present text t (Reply.Accepted c file) left → (n : Network Field) × SpellsRndf n text
   accepted-spells c file h = go (rndf-reads-back text t (Reply.Accepted c file) left h)
     where
       go : R.ReadsRndf text t (Reply.Accepted c file) left → (n : Network Field) × SpellsRndf n text
       go (R.accepted n a e k) = (n, a .spelled)
       go (R.refused line number a e k) = absurd (never-both e)
 
-  pub taken : (c : Counts) (file : FileRow) → ReadsRndf text t (Reply.Accepted c file) left → Taken text t c
+  pub taken : (c : Counts) (file : FileRow) → ReadsRndf present text t (Reply.Accepted c file) left → Taken text t c
   taken c file h = go (rndf-reads-back text t (Reply.Accepted c file) left h)
     where
       go : R.ReadsRndf text t (Reply.Accepted c file) left → Taken text t c
       go (R.accepted n a e k) = record { net = n; accepts = a; counted = ap (counts-of c) e }
       go (R.refused line number a e k) = absurd (never-both e)
 
-  pub replies-so : (n : Network Field) (reply : RndfReply) → AcceptsRndf text t n → ReadsRndf text t reply left → reply ≡ Reply.Accepted (rows-used (sizes (tables n))) (network-file n)
+  pub replies-so : (n : Network Field) (reply : RndfReply) → AcceptsRndf text t n → ReadsRndf present text t reply left → reply ≡ Reply.Accepted (rows-used (sizes (tables n))) (network-file n)
   replies-so n reply a h = rndf-settled text t reply (Reply.Accepted (rows-used (sizes (tables n))) (network-file n)) left (network-filled n t) h (rndf-reads-to text t (Reply.Accepted (rows-used (sizes (tables n))) (network-file n)) (network-filled n t) (R.accepted n a refl refl)) .0
 
-  pub refused-zero : (why : Refusal) → ReadsRndf text t (Reply.Refused why) left → left ≡ zeros t
+  pub refused-zero : (why : Refusal) → ReadsRndf present text t (Reply.Refused why) left → left ≡ zeros t
   refused-zero why h = go (rndf-reads-back text t (Reply.Refused why) left h)
     where
       go : R.ReadsRndf text t (Reply.Refused why) left → left ≡ zeros t
@@ -93,7 +94,7 @@ pub record PairTaken (rndf mdf : Bytes) (t : Lent) (u : MissionLent) (c : Counts
   pub mission-counted : d ≡ M.rows-used mission
 
 module _ (rndf mdf : Bytes) (t left : Lent) (u mission-left : MissionLent) where
-  pub pair-spells : (c : Counts) (file : FileRow) (d : MissionCounts) (row : MissionFileRow) → ReadsPair rndf mdf t u (Pair.Accepted c file d row) left mission-left → (m : Mission Field) × SpellsMdf m mdf
+  pub pair-spells : (c : Counts) (file : FileRow) (d : MissionCounts) (row : MissionFileRow) → ReadsPair present rndf mdf t u (Pair.Accepted c file d row) left mission-left → (m : Mission Field) × SpellsMdf m mdf
   pair-spells c file d row h = go (pair-reads-back rndf mdf t u (Pair.Accepted c file d row) left mission-left h)
     where
       go : R.ReadsPair rndf mdf t u (Pair.Accepted c file d row) left mission-left → (m : Mission Field) × SpellsMdf m mdf
@@ -101,7 +102,7 @@ module _ (rndf mdf : Bytes) (t left : Lent) (u mission-left : MissionLent) where
       go (R.rndf-refused line number a e k j) = absurd (pair-never-both e)
       go (R.mdf-refused n line number a b e k j) = absurd (pair-never-both e)
 
-  pub pair-taken : (c : Counts) (file : FileRow) (d : MissionCounts) (row : MissionFileRow) → ReadsPair rndf mdf t u (Pair.Accepted c file d row) left mission-left → PairTaken rndf mdf t u c d
+  pub pair-taken : (c : Counts) (file : FileRow) (d : MissionCounts) (row : MissionFileRow) → ReadsPair present rndf mdf t u (Pair.Accepted c file d row) left mission-left → PairTaken rndf mdf t u c d
   pair-taken c file d row h = go (pair-reads-back rndf mdf t u (Pair.Accepted c file d row) left mission-left h)
     where
       go : R.ReadsPair rndf mdf t u (Pair.Accepted c file d row) left mission-left → PairTaken rndf mdf t u c d
@@ -109,13 +110,13 @@ module _ (rndf mdf : Bytes) (t left : Lent) (u mission-left : MissionLent) where
       go (R.rndf-refused line number a e k j) = absurd (pair-never-both e)
       go (R.mdf-refused n line number a b e k j) = absurd (pair-never-both e)
 
-  pub pair-replies-so : (n : Network Field) (m : Mission Field) (reply : PairReply) → AcceptsRndf rndf t n → AcceptsMdf n mdf u m → ReadsPair rndf mdf t u reply left mission-left
+  pub pair-replies-so : (n : Network Field) (m : Mission Field) (reply : PairReply) → AcceptsRndf rndf t n → AcceptsMdf n mdf u m → ReadsPair present rndf mdf t u reply left mission-left
       → reply ≡ Pair.Accepted (rows-used (sizes (tables n))) (network-file n) (M.rows-used m) (mission-file m)
   pair-replies-so n m reply a b h =
       pair-settled rndf mdf t u reply (Pair.Accepted (rows-used (sizes (tables n))) (network-file n) (M.rows-used m) (mission-file m)) left (network-filled n t) mission-left (mission-filled (mission-tables m) u) h
       (pair-reads-to rndf mdf t u (Pair.Accepted (rows-used (sizes (tables n))) (network-file n) (M.rows-used m) (mission-file m)) (network-filled n t) (mission-filled (mission-tables m) u) (R.accepted n m a b refl refl refl)) .0
 
-  pub pair-refused-zero : (why : Refusal) → ReadsPair rndf mdf t u (Pair.Refused why) left mission-left → (left ≡ zeros t) × (mission-left ≡ mission-zeros u)
+  pub pair-refused-zero : (why : Refusal) → ReadsPair present rndf mdf t u (Pair.Refused why) left mission-left → (left ≡ zeros t) × (mission-left ≡ mission-zeros u)
   pair-refused-zero why h = go (pair-reads-back rndf mdf t u (Pair.Refused why) left mission-left h)
     where
       go : R.ReadsPair rndf mdf t u (Pair.Refused why) left mission-left → (left ≡ zeros t) × (mission-left ≡ mission-zeros u)

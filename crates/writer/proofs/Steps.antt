@@ -4,6 +4,7 @@ use Prim.Native.Nat.{ℕ, _≤_}
 use native.Mathlib.Omega.{arith}
 use lib.ListN.{length}
 use Rattle.terms.specs.Ascii.{Bytes}
+use Rattle.law.specs.Network.{present}
 use Rattle.rows.specs.declared.FileRow.{FileRow}
 use Rattle.rows.specs.declared.MissionFileRow.{MissionFileRow}
 use Rattle.table_words.specs.Words.{Lent, MissionLent, zeros, mission-zeros}
@@ -39,37 +40,37 @@ pub mdf-wrote-or-not : {c : Counts} {file : FileRow} {d : MissionCounts} {row : 
 mdf-wrote-or-not e = let z : _≡_ {A = ℕ} 0 1 = cc in omega arith
 
 -- ## An RNDF
-module _ (text : Bytes) (t left : Lent) (read : RndfReply) (lent : ℕ) (out : Bytes) (h : ReadsRndf text t read left) where
+module _ (text : Bytes) (t left : Lent) (read : RndfReply) (lent : ℕ) (out : Bytes) (h : ReadsRndf present text t read left) where
   abbrev so : WriteReply → Lent → Type 0
-  so answer held = WritesRndf text t lent answer held out
+  so answer held = WritesRndf present text t lent answer held out
 
   -- written: the tables hold what the reader left
   pub written-so : (c : Counts) (file : FileRow) (k : ℕ) → Answers read lent (arrangedText text) out (Write.Written c file k) → so (Write.Written c file k) left
   written-so c file k (A.as-read why e a o) = absurd (wrote-or-not a)
   written-so c file k (A.over c′ file′ e unfit a o) = absurd (wrote-or-not a)
   written-so c file k (A.put c′ file′ e fits a o) =
-      let x = accepted-spells text t left c′ file′ (subst (λ (y : RndfReply). ReadsRndf text t y left) e h) in
+      let x = accepted-spells text t left c′ file′ (subst (λ (y : RndfReply). ReadsRndf present text t y left) e h) in
       let w = arranged-rndf (x .0) text (x .1) in
-      rndf-writes-to text t lent (Write.Written c file k) left out (W.written (x .0) c′ file′ (subst (λ (y : RndfReply). ReadsRndf text t y left) e h) (x .1) (subst (Fits lent) w fits) (a ∙ ap (λ (y : Bytes). Write.Written c′ file′ (length y)) w) (o ∙ ap (O.filled lent) w))
+      rndf-writes-to text t lent (Write.Written c file k) left out (W.written (x .0) c′ file′ (subst (λ (y : RndfReply). ReadsRndf present text t y left) e h) (x .1) (subst (Fits lent) w fits) (a ∙ ap (λ (y : Bytes). Write.Written c′ file′ (length y)) w) (o ∙ ap (O.filled lent) w))
 
   -- refused: the tables that the reader left are cleared
   pub refused-so : (why : Refusal) (cleared : Lent) → Answers read lent (arrangedText text) out (Write.Refused why) → cleared ≡ zeros left → zeros left ≡ zeros t → so (Write.Refused why) cleared
   refused-so why cleared (A.as-read why′ e a o) z k =
-      let y = subst (λ (y : RndfReply). ReadsRndf text t y left) e h in
-      rndf-writes-to text t lent (Write.Refused why) cleared out (W.refused why′ (subst (λ (l : Lent). ReadsRndf text t (Reply.Refused why′) l) (refused-zero text t left why′ y ∙ sym (z ∙ k)) y) a o)
+      let y = subst (λ (y : RndfReply). ReadsRndf present text t y left) e h in
+      rndf-writes-to text t lent (Write.Refused why) cleared out (W.refused why′ (subst (λ (l : Lent). ReadsRndf present text t (Reply.Refused why′) l) (refused-zero text t left why′ y ∙ sym (z ∙ k)) y) a o)
   refused-so why cleared (A.over c file e unfit a o) z k =
-      let y = subst (λ (y : RndfReply). ReadsRndf text t y left) e h in
+      let y = subst (λ (y : RndfReply). ReadsRndf present text t y left) e h in
       let x = accepted-spells text t left c file y in
       let w = arranged-rndf (x .0) text (x .1) in
       rndf-writes-to text t lent (Write.Refused why) cleared out (W.too-long (x .0) c file left y (x .1) (λ f. unfit (subst (Fits lent) (sym w) f)) a (z ∙ k) o)
   refused-so why cleared (A.put c file e fits a o) z k = absurd (wrote-or-not (sym a))
 
 -- ## The MDF of a pair
-module _ (rndf mdf : Bytes) (t left : Lent) (u mission-left : MissionLent) (read : PairReply) (lent : ℕ) (out : Bytes) (h : ReadsPair rndf mdf t u read left mission-left) where
-  pair-told : (r : PairReply) → read ≡ r → ReadsPair rndf mdf t u r left mission-left
-  pair-told r e = subst (λ (y : PairReply). ReadsPair rndf mdf t u y left mission-left) e h
+module _ (rndf mdf : Bytes) (t left : Lent) (u mission-left : MissionLent) (read : PairReply) (lent : ℕ) (out : Bytes) (h : ReadsPair present rndf mdf t u read left mission-left) where
+  pair-told : (r : PairReply) → read ≡ r → ReadsPair present rndf mdf t u r left mission-left
+  pair-told r e = subst (λ (y : PairReply). ReadsPair present rndf mdf t u y left mission-left) e h
 
-  pub mdf-written-so : (c : Counts) (file : FileRow) (d : MissionCounts) (row : MissionFileRow) (k : ℕ) → AnswersMdf read lent (arrangedText mdf) out (WriteMdf.Written c file d row k) → WritesMdf rndf mdf t u lent (WriteMdf.Written c file d row k) left mission-left out
+  pub mdf-written-so : (c : Counts) (file : FileRow) (d : MissionCounts) (row : MissionFileRow) (k : ℕ) → AnswersMdf read lent (arrangedText mdf) out (WriteMdf.Written c file d row k) → WritesMdf present rndf mdf t u lent (WriteMdf.Written c file d row k) left mission-left out
   mdf-written-so c file d row k (A.as-read why e a o) = absurd (mdf-wrote-or-not a)
   mdf-written-so c file d row k (A.over c′ file′ d′ row′ e unfit a o) = absurd (mdf-wrote-or-not a)
   mdf-written-so c file d row k (A.put c′ file′ d′ row′ e fits a o) =
@@ -79,12 +80,12 @@ module _ (rndf mdf : Bytes) (t left : Lent) (u mission-left : MissionLent) (read
       mdf-writes-to rndf mdf t u lent (WriteMdf.Written c file d row k) left mission-left out (W.written (x .0) c′ file′ d′ row′ y (x .1) (subst (Fits lent) w fits) (a ∙ ap (λ (y : Bytes). WriteMdf.Written c′ file′ d′ row′ (length y)) w) (o ∙ ap (O.filled lent) w))
 
   pub mdf-refused-so : (why : Refusal) (cleared : Lent) (mission-cleared : MissionLent) → AnswersMdf read lent (arrangedText mdf) out (WriteMdf.Refused why) → cleared ≡ zeros left → zeros left ≡ zeros t
-      → mission-cleared ≡ mission-zeros mission-left → mission-zeros mission-left ≡ mission-zeros u → WritesMdf rndf mdf t u lent (WriteMdf.Refused why) cleared mission-cleared out
+      → mission-cleared ≡ mission-zeros mission-left → mission-zeros mission-left ≡ mission-zeros u → WritesMdf present rndf mdf t u lent (WriteMdf.Refused why) cleared mission-cleared out
   mdf-refused-so why cleared mission-cleared (A.as-read why′ e a o) z k y j =
       let p = pair-told (Pair.Refused why′) e in
       let q = pair-refused-zero rndf mdf t left u mission-left why′ p in
-      let one = subst (λ (l : Lent). ReadsPair rndf mdf t u (Pair.Refused why′) l mission-left) (q .0 ∙ sym (z ∙ k)) p in
-      mdf-writes-to rndf mdf t u lent (WriteMdf.Refused why) cleared mission-cleared out (W.refused why′ (subst (λ (l : MissionLent). ReadsPair rndf mdf t u (Pair.Refused why′) cleared l) (q .1 ∙ sym (y ∙ j)) one) a o)
+      let one = subst (λ (l : Lent). ReadsPair present rndf mdf t u (Pair.Refused why′) l mission-left) (q .0 ∙ sym (z ∙ k)) p in
+      mdf-writes-to rndf mdf t u lent (WriteMdf.Refused why) cleared mission-cleared out (W.refused why′ (subst (λ (l : MissionLent). ReadsPair present rndf mdf t u (Pair.Refused why′) cleared l) (q .1 ∙ sym (y ∙ j)) one) a o)
   mdf-refused-so why cleared mission-cleared (A.over c file d row e unfit a o) z k y j =
       let p = pair-told (Pair.Accepted c file d row) e in
       let x = pair-spells rndf mdf t left u mission-left c file d row p in

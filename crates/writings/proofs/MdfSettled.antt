@@ -4,6 +4,7 @@ use mathlib.Core.Logic.{_⊎_, inl, inr}
 use Prim.Native.Nat.{ℕ}
 use lib.ListN.{length}
 use Rattle.terms.specs.Ascii.{Bytes}
+use Rattle.law.specs.Network.{present}
 use Rattle.law.specs.Tables.{Lent, MissionLent, mission-zeros}
 use Rattle.law.specs.Tables as Tables
 use Rattle.output.specs.Output.{zeros, Fits, filled}
@@ -33,7 +34,7 @@ module _ (rndf mdf : Bytes) (t : Lent) (u : MissionLent) (lent : ℕ) where
   fits-one x y = subst (Fits lent) (mdf-writing-one mdf x y)
 
   -- no second reply, and no second memory
-  pub mdf-write-settled : (r r′ : WriteMdfReply) (l l′ : Lent) (k k′ : MissionLent) (o o′ : Bytes) → WritesMdf rndf mdf t u lent r l k o → WritesMdf rndf mdf t u lent r′ l′ k′ o′ → (r ≡ r′) × (l ≡ l′) × (k ≡ k′) × (o ≡ o′)
+  pub mdf-write-settled : (r r′ : WriteMdfReply) (l l′ : Lent) (k k′ : MissionLent) (o o′ : Bytes) → WritesMdf present rndf mdf t u lent r l k o → WritesMdf present rndf mdf t u lent r′ l′ k′ o′ → (r ≡ r′) × (l ≡ l′) × (k ≡ k′) × (o ≡ o′)
   mdf-write-settled r r′ l l′ k k′ o o′ (W.refused why h e z) (W.refused why′ h′ e′ z′) =
       let s = pair-settled rndf mdf t u (Pair.Refused why) (Pair.Refused why′) l l′ k k′ h h′ in
       (e ∙ ap (reply-of 0) (s .0) ∙ sym e′, s .1, s .2, z ∙ sym z′)
@@ -55,13 +56,13 @@ module _ (rndf mdf : Bytes) (t : Lent) (u : MissionLent) (lent : ℕ) where
     pub left : Lent
     pub mission-left : MissionLent
     pub out : Bytes
-    pub writes : WritesMdf rndf mdf t u lent reply left mission-left out
+    pub writes : WritesMdf present rndf mdf t u lent reply left mission-left out
 
-  by-room : (x : MdfWriting mdf) (c : Counts) (file : FileRow) (d : MissionCounts) (row : MissionFileRow) (left : Lent) (mission-left : MissionLent) → ReadsPair rndf mdf t u (Pair.Accepted c file d row) left mission-left → Fits lent (x .writing) ⊎ (Fits lent (x .writing) → ⊥) → MdfSome
+  by-room : (x : MdfWriting mdf) (c : Counts) (file : FileRow) (d : MissionCounts) (row : MissionFileRow) (left : Lent) (mission-left : MissionLent) → ReadsPair present rndf mdf t u (Pair.Accepted c file d row) left mission-left → Fits lent (x .writing) ⊎ (Fits lent (x .writing) → ⊥) → MdfSome
   by-room x c file d row left mission-left h (inl f) = record { reply = Write.Written c file d row (length (x .writing)); left = left; mission-left = mission-left; out = filled lent (x .writing); writes = W.written (x .mission) (x .writing) c file d row h (x .spelled) (x .house) f refl refl }
   by-room x c file d row left mission-left h (inr f) = record { reply = Write.Refused (refusal 2 0 19); left = Tables.zeros t; mission-left = mission-zeros u; out = zeros lent; writes = W.too-long (x .mission) (x .writing) c file d row left mission-left h (x .spelled) (x .house) f refl refl refl refl }
 
-  by-reply : (r : PairReply) (left : Lent) (mission-left : MissionLent) → ReadsPair rndf mdf t u r left mission-left → MdfSome
+  by-reply : (r : PairReply) (left : Lent) (mission-left : MissionLent) → ReadsPair present rndf mdf t u r left mission-left → MdfSome
   by-reply (Pair.Accepted c file d row) left mission-left h = let x = pair-written rndf mdf t left u mission-left c file d row h in by-room x c file d row left mission-left h (fits-or-not lent (x .writing))
   by-reply (Pair.Refused why) left mission-left h = record { reply = Write.Refused why; left = left; mission-left = mission-left; out = zeros lent; writes = W.refused why h refl refl }
 

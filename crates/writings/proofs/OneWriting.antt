@@ -4,7 +4,7 @@ use mathlib.Core.Logic.{_⊎_, inl, inr}
 use Prim.Native.Nat.{ℕ}
 use Rattle.terms.specs.Ascii.{Bytes}
 use Rattle.line.specs.Content.{Field}
-use Rattle.law.specs.Network.{Network, Mission, AnyOrder, SpellsNetwork, SpellsMission, SpellsText}
+use Rattle.law.specs.Network.{Network, Mission, SpellsNetwork, SpellsMission, SpellsText, present}
 use Rattle.law.specs.Tables.{Lent, MissionLent}
 use Rattle.grammar.proofs.Written.{network-good, mission-good}
 use Rattle.text.proofs.Theorems.{one-rndf, one-mdf}
@@ -30,13 +30,13 @@ use Rattle.replies.proofs.Said.{accepted-filled, pair-accepted-filled}
 pub record RndfWriting (text : Bytes) : Type 0 where
   pub net : Network Field
   pub writing : Bytes
-  pub spelled : SpellsText (SpellsNetwork AnyOrder) net text
+  pub spelled : SpellsText present SpellsNetwork net text
   pub house : HouseRndf net writing
 
 pub record MdfWriting (mdf : Bytes) : Type 0 where
   pub mission : Mission Field
   pub writing : Bytes
-  pub spelled : SpellsText (SpellsMission AnyOrder) mission mdf
+  pub spelled : SpellsText present SpellsMission mission mdf
   pub house : HouseMdf mission writing
 
 pub rndf-writing-one : (text : Bytes) (x y : RndfWriting text) → x .writing ≡ y .writing
@@ -45,10 +45,10 @@ rndf-writing-one text x y = house-rndf-only (x .net) (x .writing) (x .house) ∙
 pub mdf-writing-one : (mdf : Bytes) (x y : MdfWriting mdf) → x .writing ≡ y .writing
 mdf-writing-one mdf x y = house-mdf-only (x .mission) (x .writing) (x .house) ∙ ap house-mdf (one-mdf (x .mission) (y .mission) mdf (mdf-back (x .mission) mdf (x .spelled)) (mdf-back (y .mission) mdf (y .spelled))) ∙ sym (house-mdf-only (y .mission) (y .writing) (y .house))
 
-rndf-written : (n : Network Field) (text : Bytes) → SpellsText (SpellsNetwork AnyOrder) n text → RndfWriting text
+rndf-written : (n : Network Field) (text : Bytes) → SpellsText present SpellsNetwork n text → RndfWriting text
 rndf-written n text s = let b = rndf-back n text s in record { net = n; writing = house-rndf n; spelled = s; house = house-rndf-is n (network-good n (b .said) (b .net)) }
 
-mdf-written : (m : Mission Field) (mdf : Bytes) → SpellsText (SpellsMission AnyOrder) m mdf → MdfWriting mdf
+mdf-written : (m : Mission Field) (mdf : Bytes) → SpellsText present SpellsMission m mdf → MdfWriting mdf
 mdf-written m mdf s = let b = mdf-back m mdf s in record { mission = m; writing = house-mdf m; spelled = s; house = house-mdf-is m (mission-good m (b .said) (b .net)) }
 
 pub fits-or-not : (lent : ℕ) (x : Bytes) → Fits lent x ⊎ (Fits lent x → ⊥)
@@ -59,8 +59,8 @@ fits-or-not lent x = go (answerOf lent x) (output-is lent x)
     go Finished.TooLong o = inr (answered-too-long o .0)
 
 -- ## What the reader accepted has one
-pub accepted-written : (text : Bytes) (t left : Lent) (c : Counts) (file : FileRow) → ReadsRndf text t (Reply.Accepted c file) left → RndfWriting text
+pub accepted-written : (text : Bytes) (t left : Lent) (c : Counts) (file : FileRow) → ReadsRndf present text t (Reply.Accepted c file) left → RndfWriting text
 accepted-written text t left c file h = let x = accepted-filled text t left c file h in rndf-written (x .0) text (x .1 .spelled)
 
-pub pair-written : (rndf mdf : Bytes) (t left : Lent) (u mission-left : MissionLent) (c : Counts) (file : FileRow) (d : MissionCounts) (row : MissionFileRow) → ReadsPair rndf mdf t u (Pair.Accepted c file d row) left mission-left → MdfWriting mdf
+pub pair-written : (rndf mdf : Bytes) (t left : Lent) (u mission-left : MissionLent) (c : Counts) (file : FileRow) (d : MissionCounts) (row : MissionFileRow) → ReadsPair present rndf mdf t u (Pair.Accepted c file d row) left mission-left → MdfWriting mdf
 pair-written rndf mdf t left u mission-left c file d row h = let x = pair-accepted-filled rndf mdf t left u mission-left c file d row h in mdf-written (x .1) mdf (x .3 .spelled)

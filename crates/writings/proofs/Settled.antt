@@ -4,6 +4,7 @@ use mathlib.Core.Logic.{_⊎_, inl, inr}
 use Prim.Native.Nat.{ℕ}
 use lib.ListN.{length}
 use Rattle.terms.specs.Ascii.{Bytes}
+use Rattle.law.specs.Network.{present}
 use Rattle.law.specs.Tables.{Lent}
 use Rattle.law.specs.Tables as Tables
 use Rattle.output.specs.Output.{zeros, Fits, filled}
@@ -31,7 +32,7 @@ module _ (text : Bytes) (t : Lent) (lent : ℕ) where
   fits-one x y = subst (Fits lent) (rndf-writing-one text x y)
 
   -- no second reply, and no second memory
-  pub rndf-write-settled : (r r′ : WriteReply) (l l′ : Lent) (o o′ : Bytes) → WritesRndf text t lent r l o → WritesRndf text t lent r′ l′ o′ → (r ≡ r′) × (l ≡ l′) × (o ≡ o′)
+  pub rndf-write-settled : (r r′ : WriteReply) (l l′ : Lent) (o o′ : Bytes) → WritesRndf present text t lent r l o → WritesRndf present text t lent r′ l′ o′ → (r ≡ r′) × (l ≡ l′) × (o ≡ o′)
   rndf-write-settled r r′ l l′ o o′ (W.refused why h e z) (W.refused why′ h′ e′ z′) =
       let s = rndf-settled text t (Reply.Refused why) (Reply.Refused why′) l l′ h h′ in
       (e ∙ ap (reply-of 0) (s .0) ∙ sym e′, s .1, z ∙ sym z′)
@@ -52,13 +53,13 @@ module _ (text : Bytes) (t : Lent) (lent : ℕ) where
     pub reply : WriteReply
     pub left : Lent
     pub out : Bytes
-    pub writes : WritesRndf text t lent reply left out
+    pub writes : WritesRndf present text t lent reply left out
 
-  by-room : (x : RndfWriting text) (c : Counts) (file : FileRow) (left : Lent) → ReadsRndf text t (Reply.Accepted c file) left → Fits lent (x .writing) ⊎ (Fits lent (x .writing) → ⊥) → RndfSome
+  by-room : (x : RndfWriting text) (c : Counts) (file : FileRow) (left : Lent) → ReadsRndf present text t (Reply.Accepted c file) left → Fits lent (x .writing) ⊎ (Fits lent (x .writing) → ⊥) → RndfSome
   by-room x c file left h (inl f) = record { reply = Write.Written c file (length (x .writing)); left = left; out = filled lent (x .writing); writes = W.written (x .net) (x .writing) c file h (x .spelled) (x .house) f refl refl }
   by-room x c file left h (inr f) = record { reply = Write.Refused (refusal 1 0 19); left = Tables.zeros t; out = zeros lent; writes = W.too-long (x .net) (x .writing) c file left h (x .spelled) (x .house) f refl refl refl }
 
-  by-reply : (r : RndfReply) (left : Lent) → ReadsRndf text t r left → RndfSome
+  by-reply : (r : RndfReply) (left : Lent) → ReadsRndf present text t r left → RndfSome
   by-reply (Reply.Accepted c file) left h = let x = accepted-written text t left c file h in by-room x c file left h (fits-or-not lent (x .writing))
   by-reply (Reply.Refused why) left h = record { reply = Write.Refused why; left = left; out = zeros lent; writes = W.refused why h refl refl }
 

@@ -1,7 +1,7 @@
 -- WHAT A READER MUST BELIEVE. What the writers reply, and what the lent tables and the lent output then hold. Assumes nothing.
 use Rattle.terms.specs.Words.{_≡_, ℕ, length, Bytes}
 use Rattle.line.specs.Line.{Field}
-use Rattle.law.specs.Network.{Network, Mission, AnyOrder, SpellsNetwork, SpellsMission, SpellsText}
+use Rattle.law.specs.Network.{Network, Mission, Rules, SpellsNetwork, SpellsMission, SpellsText}
 use Rattle.law.specs.Tables.{Lent, MissionLent, mission-zeros}
 use Rattle.law.specs.Tables as Tables
 use Rattle.house_text.specs.House.{HouseRndf, HouseMdf}
@@ -20,23 +20,23 @@ use Rattle.writings.specs.declared.WriteMdfReply.{WriteMdfReply}
 use Rattle.writings.specs.declared.WriteMdfReply.the-variants as WriteMdf
 
 -- ## An RNDF: the reply, and what is left in the lent tables and the lent output. t: these tables as they were lent; lent: the length of that output; writing: the house writing
-pub data WritesRndf (text : Bytes) (t : Lent) (lent : ℕ) (reply : WriteReply) (left : Lent) (out : Bytes) : Type 0 where
+pub data WritesRndf (rules : Rules) (text : Bytes) (t : Lent) (lent : ℕ) (reply : WriteReply) (left : Lent) (out : Bytes) : Type 0 where
   -- 01: "reads them first and refuses as the reader does before any refusal of its own"
-  refused : (why : Refusal) → ReadsRndf text t (Reply.Refused why) left → reply ≡ Write.Refused why → out ≡ zeros lent → WritesRndf text t lent reply left out
+  refused : (why : Refusal) → ReadsRndf rules text t (Reply.Refused why) left → reply ≡ Write.Refused why → out ≡ zeros lent → WritesRndf rules text t lent reply left out
   -- 01: 19 "house writing over 16,777,215 bytes or longer than the lent output"; "All lent tables, and the writer's lent output, are then zero over their whole length"
-  too-long : (n : Network Field) (writing : Bytes) (c : Counts) (file : FileRow) (read : Lent) → ReadsRndf text t (Reply.Accepted c file) read → SpellsText (SpellsNetwork AnyOrder) n text → HouseRndf n writing → (Fits lent writing → ⊥)
-      → reply ≡ Write.Refused (refusal 1 0 19) → left ≡ Tables.zeros t → out ≡ zeros lent → WritesRndf text t lent reply left out
+  too-long : (n : Network Field) (writing : Bytes) (c : Counts) (file : FileRow) (read : Lent) → ReadsRndf rules text t (Reply.Accepted c file) read → SpellsText rules SpellsNetwork n text → HouseRndf n writing → (Fits lent writing → ⊥)
+      → reply ≡ Write.Refused (refusal 1 0 19) → left ≡ Tables.zeros t → out ≡ zeros lent → WritesRndf rules text t lent reply left out
   -- the tables hold what the reader leaves. 01: "A lent output is zero behind what was written."
-  written : (n : Network Field) (writing : Bytes) (c : Counts) (file : FileRow) → ReadsRndf text t (Reply.Accepted c file) left → SpellsText (SpellsNetwork AnyOrder) n text → HouseRndf n writing → Fits lent writing
-      → reply ≡ Write.Written c file (length writing) → out ≡ filled lent writing → WritesRndf text t lent reply left out
+  written : (n : Network Field) (writing : Bytes) (c : Counts) (file : FileRow) → ReadsRndf rules text t (Reply.Accepted c file) left → SpellsText rules SpellsNetwork n text → HouseRndf n writing → Fits lent writing
+      → reply ≡ Write.Written c file (length writing) → out ≡ filled lent writing → WritesRndf rules text t lent reply left out
 
 -- ## The MDF of a pair. u: the goals and limits as they were lent
-pub data WritesMdf (rndf mdf : Bytes) (t : Lent) (u : MissionLent) (lent : ℕ) (reply : WriteMdfReply) (left : Lent) (mission-left : MissionLent) (out : Bytes) : Type 0 where
-  refused : (why : Refusal) → ReadsPair rndf mdf t u (Pair.Refused why) left mission-left → reply ≡ WriteMdf.Refused why → out ≡ zeros lent → WritesMdf rndf mdf t u lent reply left mission-left out
+pub data WritesMdf (rules : Rules) (rndf mdf : Bytes) (t : Lent) (u : MissionLent) (lent : ℕ) (reply : WriteMdfReply) (left : Lent) (mission-left : MissionLent) (out : Bytes) : Type 0 where
+  refused : (why : Refusal) → ReadsPair rules rndf mdf t u (Pair.Refused why) left mission-left → reply ≡ WriteMdf.Refused why → out ≡ zeros lent → WritesMdf rules rndf mdf t u lent reply left mission-left out
   -- 01: "19 gives the file written"
   too-long : (m : Mission Field) (writing : Bytes) (c : Counts) (file : FileRow) (d : MissionCounts) (mission-row : MissionFileRow) (read : Lent) (mission-read : MissionLent)
-      → ReadsPair rndf mdf t u (Pair.Accepted c file d mission-row) read mission-read → SpellsText (SpellsMission AnyOrder) m mdf → HouseMdf m writing → (Fits lent writing → ⊥)
-      → reply ≡ WriteMdf.Refused (refusal 2 0 19) → left ≡ Tables.zeros t → mission-left ≡ mission-zeros u → out ≡ zeros lent → WritesMdf rndf mdf t u lent reply left mission-left out
+      → ReadsPair rules rndf mdf t u (Pair.Accepted c file d mission-row) read mission-read → SpellsText rules SpellsMission m mdf → HouseMdf m writing → (Fits lent writing → ⊥)
+      → reply ≡ WriteMdf.Refused (refusal 2 0 19) → left ≡ Tables.zeros t → mission-left ≡ mission-zeros u → out ≡ zeros lent → WritesMdf rules rndf mdf t u lent reply left mission-left out
   written : (m : Mission Field) (writing : Bytes) (c : Counts) (file : FileRow) (d : MissionCounts) (mission-row : MissionFileRow)
-      → ReadsPair rndf mdf t u (Pair.Accepted c file d mission-row) left mission-left → SpellsText (SpellsMission AnyOrder) m mdf → HouseMdf m writing → Fits lent writing
-      → reply ≡ WriteMdf.Written c file d mission-row (length writing) → out ≡ filled lent writing → WritesMdf rndf mdf t u lent reply left mission-left out
+      → ReadsPair rules rndf mdf t u (Pair.Accepted c file d mission-row) left mission-left → SpellsText rules SpellsMission m mdf → HouseMdf m writing → Fits lent writing
+      → reply ≡ WriteMdf.Written c file d mission-row (length writing) → out ≡ filled lent writing → WritesMdf rules rndf mdf t u lent reply left mission-left out

@@ -1,6 +1,7 @@
 -- WHAT A READER MUST BELIEVE. What the planners' program puts out of texts: the sentence of what the readers reply to them. Assumes nothing.
 use Prim.Native.Nat.{ℕ}
 use Rattle.terms.specs.Ascii.{Bytes}
+use Rattle.law.specs.Network.{present}
 use Rattle.law.specs.Tables.{Lent, MissionLent}
 use Rattle.replies.specs.declared.RndfReply.{RndfReply}
 use Rattle.replies.specs.declared.PairReply.{PairReply}
@@ -11,11 +12,11 @@ use Rattle.output.specs.Pen.{pen, Wrote}
 -- an RNDF of this name, read into tables t: `left` they are then, and the first n bytes of the output are the sentence
 pub record TellsRndf (name text : Bytes) (t left : Lent) (before after : Bytes) (n : ℕ) : Type 0 where
   pub reply : RndfReply
-  pub read : ReadsRndf text t reply left
+  pub read : ReadsRndf present text t reply left
   pub told : Wrote (pen before 0) (rndf-answer name reply) (pen after n)
 
 -- an RNDF with its MDF
 pub record TellsPair (rndf-name mdf-name rndf mdf : Bytes) (t : Lent) (u : MissionLent) (left : Lent) (mission-left : MissionLent) (before after : Bytes) (n : ℕ) : Type 0 where
   pub reply : PairReply
-  pub read : ReadsPair rndf mdf t u reply left mission-left
+  pub read : ReadsPair present rndf mdf t u reply left mission-left
   pub told : Wrote (pen before 0) (pair-answer rndf-name mdf-name reply) (pen after n)
