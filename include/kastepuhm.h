@@ -186,7 +186,7 @@ typedef struct kastepuhm_answer {
 enum {
     KASTEPUHM_TEXT_TOO_LONG = 1,       /* the text is over 16,777,215 bytes (line 0) */
     KASTEPUHM_LINE_TOO_LONG = 2,       /* the line is over 512 bytes */
-    KASTEPUHM_BAD_COMMENT = 3,         /* the comment is not closed, or something other than tabs follows it */
+    KASTEPUHM_BAD_COMMENT = 3,         /* the comment is not closed, or something other than tabs and spaces follows it */
     KASTEPUHM_BAD_BYTE = 4,            /* a byte that is not allowed */
     KASTEPUHM_NOT_HERE = 5,            /* the statement is unknown, or may not stand here (also too few or too many items) */
     KASTEPUHM_GIVEN_AGAIN = 6,         /* a single option is given again */

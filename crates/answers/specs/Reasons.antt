@@ -14,7 +14,7 @@ reasons =
     no-reason
     ∷ ascii "the text is over 16,777,215 bytes"
     ∷ ascii "the line is over 512 bytes"
-    ∷ ascii "the comment is not closed, or something other than tabs follows it"
+    ∷ ascii "the comment is not closed, or something other than tabs and spaces follows it"
     ∷ ascii "a byte that is not allowed"
     ∷ ascii "unknown statement, or one that may not stand here (also too few or too many items)"
     ∷ ascii "a single option given again"

@@ -31,7 +31,7 @@ pub fn put_reason(out: &mut [u8], at: usize, number: u8) -> usize
         3 => put_bytes(
             out,
             at,
-            b"the comment is not closed, or something other than tabs follows it",
+            b"the comment is not closed, or something other than tabs and spaces follows it",
         ),
         4 => put_bytes(out, at, b"a byte that is not allowed"),
         _ => put_reason_from_5(out, at, number),

@@ -12,7 +12,7 @@ use lib.Dec.{ltb}
 use Rattle.terms.specs.Ascii.{Bytes, ascii}
 use Rattle.scan.specs.Allowed.{separates, outside, inside, all}
 use Rattle.scan.specs.Reach.{upTo}
-use Rattle.terms.proofs.Tests.{clash, both, and, or-right}
+use Rattle.terms.proofs.Tests.{clash, both, and}
 use Rattle.scan.proofs.Bytes.{separator-inside, outside-inside, star-not-outside, lf-not-inside, cr-not-inside, all-imp, all-append, all-parts}
 use Rattle.line.specs.Text.{lf, cr, Lacks, Ended}
 use Rattle.line.specs.Text as T
@@ -126,8 +126,8 @@ module _ {a : ℕ} {c : Bytes} {fs : List Field} (h : Content a c fs) where
       go : (h .note ≡ []) ⊎ Comment (h .note) → all inside (h .note) ≡ true
       go (inl e) = ap (all inside) e
       go (inr k) =
-          let tail : all inside (42 ∷ 47 ∷ k .behind) ≡ true = and (or-right (separates 42) refl) (and (or-right (separates 47) refl) (all-imp separates inside separator-inside (k .behind) (k .only-separators))) in
-          ap (all inside) (k .spelled) ∙ and (or-right (separates 47) refl) (and (or-right (separates 42) refl) (all-append inside (k .text) (42 ∷ 47 ∷ k .behind) (k .allowed) tail))
+          let tail : all inside (42 ∷ 47 ∷ k .behind) ≡ true = and refl (and refl (all-imp separates inside separator-inside (k .behind) (k .only-separators))) in
+          ap (all inside) (k .spelled) ∙ and refl (and refl (all-append inside (k .text) (42 ∷ 47 ∷ k .behind) (k .allowed) tail))
 
   pub content-clean : clean c ≡ true
   content-clean = and (ap (all outside) content-outer ∙ fields-allowed (h .fielded)) (ap (all inside) content-note ∙ note-allowed)

@@ -32,6 +32,15 @@ backslash : formOf (ascii "a\\b") ≡ Bad 4
 unfolding ascii separates all upTo first two stopsBy outerOf noteOf closes formOf
 backslash = refl
 
+-- L3: "a separator shall be any run of tabs and spaces, and such a run is nothing at a line's start and end, also before and behind a comment"
+spaces : formOf (ascii " a\t b /* x */ \t ") ≡ Body 6
+unfolding ascii separates all upTo first two stopsBy outerOf noteOf closes formOf
+spaces = refl
+
+spaced : fieldsAt 0 (ascii " a\t b ") ≡ at 1 (ascii "a") ∷ at 4 (ascii "b") ∷ []
+unfolding ascii separates parted-by fieldsAt
+spaced = refl
+
 fields : fieldsAt 7 (ascii "\tab\t\tc") ≡ at 8 (ascii "ab") ∷ at 12 (ascii "c") ∷ []
 unfolding ascii separates parted-by fieldsAt
 fields = refl

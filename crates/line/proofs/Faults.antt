@@ -10,9 +10,9 @@ use lib.ListN.{length, take, drop}
 use lib.Dec.{ltb, leb}
 use Rattle.terms.specs.Ascii.{Bytes, ascii}
 use Rattle.terms.specs.Words.{pick}
-use Rattle.scan.specs.Allowed.{separates, outside, inside, all}
+use Rattle.scan.specs.Allowed.{outside, inside, all}
 use Rattle.scan.specs.Reach.{upTo}
-use Rattle.terms.proofs.Tests.{clash, or-right}
+use Rattle.terms.proofs.Tests.{clash}
 use Rattle.scan.proofs.Reach.{upTo-le}
 use Rattle.line.specs.Content.{Field, longest, Content}
 use Rattle.line.specs.Faults.{Opened, Unclosed, never, more, BadComment, BadByte, plain, before, in-comment, FormFault, long, comment, byte}
@@ -73,7 +73,7 @@ module _ (c : Bytes) where
           let r = drop (upTo opens c + 2) c in
           let n : noteOf c ≡ 47 ∷ 42 ∷ r = note-at c ∙ find-here 47 42 c h in
           let k : all inside (47 ∷ 42 ∷ r) ≡ false = ap (all inside) (sym n) ∙ second (all outside (outerOf c)) (all inside (noteOf c)) f e in
-          in-comment (take (upTo opens c) c) r (opened-here h) (second (inside 42) (all inside r) (or-right (separates 42) refl) (second (inside 47) (inside 42 && all inside r) (or-right (separates 47) refl) k))
+          in-comment (take (upTo opens c) c) r (opened-here h) (second (inside 42) (all inside r) refl (second (inside 47) (inside 42 && all inside r) refl k))
       go false q false f =
           let w = find-none 47 42 c (ltb-false (upTo opens c) (length c) q) in
           plain w (ap (all outside) (sym (plain-outer c w)) ∙ f)

@@ -45,7 +45,7 @@ pub record Opened (content outer rest : Bytes) : Type 0 where
 
 -- ## What stands on a line. `separates`: which bytes separate fields
 module _ (separates : ℕ → Bool) where
-  -- 01: "A comment begins at the first `/*` and must close with the first `*/` after those two bytes, with only tabs behind it"; "Inside, 32 to 126 and tab."; "`/*/` is not closed": its `*` belongs to the opening
+  -- 01: "A comment begins at the first `/*` and must close with the first `*/` after those two bytes, with only tabs behind it" (L3: and spaces); "Inside, 32 to 126 and tab."; "`/*/` is not closed": its `*` belongs to the opening
   pub record Comment (bytes : Bytes) : Type 0 where
     pub text : Bytes
     pub behind : Bytes
@@ -59,7 +59,7 @@ module _ (separates : ℕ → Bool) where
   parted [] = true
   parted (b ∷ rest) = separates b
 
-  -- 01: "Fields are separated by one or more tabs; leading and trailing tabs are nothing."
+  -- L3: "a separator shall be any run of tabs and spaces, and such a run is nothing at a line's start and end, also before and behind a comment"
   -- The bytes, the first of which stands at the place `start` of the text, and the fields in them.
   pub data SpellsFields : ℕ → Bytes → List Field → Type 0 where
     nothing : {start : ℕ} → SpellsFields start [] []
@@ -77,7 +77,7 @@ module _ (separates : ℕ → Bool) where
     pub comment : (note ≡ []) ⊎ Comment note
 
   -- ## 2, 3 and 4
-  -- 01: "comment not closed, or followed by more than tabs", of what stands behind the opening
+  -- 01: "comment not closed, or followed by more than tabs" (L3: and spaces), of what stands behind the opening
   pub data Unclosed (rest : Bytes) : Type 0 where
     never : Without (ascii "*/") rest → Unclosed rest
     more : (text behind : Bytes) → rest ≡ text ++ (ascii "*/" ++ behind) → Without (ascii "*/") text → all separates behind ≡ false → Unclosed rest

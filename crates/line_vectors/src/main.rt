@@ -1,7 +1,7 @@
 // Runs `line` on every form that document 01 names under "Lines, comments, fields", and prints what each line of each text is.
 // The texts are in the file `stdin`: each is a label, the byte 253, the text, the byte 254.
 // The file `stdout` was not copied from a run: a small Python script, written from document 01 and
-// READINGS 4 to 7 alone (split at LF, regular expressions for comment and bytes, split at tabs), wrote
+// READINGS 4 to 7 alone (split at LF, regular expressions for comment and bytes, split at tabs and spaces), wrote
 // both files from a list of labels and texts.
 // A line is printed as its number, and `refused` with 2, 3 or 4, or `blank`, or how many fields it has (4: more
 // than three) and the first three, each as start in the text + length, with its bytes if they are at most 32.

@@ -4,11 +4,11 @@ use mathlib.Core.List.{[], _∷_, _++_}
 use mathlib.Core.Bool.{Bool, true, false, not, _&&_, _||_, and-assoc}
 use Prim.Native.Nat.{ℕ, _≤_}
 use native.Mathlib.Omega.{arith}
-use borrow.Author.Tests.{eqb-true, ne-eqb, le-leb, leb-true}
+use borrow.Author.Tests.{eqb-true, eqb-false, ne-eqb, le-leb, lt-leb, leb-true, leb-false}
 use lib.Dec.{eqb, leb}
 use Rattle.terms.specs.Ascii.{Bytes}
 use Rattle.terms.proofs.Tests.{clash, both, and, or-right}
-use Rattle.scan.specs.Allowed.{within, separates, fieldByte, outside, inside, all}
+use Rattle.scan.specs.Allowed.{within, tab, separates, fieldByte, outside, inside, all}
 use Rattle.scan.specs.Reach.{plain}
 
 -- ## Classes
@@ -18,7 +18,10 @@ within-is m n b e = let p = both (leb m b) (leb b n) e in (leb-true m b (p .0), 
 -- a byte of a field does not separate fields
 pub field-no-separator : (b : ℕ) → fieldByte b ≡ true → separates b ≡ false
 unfolding separates
-field-no-separator b e = ne-eqb b _ (λ q. clash (sym (rw q at e)))
+field-no-separator b e =
+    let p = both (within 33 126 b) (not (eqb b 92) && not (eqb b 42)) e in
+    let w = within-is 33 126 b (p .0) in
+    rw (ne-eqb b 9 (λ q. omega arith), ne-eqb b 32 (λ q. omega arith))
 
 pub field-outside : (b : ℕ) → fieldByte b ≡ true → outside b ≡ true
 field-outside b e = or-right (separates b) e
@@ -31,13 +34,18 @@ field-inside : (b : ℕ) → fieldByte b ≡ true → inside b ≡ true
 field-inside b e =
     let p = both (within 33 126 b) (not (eqb b 92) && not (eqb b 42)) e in
     let w = within-is 33 126 b (p .0) in
-    or-right (separates b) (and (le-leb 32 b (omega arith)) (le-leb b 126 (omega arith)))
+    or-right (tab b) (and (le-leb 32 b (omega arith)) (le-leb b 126 (omega arith)))
 
 pub separator-outside : (b : ℕ) → separates b ≡ true → outside b ≡ true
 separator-outside b e = rw e
 
 pub separator-inside : (b : ℕ) → separates b ≡ true → inside b ≡ true
-separator-inside b e = rw e
+unfolding separates
+separator-inside b e = go (tab b) refl e
+  where
+    go : (x : Bool) → tab b ≡ x → (x || eqb b 32) ≡ true → inside b ≡ true
+    go true q e = rw q
+    go false q e = rw (eqb-true b 32 e)
 
 -- what is allowed outside comments is allowed inside
 pub outside-inside : (b : ℕ) → outside b ≡ true → inside b ≡ true
@@ -49,24 +57,32 @@ outside-inside b e = go (separates b) refl e
 
 -- neither LF nor CR is allowed anywhere, and no * outside
 pub lf-not-inside : inside 10 ≡ false
-unfolding separates
 lf-not-inside = refl
 
 pub cr-not-inside : inside 13 ≡ false
-unfolding separates
 cr-not-inside = refl
 
 pub star-not-outside : outside 42 ≡ false
 unfolding separates
 star-not-outside = refl
 
--- a plain byte, test by test
-pub plain-flat : (b : ℕ) → (separates b || (leb 33 b && leb b 126 && not (eqb b 92) && not (eqb b 42) && not (eqb b 47))) ≡ plain b
-plain-flat b = go (separates b) refl
+-- but for the space, 32 and 33 are the same bound
+from-33 : (b : ℕ) → (b ≡ 32 → ⊥) → leb 32 b ≡ leb 33 b
+from-33 b n = go (leb 33 b) refl
   where
-    go : (x : Bool) → separates b ≡ x → (x || (leb 33 b && leb b 126 && not (eqb b 92) && not (eqb b 42) && not (eqb b 47))) ≡ ((x || fieldByte b) && not (eqb b 47))
-    go true e = let q : b ≡ 9 = eqb-true b 9 (unfold separates in e) in rw q
-    go false e = ap (λ x. x && not (eqb b 47)) (and-assoc (leb 33 b && leb b 126) (not (eqb b 92)) (not (eqb b 42)))
+    go : (x : Bool) → leb 33 b ≡ x → leb 32 b ≡ x
+    go true e = let h = leb-true 33 b e in le-leb 32 b (omega arith)
+    go false e = let h = leb-false 33 b e in lt-leb 32 b (omega arith)
+
+-- a plain byte, test by test
+pub plain-flat : (b : ℕ) → (tab b || (leb 32 b && leb b 126 && not (eqb b 92) && not (eqb b 42) && not (eqb b 47))) ≡ plain b
+unfolding separates
+plain-flat b = go (tab b) (eqb b 32) refl refl
+  where
+    go : (x y : Bool) → tab b ≡ x → eqb b 32 ≡ y → (x || (leb 32 b && leb b 126 && not (eqb b 92) && not (eqb b 42) && not (eqb b 47))) ≡ (((x || y) || fieldByte b) && not (eqb b 47))
+    go true y e f = rw (eqb-true b 9 e)
+    go false true e f = rw (eqb-true b 32 f)
+    go false false e f = rw (from-33 b (eqb-false b 32 f)) (ap (λ x. x && not (eqb b 47)) (and-assoc (leb 33 b && leb b 126) (not (eqb b 92)) (not (eqb b 42))))
 
 -- ## Every byte
 pub all-imp : (s t : ℕ → Bool) → ((b : ℕ) → s b ≡ true → t b ≡ true) → (l : Bytes) → all s l ≡ true → all t l ≡ true

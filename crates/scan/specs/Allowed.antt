@@ -6,16 +6,20 @@ pub use Rattle.scan.specs.Digit.{digit}
 abbrev pub within : ℕ → ℕ → ℕ → Bool
 within m n b = leb m b && leb b n
 
--- 01: "Fields are separated by one or more tabs"
+-- 01: "Fields are separated by one or more tabs": the rule before L3
+abbrev pub tab : ℕ → Bool
+tab b = eqb b (code "\t")
+
+-- L3: "a separator shall be any run of tabs and spaces"
 -- The one place that says which bytes these are; where 01 says "only tabs", it is these bytes too.
 unfoldable pub separates : ℕ → Bool
-separates b = eqb b (code "\t")
+separates b = tab b || eqb b (code " ")
 
 -- a byte of a field, see `outside`
 abbrev pub fieldByte : ℕ → Bool
 fieldByte b = within 33 126 b && (not (eqb b (code "\\")) && not (eqb b (code "*")))
 
--- 01: "Outside comments the bytes are 33 to 126 and tab, but no backslash and no `*`.": those of fields, and those that separate them
+-- 01: "Outside comments the bytes are 33 to 126 and tab, but no backslash and no `*`.": those of fields, and those that separate them. L3: "4 is no longer given for a space"
 abbrev pub allowed-outside : (separates : ℕ → Bool) → ℕ → Bool
 allowed-outside separates b = separates b || fieldByte b
 
@@ -24,7 +28,7 @@ outside = allowed-outside separates
 
 -- 01: "Inside, 32 to 126 and tab."
 abbrev pub inside : ℕ → Bool
-inside b = separates b || within 32 126 b
+inside b = tab b || within 32 126 b
 
 -- every byte passes a test
 unfoldable pub all : (ℕ → Bool) → Bytes → Bool

@@ -22,7 +22,7 @@ pub enum Until {
 pub fn is_separator(b: u8) -> bool
     ensures { λ r. ⌜ r ≡ separates b ⌝ }
 {
-    b == b'\t'
+    (b == b'\t') | (b == b' ')
 }
 
 // Allowed outside comments: a separator, or 33 to 126 but no backslash and no *.
@@ -44,11 +44,11 @@ fn is_outside(b: u8) -> bool
     b != b'*'
 }
 
-// Allowed inside comments: a separator, or 32 to 126.
+// Allowed inside comments: a tab, or 32 to 126.
 fn is_inside(b: u8) -> bool
     ensures { λ r. ⌜ r ≡ inside b ⌝ }
 {
-    is_separator(b) | ((32 <= b) & (b <= 126))
+    (b == b'\t') | ((32 <= b) & (b <= 126))
 }
 
 pub fn is_digit(b: u8) -> bool
@@ -118,11 +118,11 @@ fn eights_without(s: &[u8], from: usize, x: u8) -> usize
     i
 }
 
-// A byte of a field, or a separator, that opens no comment.
+// A byte of a field, or a separator, that opens no comment: a space is the one byte of 32 to 126 that is no field's.
 fn is_plain(b: u8) -> bool
     ensures { λ r. ⌜ r ≡ plain b ⌝ }
 {
-    is_separator(b) | ((33 <= b) & (b <= 126) & (b != b'\\') & (b != b'*') & (b != b'/'))
+    (b == b'\t') | ((32 <= b) & (b <= 126) & (b != b'\\') & (b != b'*') & (b != b'/'))
 }
 
 // The two bytes from i on are plain.

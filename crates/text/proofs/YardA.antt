@@ -44,7 +44,7 @@ abbrev Holds : List (Bytes × Option (ℕ × ℕ)) → Type 0
 Holds [] = Unit {0}
 Holds (x ∷ xs) = (outcome (read-rndf (x .0)) ≡ x .1) × Holds xs
 
--- 01, "Yard A": those of the cases that are of form; and some lines with several faults
+-- 01, "Yard A": those of the cases that are of form; some lines with several faults; and lines with spaces (L3)
 pub cases : Holds (
     (yard "num_waypoints\t2\ncheckpoint\t1.1.2\t7\nexit\t1.1.2\t1.1.1\n" "end_file\n", none) ∷
     (yard "num_waypoints\t2\ncheckpoint\t1.1.2\t7\nexit\t1.1.3\t1.1.1\n" "end_file\n", some (9, 9)) ∷
@@ -55,7 +55,9 @@ pub cases : Holds (
     (yard "num_waypoints\t2\nlane_width\t12\nlane_width\tx\ty\n" "", some (9, 6)) ∷
     (yard "num_waypoints\t2\ncheckpoint\t1.1.2\n" "", some (8, 7)) ∷
     (yard "num_waypoints\t2\t/*/\n" "", some (7, 3)) ∷
-    (yard "num_waypoints\t2 /**/\n" "", some (7, 4)) ∷
+    (yard "num_waypoints\t2\\/**/\n" "", some (7, 4)) ∷
+    (yard " num_waypoints  2 \t /* x */ \nleft_boundary solid_white \n" "end_file\n ", none) ∷
+    (yard "num_waypoints 2 2\n" "", some (7, 7)) ∷
     (yard "\t/* x * */\t\r\n\nnum_waypoints\t2/**/\nleft_boundary\tsolid_white\n" "end_file\r\n\t/* */", none) ∷ [])
 unfolding ascii Answers.readText Answers.walk Lines.linesOf Judge.judge Lines.dropCr Forms.formOf Forms.closes Forms.noteOf Forms.outerOf Forms.fieldsAt Content.parted-by Allowed.separates Allowed.all Reach.two Reach.sameBytes Reach.begins Reach.first Reach.upTo Reach.stopsBy Judge.tell Judge.read Judge.numbered Number.integerOf Number.plainOf Number.plain Number.worth Number.numberOf Number.pairOf Number.tripleOf Coordinate.coordinateOf Coordinate.millionthsOf Word.boundary-number Word.indexOf Keywords.rndf-keywords Keywords.boundary-words Machine.step Machine.guard Stands.stands
-cases = (refl, (refl, (refl, (refl, (refl, (refl, (refl, (refl, (refl, (refl, (refl, tt)))))))))))
+cases = (refl, (refl, (refl, (refl, (refl, (refl, (refl, (refl, (refl, (refl, (refl, (refl, (refl, tt)))))))))))))

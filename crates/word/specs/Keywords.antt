@@ -50,7 +50,7 @@ abbrev pub BeginsWithDigit : Bytes → Type 0
 BeginsWithDigit [] = ⊥
 BeginsWithDigit (b ∷ rest) = Between (code "0") (code "9") b
 
--- 01: "Outside comments the bytes are 33 to 126 and tab, but no backslash and no `*`", and "Fields are separated by one or more tabs":
+-- 01: "Outside comments the bytes are 33 to 126 and tab, but no backslash and no `*`", and "a separator shall be any run of tabs and spaces" (L3):
 -- the word can be a field, for it has a byte, and each of its bytes can stand in a field; and it is short
 pub record ShortField (w : Bytes) : Type 0 where
   pub some : 0 < length w
