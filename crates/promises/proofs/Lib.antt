@@ -11,3 +11,4 @@ pub mod ShutOut
 pub mod MissionTexts
 pub mod NineCases
 pub mod PairShutOut
+pub mod Keeping

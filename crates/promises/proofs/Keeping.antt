@@ -1,0 +1,104 @@
+-- WHAT WAS ACCEPTED BEFORE L3 is accepted, with the same reply and the same tables: the rules were only widened. From the contracts alone. Assumes nothing.
+use mathlib.Core.Path.{_≡_, subst}
+use mathlib.Core.List.{List}
+use mathlib.Core.Bool.{true}
+use mathlib.Core.Logic.{_⊎_, inl, inr}
+use Prim.Native.Nat.{ℕ}
+use Rattle.terms.specs.Words.{[], _∷_, Bytes, InTurn}
+use Rattle.terms.specs.Words as Words
+use Rattle.scan.specs.Allowed.{tab, separates}
+use Rattle.scan.proofs.Bytes.{all-imp}
+use Rattle.line.specs.Line.{Field, Comment, parted, SpellsFields, nothing, separator, field, Content}
+use Rattle.law.specs.Network.{Network, Mission, Lane, Segment, Spot, Zone, Line, Rules, present, Says, SayLines, done, blank, statement, SpellsText, SpellsLane, SpellsSegment, SpellsSpot, SpellsZone, SpellsNetwork, SpellsMission}
+use Rattle.law.specs.Tables.{Lent, MissionLent}
+use Rattle.rows.specs.declared.FileRow.{FileRow}
+use Rattle.rows.specs.declared.MissionFileRow.{MissionFileRow}
+use Rattle.counts.specs.declared.Counts.{Counts}
+use Rattle.counts.specs.declared.MissionCounts.{MissionCounts}
+use Rattle.replies.specs.declared.RndfReply.the-variants as Reply
+use Rattle.replies.specs.declared.PairReply.the-variants as Pair
+use Rattle.replies.specs.Replies.{AcceptsRndf, AcceptsMdf, ReadsRndf, ReadsPair}
+use Rattle.promises.specs.Accepted.{IsAccepted, IsPairAccepted}
+use Rattle.promises.specs.Kept.{Kept, tabs-only}
+
+-- ## Lines: a tab still separates fields
+tab-separates : (b : ℕ) → tab b ≡ true → separates b ≡ true
+unfolding separates
+tab-separates b e = rw e
+
+parted-wider : (l : Bytes) → parted tab l ≡ true → parted separates l ≡ true
+unfolding parted
+parted-wider [] e = e
+parted-wider (b ∷ l) e = tab-separates b e
+
+fields-wider : {start : ℕ} {bytes : Bytes} {fields : List Field} → SpellsFields tab start bytes fields → SpellsFields separates start bytes fields
+fields-wider nothing = nothing
+fields-wider (separator {b} e r) = separator (tab-separates b e) (fields-wider r)
+fields-wider (field {rest} i p r) = field i (parted-wider rest p) (fields-wider r)
+
+note-wider : {note : Bytes} → (note ≡ []) ⊎ Comment tab note → (note ≡ []) ⊎ Comment separates note
+note-wider (inl e) = inl e
+note-wider (inr c) = inr (record { text = c .text; behind = c .behind; spelled = c .spelled; first = c .first; allowed = c .allowed; only-separators = all-imp tab separates tab-separates (c .behind) (c .only-separators) })
+
+content-wider : {start : ℕ} {content : Bytes} {fields : List Field} → Content tab start content fields → Content separates start content fields
+content-wider c = record { outer = c .outer; note = c .note; spelled = c .spelled; short = c .short; fielded = fields-wider (c .fielded); comment = note-wider (c .comment) }
+
+says-wider : {start : ℕ} {line : Bytes} {said : Line} → Says tabs-only start line said → Says present start line said
+says-wider s = record { content = s .content; fields = s .fields; ended = s .ended; fielded = content-wider (s .fielded); spelled = s .spelled }
+
+lines-wider : {start : ℕ} {lines : List Bytes} {l : List Line} → SayLines tabs-only start lines l → SayLines present start lines l
+lines-wider done = done
+lines-wider (blank s r) = blank (says-wider s) (lines-wider r)
+lines-wider (statement s r) = statement (says-wider s) (lines-wider r)
+
+-- ## Parts: what stricter rules spell, looser ones spell
+in-turn : {A X : Type 0} {P Q : ℕ → A → List X → Type 0} → ((i : ℕ) (a : A) (l : List X) → P i a l → Q i a l) → {i : ℕ} {parts : List A} {l : List X} → InTurn P i parts l → InTurn Q i parts l
+in-turn h Words.nothing = Words.nothing
+in-turn h (Words.then p r) = Words.then (h _ _ _ p) (in-turn h r)
+
+module _ (earlier later : Rules) (options : (ls : List (List Line)) (l : List Line) → earlier .Options ls l → later .Options ls l) where
+  lane-by : (m i : ℕ) (a : Lane) (l : List Line) → SpellsLane earlier m i a l → SpellsLane later m i a l
+  lane-by m i a l h = record { options = h .options; given = options _ _ (h .given); good = h .good; spelled = h .spelled }
+
+  segment-by : (m : ℕ) (a : Segment Field) (l : List Line) → SpellsSegment earlier m a l → SpellsSegment later m a l
+  segment-by m a l h = record { lanes = h .lanes; count = h .count; each = in-turn (lane-by m) (h .each); spelled = h .spelled }
+
+  spot-by : (m i : ℕ) (a : Spot) (l : List Line) → SpellsSpot earlier m i a l → SpellsSpot later m i a l
+  spot-by m i a l h = record { options = h .options; given = options _ _ (h .given); good = h .good; spelled = h .spelled }
+
+  zone-by : (m : ℕ) (a : Zone Field) (l : List Line) → SpellsZone earlier m a l → SpellsZone later m a l
+  zone-by m a l h = record { border = h .border; spots = h .spots; count = h .count; bordered = record { good = h .bordered .good; spelled = h .bordered .spelled }; each = in-turn (spot-by m) (h .each); spelled = h .spelled }
+
+  network-by : (n : Network Field) (l : List Line) → SpellsNetwork earlier n l → SpellsNetwork later n l
+  network-by n l h = record { options = h .options; segments = h .segments; zones = h .zones; given = options _ _ (h .given); some-segment = h .some-segment; count = h .count; each-segment = in-turn segment-by (h .each-segment); each-zone = in-turn zone-by (h .each-zone); spelled = h .spelled }
+
+  mission-by : (m : Mission Field) (l : List Line) → SpellsMission earlier m l → SpellsMission later m l
+  mission-by m l h = record { options = h .options; given = options _ _ (h .given); good = h .good; spelled = h .spelled }
+
+  -- ## Texts, and what is replied. `say`: what lines say by the earlier rules, they say by the later
+  module _ (say : (start : ℕ) (lines : List Bytes) (l : List Line) → SayLines earlier start lines l → SayLines later start lines l) where
+    text-by : {Net : Type 0} (Spells : Rules → Net → List Line → Type 0) → ((n : Net) (l : List Line) → Spells earlier n l → Spells later n l) → (n : Net) (text : Bytes) → SpellsText earlier Spells n text → SpellsText later Spells n text
+    text-by Spells by n text h = record { lines = h .lines; said = h .said; cut = h .cut; each = say 0 (h .lines) (h .said) (h .each); net = by n (h .said) (h .net) }
+
+    rndf-accepts : (text : Bytes) (t : Lent) (n : Network Field) → AcceptsRndf earlier text t n → AcceptsRndf later text t n
+    rndf-accepts text t n a = record { size = a .size; spelled = text-by SpellsNetwork network-by n text (a .spelled); room = a .room; right = a .right }
+
+    mdf-accepts : (n : Network Field) (text : Bytes) (u : MissionLent) (m : Mission Field) → AcceptsMdf earlier n text u m → AcceptsMdf later n text u m
+    mdf-accepts n text u m a = record { size = a .size; spelled = text-by SpellsMission mission-by m text (a .spelled); room = a .room; right = a .right }
+
+    rndf-kept : (text : Bytes) (t left : Lent) (c : Counts) (file : FileRow) → ReadsRndf earlier text t (Reply.Accepted c file) left → ReadsRndf later text t (Reply.Accepted c file) left
+    rndf-kept text t left c file (ReadsRndf.accepted n a e f) = ReadsRndf.accepted n (rndf-accepts text t n a) e f
+    rndf-kept text t left c file (ReadsRndf.refused line number a e f) = absurd (subst IsAccepted e tt)
+
+    pair-kept : (rndf mdf : Bytes) (t left : Lent) (u mission-left : MissionLent) (c : Counts) (file : FileRow) (d : MissionCounts) (own : MissionFileRow)
+        → ReadsPair earlier rndf mdf t u (Pair.Accepted c file d own) left mission-left → ReadsPair later rndf mdf t u (Pair.Accepted c file d own) left mission-left
+    pair-kept rndf mdf t left u k c file d own (ReadsPair.accepted n m a b e f g) = ReadsPair.accepted n m (rndf-accepts rndf t n a) (mdf-accepts n mdf u m b) e f g
+    pair-kept rndf mdf t left u k c file d own (ReadsPair.rndf-refused line number a e f g) = absurd (subst IsPairAccepted e tt)
+    pair-kept rndf mdf t left u k c file d own (ReadsPair.mdf-refused n line number a b e f g) = absurd (subst IsPairAccepted e tt)
+
+    kept : Kept earlier later
+    kept = record { rndf = rndf-kept; pair = pair-kept }
+
+-- THE THEOREM. L3: "every text accepted before gives the same tables"
+pub tabs-kept : Kept tabs-only present
+tabs-kept = kept tabs-only present (λ ls l h. h) (λ start lines l h. lines-wider h)
