@@ -33,7 +33,7 @@ FILES = 7
 FILE_ROOM = 60000           # bytes to a file
 MOST_TEXT = 4000            # bytes of a text
 MOST_WORDS = 640            # the program's tables; none is lent whole
-EACH = 4
+EACH = 2
 RANDOM_EACH = 6
 SEED = 20260316
 WHOLE = (cases.yard_a, cases.several_faults, cases.easy_to_get_wrong)
@@ -347,6 +347,18 @@ def lines():
     run("18 counts blank lines too", YARD_D,
         [x for l in put(cut(MISSION_D, 12), 9, "num_speed_limits>2") for x in ("", l)], "2 24 18")
     run("tabs all over", [">" + l.replace(">", ">>>") + ">" for l in YARD_D], MISSION_D, "ok")
+    # L3: a separator is any run of tabs and spaces
+    run("spaces for tabs", [l.replace(">", " ") for l in YARD_D], [l.replace(">", "  ") for l in MISSION_D], "ok")
+    run("spaces about lines and comments", ["  " + l.replace(">", " > ") + "  /* x */ > " for l in YARD_D],
+        [" > " + l + " >/**/ " for l in MISSION_D], "ok")
+    run("blank lines of spaces, also at the end", [x for l in YARD_D for x in (" ", l, "  >", " /**/ ")], None, "ok")
+    run("names begin where they stand behind spaces", put(put(YARD_D, 1, "   RNDF_name  > d "), 16, " segment_name   two  "),
+        put(put(MISSION_D, 1, "MDF_name   m "), 2, "  RNDF >d"), "ok")
+    for n, line, want in ((1, "RNDF_name d d", 7), (16, "segment_name my road", 7), (12, "end_lane /* x */ y", 3), (12, "end_lane *", 4), (12, "end_lane\x0b", 4),
+                          (12, "end lane", 5), (6, "lane>1. 1", 7), (37, "end_file" + " " * 504, "ok"), (37, "end_file" + " " * 505, 2)):
+        run("spaces: line %d is %s" % (n, line), put(YARD_D, n, line), None, want if want == "ok" else "1 %d %d" % (n, want))
+    run("a space behind end_file", YARD_D + [" "], MISSION_D + [" > "], "ok")
+    run("a field behind a space behind end_file", YARD_D, MISSION_D + [" x"], "2 15 5")
     run("empty RNDF", b"", None, "1 1 10")
     run("both empty", b"", b"", "1 1 10")
     run("empty MDF", YARD_D, b"", "2 1 10")
@@ -364,7 +376,7 @@ def edges():
     """One line changed: a value at each edge, an identifier wrong in each of its parts, the bytes next to the allowed."""
     for n, line, want in ((2, "num_segments>0", 9), (2, "num_segments>32769", 9), (3, "num_zones>32768", 9), (4, "segment>2", 9),
                           (4, "segment>1\\", 4), (4, "segment>1\x7f", 4), (4, "segment>1/*\x7f*/", 4),
-                          (4, "segment>1/*/", 3), (4, "segment>1/*/*/", "ok"), (4, "segment>1/*\x1f*/", 4), (4, "segment>1/*\x80*/", 4), (4, "segment>1 ", 4),
+                          (4, "segment>1/*/", 3), (4, "segment>1/*/*/", "ok"), (4, "segment>1/*\x1f*/", 4), (4, "segment>1/*\x80*/", 4), (4, "segment>1\x1f", 4), (4, "segment>1 /*x*/ y", 3),
                           (4, "segment>1/*~ !>*/", "ok"), (1, "RNDF_name>!~", "ok"), (5, "num_lanes>0", 9), (6, "lane>2.1", 9), (6, "lane>1.2", 9),
                           (7, "num_waypoints>0", 9), (8, "checkpoint>1.1.0>7", 9), (8, "checkpoint>1.1.3>7", 9),
                           (8, "checkpoint>2.1.1>7", 9), (8, "checkpoint>1.2.1>7", 9), (9, "stop>1.1.0", 9),

@@ -175,6 +175,8 @@ def untidy():
     run("zones: name, exits and spot's options backwards",
         ins(ins(put(YARD_D, 32, "checkpoint>3.1.2>1", "spot_width>32768"), 27, "exit>3.0.2>1.1.1", "exit>3.0.1>2.1.1"), 25, ">zone_name>Lot>"), None, ("short", "exact"))
     run("tabs all over", [">" + l.replace(">", ">>>") + ">" for l in YARD_B], None, ("exact",))
+    run("spaces all over", ["  " + l.replace(">", " > ") + " " for l in YARD_B], [l.replace(">", " ") + "  /**/ " for l in MISSION_B], ("short", "exact"))
+    run("mission with spaces all over", YARD_D, [" " + l.replace(">", "   ") + " /* x */ " for l in MISSION_D], ("exact",))
     run("comments all over", [l + "/* x > */" for l in YARD_B], [l + ">/**/>" for l in MISSION_B], ("exact",))
     run("blank lines before and behind", b"\n\r\n\t\n" + text(YARD_C) + b"\n\t\r\n/* end */", None, ("exact",))
     run("goals and limits in any order", YARD_D, put(put(MISSION_D, 4, "num_checkpoints>4"), 5, "32768", "1", "32768"), ("exact", "short"))

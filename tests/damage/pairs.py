@@ -163,11 +163,11 @@ def option_moved(rng, lines, file):
 
 
 def long_line(rng, lines, file):
-    """Lines of 511 to 514 bytes before their CR: by a comment, tabs, or a field."""
+    """Lines of 511 to 514 bytes before their CR: by a comment, tabs, spaces, or a field."""
     fields = rng.choice(lines)
     missing = rng.choice([511, 512, 512, 513, 513, 514]) - len(b"\t".join(fields))
     if missing > 4:
-        fields[-1] += rng.choice([b"/*" + b"l" * (missing - 4) + b"*/", b"\t" * missing, b"\t" + b"f" * (missing - 1), b"/*" + b"l" * (missing - 2), b"\t/**/" + b"\t" * (missing - 5)])
+        fields[-1] += rng.choice([b"/*" + b"l" * (missing - 4) + b"*/", b"\t" * missing, b" " * missing, b"\t" + b"f" * (missing - 1), b"/*" + b"l" * (missing - 2), b"\t/**/" + b"\t" * (missing - 5)])
         fields[-1] += rng.choice([b"", b"", b"\r", b"\r\r"])
 
 
@@ -240,6 +240,23 @@ def separators_changed(rng, text):
     return text[:i] + rng.choice([b"\t", b"\r", b"\n", b"\r\n", b"\n\r", b" ", b"\x0b", b"\x0c", b"\x00", b"\xa0", b"\t\t", b""]) + text[i + 1:]
 
 
+def tabs_to_spaces(rng, text):
+    """L3: an editor turns the tabs of a stretch, mostly of the whole text, into spaces."""
+    i, j = rng.choice([(0, len(text)), (0, len(text)), tuple(sorted(rng.randrange(len(text) + 1) for _ in "ab"))])
+    return text[:i] + text[i:j].replace(b"\t", b" " * rng.choice([1, 1, 2, 4, 8])) + text[j:]
+
+
+def spaces_put(rng, text):
+    """L3: a run of tabs and spaces, now and then with a byte that only looks like one, at the start or end of some lines, before or behind their comments, or inside a field."""
+    lines = text.split(b"\n")
+    for _ in range(rng.randint(1, 4)):
+        i = rng.randrange(len(lines))
+        line = lines[i]
+        at = rng.choice([0, len(line), len(line.rstrip(b"\r")), max(0, line.find(b"/*")), line.rfind(b"*/") + 2 if b"*/" in line else 0, rng.randrange(len(line) + 1)])
+        lines[i] = line[:at] + g.run_of(rng, 4) + (rng.choice([b"\x0b", b"\xa0", b"*", b"y"]) if rng.random() < 0.1 else b"") + line[at:]
+    return b"\n".join(lines)
+
+
 def byte_at_edge(rng, text):
     """A byte that is only just allowed, or only just not, in a field or a comment."""
     byte = bytes([rng.choice([0, 8, 9, 11, 13, 31, 32, 33, 41, 42, 43, 46, 47, 91, 92, 93, 125, 126, 127, 128, 255])])
@@ -272,12 +289,12 @@ LINES = [
     (g.d_delete, EVERY, 4), (g.d_double, EVERY, 4), (g.d_swap, EVERY, 4), (g.d_move, EVERY, 3), (g.d_copy, EVERY, 3), (g.d_cut, EVERY, 6), (g.d_tail, EVERY, 3),
     (lines_dropped, EVERY, 3), (lines_doubled, EVERY, 3), (lines_swapped, EVERY, 3), (part_dropped, EVERY, 3), (part_doubled, EVERY, 3),
     (g.d_other_keyword, EVERY, 4), (g.d_digit_line, EVERY, 3), (g.d_keyword, EVERY, 4), (g.d_option_again, EVERY, 8), (option_moved, EVERY, 5), (g.d_spot_checkpoint_again, RNDF, 2),
-    (g.d_long_name, EVERY, 5), (g.d_long_line, EVERY, 4), (long_line, EVERY, 8), (g.d_comment, EVERY, 7),
+    (g.d_long_name, EVERY, 5), (g.d_long_line, EVERY, 4), (long_line, EVERY, 8), (g.d_comment, EVERY, 8), (g.d_blank, EVERY, 6),
     (own_point_off, RNDF, 9), (g.d_entry, RNDF, 10), (entry_elsewhere, RNDF, 12), (g.d_same_checkpoint, RNDF, 14), (two_references, RNDF, 6),
     (g.d_rndf_name, MDF, 14), (g.d_goal, MDF, 18), (g.d_limit_id, MDF, 22), (g.d_limit_missing, MDF, 20), (g.d_limit_more, MDF, 24), (g.d_limit_speeds, MDF, 16),
 ]
 BYTES = [
-    (bytes_changed, EVERY, 12), (byte_at_edge, EVERY, 12), (cut_anywhere, EVERY, 8), (stretch_dropped, EVERY, 3), (stretch_doubled, EVERY, 3), (separators_changed, EVERY, 6), (comment_broken, EVERY, 6),
+    (bytes_changed, EVERY, 12), (byte_at_edge, EVERY, 12), (cut_anywhere, EVERY, 8), (stretch_dropped, EVERY, 3), (stretch_doubled, EVERY, 3), (separators_changed, EVERY, 6), (tabs_to_spaces, EVERY, 5), (spaces_put, EVERY, 8), (comment_broken, EVERY, 6),
 ]
 BY_FILE = {file: [(kind, often) for kind, files, often in LINES + BYTES if file in files] for file in EVERY}
 OF_TEXT = {kind for kind, _, _ in BYTES}

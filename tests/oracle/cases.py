@@ -170,19 +170,18 @@ def lines_and_comments():
             rndf("comment good: " + line, put(A, 4, line), "ok")
     bad = [("segment>1/*", 3), ("segment>1/*/", 3), ("segment>1/* x", 3),
            ("segment>1/* x *", 3), ("segment>1/* x * /", 3),
-           ("segment>1/* x */ ", 3), ("segment>1/* x */>y", 3),
+           ("segment>1/* x */ y", 3), ("segment>1/* x */>y", 3),
            ("segment>1/* a */ /* b */", 3), ("segment>1/* a *//* b */", 3),
            ("segment>1/* a */ b */", 3), ("segment>1/*a*/>*", 3),
-           ("segment>1/*a*/\\", 3), ("segment>1 /* a */", 4),
+           ("segment>1/*a*/\\", 3), ("segment>1/*a*/ \x0b", 3),
            ("segment>1*/", 4), ("segment>1*", 4), ("segment>1\\", 4),
-           ("segment 1", 4), ("segment>1 ", 4), (" segment>1", 4),
            ("segment>1/* \x1f */", 4), ("segment>1/* \x7f */", 4),
            ("segment>1/* \x00 */", 4), ("segment>1/* \x80 */", 4),
            ("segment>1/* \xff */", 4), ("segment>1\x00", 4),
            ("segment>1\x0b", 4), ("segment>1\x0c", 4), ("segment>1\x1f", 4),
            ("segment>1\x7f", 4), ("segment>1\x80", 4), ("segment>1\xff", 4),
-           ("// comment", 4), ("//comment", 5), ("#", 5), ("/", 5),
-           ("/>*", 4), ("\x00", 4), (" ", 4), ("*", 4), ("\\", 4)]
+           ("// comment", 5), ("//comment", 5), ("#", 5), ("/", 5),
+           ("/>*", 4), ("\x00", 4), ("*", 4), ("\\", 4)]
     for line, number in bad:
         rndf("comment or byte bad: %r" % line, put(A, 4, line), "1 4 %d" % number)
         mdf("MDF comment or byte bad: %r" % line, put(M, 4, line), "2 4 %d" % number)
@@ -239,6 +238,59 @@ def lines_and_comments():
     rndf("7 for no field", put(A, 4, "segment"), "1 4 7")
 
 
+# ------------------------------------------------------ L3: spaces
+
+def spaces():
+    """"a separator shall be any run of tabs and spaces, and such a run is
+    nothing at a line's start and end, also before and behind a comment"."""
+    for n, line in ((12, "end_lane "), (12, " end_lane"), (6, "lane > 1.1"),
+                    (14, "end_file /* x */ >"), (6, "lane 1.1"), (6, "  lane   1.1  "),
+                    (6, " >lane> >1.1> > "), (14, "end_file/* x */ "),
+                    (14, "end_file /* x */"), (14, " /* x */ end_file"[9:] + " "),
+                    (9, "exit 1.1.2>1.1.1"), (9, "exit>1.1.2 1.1.1"),
+                    (10, "1.1.1 45.000000 -93.000000"), (8, "checkpoint 1.1.2 7 /**/ "),
+                    (1, "RNDF_name yard_a"), (1, "  RNDF_name   yard_a   /* n */")):
+        pair("spaces: line %d is %r" % (n, line), put(A, n, line), M, "ok")
+    for n in range(1, len(A) + 2):
+        rndf("line of spaces before line %d" % n, ins(A, n, " "), "ok")
+        rndf("spaces, tab and comment before line %d" % n, ins(A, n, "  > /* c */ > "), "ok")
+    pair("spaces for tabs", [l.replace(">", " ") for l in A], [l.replace(">", " ") for l in M], "ok")
+    pair("eight spaces for tabs", [l.replace(">", " " * 8) for l in A],
+         [l.replace(">", " " * 8) for l in M], "ok")
+    pair("yard B, spaces for tabs", [l.replace(">", "    ") for l in YARD_B],
+         [l.replace(">", " > ") for l in MISSION_B], "ok")
+    pair("spaces about every line", ["  " + l + " > " for l in YARD_B],
+         [" > " + l + "  " for l in MISSION_B], "ok")
+    pair("spaces about every comment", [l + "  /* x */  " for l in YARD_B],
+         [l + " > /**/ > " for l in MISSION_B], "ok")
+    pair("spaces and CR LF", text([" " + l + " " for l in A], "\r\n"),
+         text([" " + l + " " for l in M], "\r\n"), "ok")
+    rndf("space behind the CR", put(A, 4, "segment>1\r "), "1 4 4")
+    rndf("behind end_file: spaces and comment", A + [" ", "  > ", " /* x */ "], "ok")
+    rndf("behind end_file: a field behind a space", A + [" x"], "1 15 5")
+    for size in (511, 512, 513):
+        want = "ok" if size <= 512 else "1 4 2"
+        rndf("%d spaces" % size, ins(A, 4, " " * size), want)
+        rndf("line of %d, spaces" % size, put(A, 4, "segment 1" + " " * (size - 9)), want)
+    # a name has no spaces, so its own blank makes two fields
+    rndf("segment_name my road", ins(A, 6, "segment_name my road"), "1 6 7")
+    rndf("RNDF_name with a blank", put(A, 1, "RNDF_name>yard a"), "1 1 7")
+    mdf("RNDF with a blank", put(M, 2, "RNDF>yard a"), "2 2 7")
+    rndf("blank in an identifier", put(A, 6, "lane>1. 1"), "1 6 7")
+    rndf("blank in a keyword", put(A, 12, "end lane"), "1 12 5")
+    rndf("no separator", put(A, 6, "lane1.1"), "1 6 5")
+    mdf("blank in a goal", put(M, 5, "7 7"), "2 5 7")
+    mdf("limit by spaces", put(M, 9, "1 5 0"), "ok")
+    rndf("field behind a comment and a space", put(A, 12, "end_lane /* x */ y"), "1 12 3")
+    rndf("comment behind a comment and a space", put(A, 12, "end_lane /* x */ /* y */"), "1 12 3")
+    rndf("comment open behind a space", put(A, 12, "end_lane /* x "), "1 12 3")
+    rndf("star behind a space", put(A, 12, "end_lane *"), "1 12 4")
+    for byte in "\x0b\x0c\x1f\xa0\x85\x00":
+        rndf("no separator: %r" % byte, put(A, 6, "lane%s1.1" % byte), "1 6 4")
+        rndf("no blank line: %r" % byte, ins(A, 6, byte), "1 6 4")
+    rndf("mark open in a slash and a space", put(A, 12, "end_lane/ *x*/"), "1 12 4")
+
+
 # ---------------------------------------------------------- after end_file
 
 def after_the_end():
@@ -248,7 +300,7 @@ def after_the_end():
     rndf("after end_file: digit", A + ["1.1.1>1.000000>1.000000"], "1 15 5")
     rndf("after end_file: segment", A + ["segment>2"], "1 15 5")
     rndf("after end_file: byte", A + ["\x00"], "1 15 4")
-    rndf("after end_file: space", A + [" "], "1 15 4")
+    rndf("after end_file: space", A + [" "], "ok")
     rndf("after end_file: comment open", A + ["/*"], "1 15 3")
     rndf("after end_file: tail of comment", A + ["/**/x"], "1 15 3")
     rndf("after end_file: long", A + ["x" * 513], "1 15 2")
@@ -479,7 +531,7 @@ def coordinates():
                         (".500000", 8), ("45.", 8), ("45", 8), ("-45", 8),
                         ("45.00000", 8), ("45.0000000", 8), ("45.000000.", 8),
                         ("45.000000.0", 8), ("45.00000x", 8), ("45,000000", 8),
-                        ("45.00000-", 8), ("4 5.000000", 4), ("45.0e0000", 8),
+                        ("45.00000-", 8), ("4 5.000000", 7), ("45.0e0000", 8),
                         ("-", 8), (".", 8), ("-.", 8), ("45.-00000", 8),
                         ("45..000000", 8), ("x45.000000", 8), ("0.000000-", 8),
                         ("4500.0000", 8), ("-0", 8)):
@@ -983,7 +1035,7 @@ def systematic():
             rndf("yard B line %d with its last field changed" % n,
                  put(B, n, B[n - 1] + "0"))
             rndf("yard B line %d with a space" % n,
-                 put(B, n, B[n - 1].replace(">", " ", 1)), "1 %d 4" % n)
+                 put(B, n, B[n - 1].replace(">", " ", 1)), "ok")
         if n < len(B):
             rndf("yard B lines %d and %d exchanged" % (n, n + 1),
                  put(put(B, n, B[n]), n + 1, B[n - 1]))
@@ -1020,7 +1072,7 @@ def main(directory="."):
     global writer
     path = lambda name: os.path.join(directory, name)
     writer = Writer(path("cases.bin"), path("expected.txt"), path("labels.txt"))
-    for part in (yard_a, lines_and_comments, after_the_end, integers, identifiers,
+    for part in (yard_a, lines_and_comments, spaces, after_the_end, integers, identifiers,
                  coordinates, names_and_words, several_faults, options,
                  easy_to_get_wrong, missions, rooms, systematic):
         part()

@@ -261,31 +261,38 @@ def comment(rng):
             return b"/*" + body + b"*/"
 
 
+def run_of(rng, most=3):
+    """L3: a run of tabs and spaces."""
+    return bytes(rng.choice(b"\t ") for _ in range(rng.randint(1, most)))
+
+
 def render(rng, lines, rough):
     """The text; rough from 0 (house spacing) to 1 (blanks, comments, CRs)."""
     crlf = rng.random() < rough * 0.5
+    # L3: "an editor that turns tabs into spaces"
+    usual = rng.choice([b"\t", b"\t", b" ", b" " * 4]) if rough else b"\t"
     out = []
     for fields in lines:
         while rng.random() < rough * 0.15:
-            out.append(rng.choice([b"", b"\t", b"\t\t", comment(rng), b"\r",
-                                   b"\t" + comment(rng) + b"\t"]) + b"\n")
-        between = b"\t"
+            out.append(rng.choice([b"", b"\t", b" ", run_of(rng), comment(rng), b"\r",
+                                   run_of(rng) + comment(rng) + run_of(rng)]) + b"\n")
+        between = usual
         line = fields[0]
         for field in fields[1:]:
-            if rng.random() < rough * 0.1:
-                between = b"\t" * rng.randint(1, 3)
+            if rng.random() < rough * 0.15:
+                between = run_of(rng)
             line += between + field
-        if rng.random() < rough * 0.1:
-            line = b"\t" * rng.randint(1, 2) + line
-        if rng.random() < rough * 0.1:
-            line += b"\t" * rng.randint(1, 2)
         if rng.random() < rough * 0.12:
-            line += rng.choice([b"", b"\t"]) + comment(rng) + rng.choice([b"", b"\t"])
+            line = run_of(rng) + line
+        if rng.random() < rough * 0.12:
+            line += run_of(rng)
+        if rng.random() < rough * 0.12:
+            line += rng.choice([b"", run_of(rng)]) + comment(rng) + rng.choice([b"", run_of(rng)])
         if crlf or rng.random() < rough * 0.05:
             line += b"\r"
         out.append(line + b"\n")
     while rng.random() < rough * 0.3:
-        out.append(rng.choice([b"\n", b"\t\n", b"\r\n", b"/* end */\n"]))
+        out.append(rng.choice([b"\n", run_of(rng) + b"\n", b"\r\n", b" /* end */ \n"]))
     whole = b"".join(out)
     if rng.random() < rough * 0.3:
         whole = whole[:-1]
@@ -583,16 +590,26 @@ def d_long_name(rng, lines, file):
 def d_comment(rng, lines, file):
     i = rng.randrange(len(lines))
     lines[i] = lines[i] + []
-    lines[i][-1] += rng.choice([b"/*", b"/*/", b"/* x", b"/* x */y", b"/*x*/ ",
+    lines[i][-1] += rng.choice([b"/*", b"/*/", b"/* x", b"/* x */y", b"/*x*/ ", b"/*x*/ y", b" *",
                                 b"/*a*//*b*/", b"*/", b"/*\x01*/", b"/*\r*/",
                                 b"/*\x80*/", b"/**/\r", b"/**/\r\r", b" /**/",
-                                b"/*x*/\ty", b"/* * /"])
+                                b"/*x*/\ty", b"/* * /", b"  /*x*/ \t ", b" /* x",
+                                b"/*x*/ /*y*/", b"/*x*/ \x0b", b" \x0b", b"/ *"])
+
+
+def d_blank(rng, lines, file):
+    """L3: a blank inside a field, a name most often: two fields."""
+    named = [f for f in lines if len(f) == 2 and len(f[1]) > 1 and (b"name" in f[0] or f[0] in (b"RNDF", b"format_version", b"creation_date"))]
+    fields = rng.choice(named if named and rng.random() < 0.6 else lines)
+    k = rng.randrange(len(fields))
+    at = rng.randint(0, len(fields[k]))
+    fields[k] = fields[k][:at] + rng.choice([b" ", b" ", b"  ", b"\t", b" \t"]) + fields[k][at:]
 
 
 def d_tail(rng, lines, file):
     for _ in range(rng.randint(1, 2)):
         lines.append([rng.choice([b"end_file", b"x", b"7", b"/*", b"/**/", b"*",
-                                  b"\x00", b"segment", b"/**/x"])])
+                                  b"\x00", b"segment", b"/**/x", b" ", b" x", b" /**/ "])])
 
 
 STRUCTURE = [
@@ -600,7 +617,7 @@ STRUCTURE = [
     (d_count, 4), (d_delete, 3), (d_double, 3), (d_swap, 3), (d_move, 2),
     (d_copy, 2), (d_cut, 4), (d_other_keyword, 2), (d_digit_line, 2),
     (d_keyword, 2), (d_option_again, 7), (d_long_line, 5), (d_long_name, 3),
-    (d_comment, 6), (d_tail, 2),
+    (d_comment, 6), (d_blank, 4), (d_tail, 2),
 ]
 ONLY_RNDF = [(d_spot_checkpoint_again, 2), (d_entry, 14), (d_same_checkpoint, 9)]
 ONLY_MDF = [(d_rndf_name, 9), (d_goal, 10), (d_limit_id, 10),

@@ -37,11 +37,12 @@ COUNT_ORDER = ["segments", "zones", "lanes", "points", "spots",
 BOUNDARIES = [None, b"double_yellow", b"solid_yellow", b"solid_white",
               b"broken_white"]
 
-TAB = b"\t"
+TAB = b"\t"                         # L3: "The house writing keeps its single tab."
+SPACING = b"\t "                    # L3: "any run of tabs and spaces"
 
 # "Outside comments the bytes are 33 to 126 and tab, but no backslash and no
-# `*`.  Inside, 32 to 126 and tab."
-ALLOWED_OUTSIDE = bytes(b for b in [9] + list(range(33, 127))
+# `*`.  Inside, 32 to 126 and tab."  L3: "4 is no longer given for a space".
+ALLOWED_OUTSIDE = bytes(b for b in [9] + list(range(32, 127))
                         if b not in (0x5C, 0x2A))
 ALLOWED_INSIDE = bytes([9] + list(range(32, 127)))
 
@@ -55,7 +56,7 @@ IDENTIFIER_3 = re.compile(rb"(%s)\.(%s)\.(%s)" % (_INTEGER, _INTEGER, _INTEGER))
 # `0`, a point, exactly six digits."
 COORDINATE = re.compile(rb"(-?)(0|[1-9][0-9]{0,2})\.([0-9]{6})")
 
-FIELD = re.compile(rb"[^\t]+")
+FIELD = re.compile(rb"[^\t ]+")
 
 DIGIT_LINE = "a line whose first field begins with a digit"
 
@@ -124,12 +125,13 @@ class Lines:
             # 3 "comment not closed, or followed by more than tabs":
             # "A comment begins at the first `/*` and must close with the
             # first `*/` after those two bytes, with only tabs behind it".
+            # L3: "nor 3 for spaces behind a comment".
             opened = line.find(b"/*")
             if opened >= 0:
                 closed = line.find(b"*/", opened + 2)
                 if closed < 0:
                     raise Refused(self.file, number, 3)
-                if line[closed + 2:].strip(TAB) != b"":
+                if line[closed + 2:].strip(SPACING) != b"":
                     raise Refused(self.file, number, 3)
                 outside = line[:opened]
                 inside = line[opened + 2:closed]
@@ -141,9 +143,10 @@ class Lines:
                 raise Refused(self.file, number, 4)
             if inside.translate(None, ALLOWED_INSIDE) != b"":
                 raise Refused(self.file, number, 4)
-            # "Fields are separated by one or more tabs; leading and trailing
-            # tabs are nothing. A line without fields is blank and may stand
-            # anywhere, also after `end_file`."
+            # "A line without fields is blank and may stand anywhere, also
+            # after `end_file`."  L3: "a separator shall be any run of tabs and
+            # spaces, and such a run is nothing at a line's start and end, also
+            # before and behind a comment."
             fields = []
             starts = []
             for found in FIELD.finditer(outside):

@@ -331,6 +331,16 @@ class RandomNetworks(unittest.TestCase):
             else:       # the fault stood behind end_file
                 self.assertIn(number, (2, 3, 4, 5))
 
+    def test_space_for_tab(self):
+        """L3: a space separates as a tab does, whatever the text."""
+        rng = random.Random(3)
+        for _ in range(2000):
+            mode, r, m, room = generate.one_case(rng)
+            one = casefile.judge(mode, r, m, room)
+            for a, b in ((b"\t", b" "), (b" ", b"\t")):
+                two = casefile.judge(mode, r.replace(a, b), m.replace(a, b), room)
+                self.assertEqual(vars(two), vars(one))
+
     def test_blank_lines_move_only_the_line(self):
         rng = random.Random(6)
         for _ in range(2000):
