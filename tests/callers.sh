@@ -2,7 +2,7 @@
 # tests/callers.sh           builds the library for C and Rust (`rt staticlib yard`), compiles the two worked callers in tests/callers against it, and compares what they print
 # tests/callers.sh --built   the same with the library as it was last built
 #
-# Compared: yard A as a pair and alone, yard A written untidily (its house writing is the same), yard B (every table; its answer was worked out by hand), two damaged texts and a
+# Compared: yard A as a pair and alone, yard A written untidily and with spaces for tabs (its house writing is the same), yard B (every table; its answer was worked out by hand), two damaged texts and a
 # missing file; then document 01's cases and the edges of the summary program's rules (tests/summary_cases.py), and every reply and every lent number of the oracle's corpus and of
 # 2,000 random pairs (tests/callers/corpus.c).
 # The last line is 'N passed, M failed, K skipped'; the status is 0 if none failed.
@@ -70,6 +70,10 @@ untidy() { printf '\n\t/* untidy */\n' && sed "s/${tab}/${tab}${tab}/g; s/^/${ta
 sed -n -e '/^checkpoint/{h;d}' -e 'p' -e '/^exit/{x;p}' "$a/network.rndf" >"$work/order.rndf"
 untidy "$work/order.rndf" >"$work/untidy.rndf"
 untidy "$a/mission.mdf" >"$work/untidy.mdf"
+# L3: an editor that turns tabs into spaces
+spaced() { awk '{ line = ""; while ((at = index($0, "\t")) > 0) { line = line substr($0, 1, at - 1) substr("        ", 1, 1 + n++ % 8); $0 = substr($0, at + 1) } print line $0 }' "$1"; }
+spaced "$a/network.rndf" >"$work/spaced.rndf"
+spaced "$a/mission.mdf" >"$work/spaced.mdf"
 echo 'refused 1 9 12' >"$work/entry"
 echo 'refused 2 5 15' >"$work/goal"
 echo 'no file' >"$work/missing"
@@ -77,6 +81,7 @@ echo 'no file' >"$work/missing"
 compare 'yard A' "$here/expected/yard_a" "$a/network.rndf" "$a/mission.mdf"
 compare 'the RNDF of yard A alone' "$here/expected/yard_a_alone" "$a/network.rndf"
 compare 'yard A, untidy' "$here/expected/yard_a" "$work/untidy.rndf" "$work/untidy.mdf"
+compare 'yard A, with one to eight spaces for each tab' "$here/expected/yard_a" "$work/spaced.rndf" "$work/spaced.mdf"
 compare 'yard B' "$here/expected/yard_b" "$here/yard_b/network.rndf" "$here/yard_b/mission.mdf"
 compare 'yard A with an entry 1.1.3' "$work/entry" "$work/entry.rndf" "$a/mission.mdf"
 compare 'the damaged RNDF alone' "$work/entry" "$work/entry.rndf"
