@@ -29,7 +29,7 @@
  *   kastepuhm_point_of takes a few words. Give a thread that calls them a stack to match.
  *
  * Time
- *   Linear in the length of the texts, of the lent tables and of the lent output.
+ *   Linear in the length of the texts, of the lent tables and of the lent output; of kastepuhm_points_of, see there.
  */
 #ifndef KASTEPUHM_H
 #define KASTEPUHM_H
@@ -202,7 +202,8 @@ enum {
     KASTEPUHM_NO_SUCH_ID = 16,         /* the limit's id is not in the RNDF */
     KASTEPUHM_LIMIT_AGAIN = 17,        /* the limit's id was already given */
     KASTEPUHM_LIMIT_MISSING = 18,      /* some segment or zone has no limit (line: that of end_speed_limits) */
-    KASTEPUHM_OUTPUT_TOO_LONG = 19     /* writers only, after all others: the house writing is over 16,777,215 bytes or longer than the lent output (file: the one written; line 0) */
+    KASTEPUHM_OUTPUT_TOO_LONG = 19,    /* writers only, after all others: the house writing is over 16,777,215 bytes or longer than the lent output (file: the one written; line 0) */
+    KASTEPUHM_LISTS_DIFFER = 20        /* kastepuhm_points_of only: the two lists differ in length (file 0, line 0) */
 };
 
 /* An RNDF alone. */
@@ -285,6 +286,27 @@ kastepuhm_write_answer kastepuhm_write_mdf(
 
 /* The point of the first row with that checkpoint number, or KASTEPUHM_NO_POINT if there is none or the number is 0. Any slice will do as a checkpoint table: it need not come from a reader. */
 uint32_t kastepuhm_point_of(const uint32_t *checkpoints, size_t checkpoints_length, uint32_t number);
+
+/* What the look-up of a list answers. */
+typedef struct kastepuhm_list_answer {
+    uint32_t accepted;             /* 1: every number has its answer, 0: refused */
+    uint32_t file;                 /* 0 */
+    uint32_t line;                 /* 0 */
+    uint32_t number;               /* KASTEPUHM_LISTS_DIFFER where refused; 0 where accepted */
+} kastepuhm_list_answer;
+
+/*
+ * A whole list of checkpoint numbers at one go, over any checkpoint table. points[i] becomes what kastepuhm_point_of answers for numbers[i]: an unknown number gives
+ * KASTEPUHM_NO_POINT in its place and does not stop the rest. Where the two lists differ in length, which is tested first, it is refused and every number of `points` is 0.
+ * `points` may not overlap the table or the numbers. The numbers are plain words: a list of goals as a reader leaves them can be handed over as it is.
+ *
+ * It takes time in proportion to numbers times rows, and no memory: fifty numbers over 32,768 rows took 0.75 ms, 32,768 numbers over as many rows 0.5 s, where no row has the number
+ * (Arm Neoverse-N1, the library's code compiled for it).
+ */
+kastepuhm_list_answer kastepuhm_points_of(
+    const uint32_t *checkpoints, size_t checkpoints_length,
+    const uint32_t *numbers, size_t numbers_length,
+    uint32_t *points, size_t points_length);
 
 #ifdef __cplusplus
 }

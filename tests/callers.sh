@@ -36,6 +36,7 @@ skip() { skipped=$((skipped + 1)); echo "skipped: $1"; }
 compile() { "$compiler" -std=c11 -O2 -Wall -Wextra -Wpedantic -Wconversion -Werror -static -I"$root/include" "$here/$1.c" "$library" -o "$work/$2"; }
 compile caller caller_c
 compile corpus corpus
+compile lists lists
 callers=caller_c
 target=x86_64-unknown-linux-gnu
 if ! command -v rustc >/dev/null; then
@@ -107,6 +108,12 @@ if command -v python3 >/dev/null; then
             fail "corpus.c on the oracle's ${corpus%:*}.bin"
         fi
     done
+    # the look-up of lists, and how long it takes
+    printf '#!/bin/sh\nexec %s "%s" "$@"\n' "${emulator:+\"$emulator\"}" "$work/lists" >"$work/lists.sh"
+    chmod +x "$work/lists.sh"
+    if python3 "$root/tests/lists.py" "$work/lists.sh" >"$work/printed"; then pass; else fail "lists.c beside the oracle"; fi
+    tail -n 5 "$work/printed"
+    "$work/lists.sh" time
 else
     skip "tests/summary_cases.py and the oracle's corpus: there is no python3"
 fi

@@ -10,6 +10,8 @@
 
 #if defined(__STDC_VERSION__) && __STDC_VERSION__ >= 201112L
 _Static_assert(sizeof(kastepuhm_answer) == 28 * sizeof(uint32_t), "the library's answer has 28 words");
+_Static_assert(sizeof(kastepuhm_list_answer) == 4 * sizeof(uint32_t), "a list's answer has 4 words");
+_Static_assert(KASTEPUHM_GOAL_STRIDE == 1, "a goal's row is its number");
 _Static_assert(sizeof(kastepuhm_write_answer) == 29 * sizeof(uint32_t), "a writer's answer has one word more");
 #endif
 
@@ -30,6 +32,7 @@ static uint32_t stops[ROWS * KASTEPUHM_STOP_STRIDE];
 static uint32_t exits[ROWS * KASTEPUHM_EXIT_STRIDE];
 static uint32_t goals[ROWS * KASTEPUHM_GOAL_STRIDE];
 static uint32_t limits[ROWS * KASTEPUHM_LIMIT_STRIDE];
+static uint32_t goal_points[ROWS];
 /* One byte more than a text may have: its last line may come without a line feed. */
 static uint8_t house[MOST_BYTES + 1];
 
@@ -165,11 +168,15 @@ static void print_mission(const kastepuhm_answer *a)
     printf(" for");
     print_name(mdf, a->mdf_rndf.start, a->mdf_rndf.length);
     printf("\n");
+    /* A goal's row is its number, so the rows used are a list of numbers: all of them are asked at one go. */
+    if (!kastepuhm_points_of(checkpoints, LENGTH(checkpoints), goals, a->goals, goal_points, a->goals).accepted)
+        printf("two lists of one length differ in length\n");
     for (uint32_t i = 0; i < a->goals; i++) {
-        uint32_t number = goals[(size_t)i * KASTEPUHM_GOAL_STRIDE + KASTEPUHM_GOAL_NUMBER];
-        printf("goal %" PRIu32 " point", number);
-        print_point(kastepuhm_point_of(checkpoints, LENGTH(checkpoints), number));
+        printf("goal %" PRIu32 " point", goals[i]);
+        print_point(goal_points[i]);
         printf("\n");
+        if (goal_points[i] != kastepuhm_point_of(checkpoints, LENGTH(checkpoints), goals[i]))
+            printf("asked alone it is another\n");
     }
     for (uint32_t i = 0; i < a->limits; i++) {
         const uint32_t *row = limits + (size_t)i * KASTEPUHM_LIMIT_STRIDE;

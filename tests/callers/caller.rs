@@ -55,6 +55,17 @@ mod kastepuhm {
         pub length: u32,
     }
 
+    /// What the look-up of a list answers.
+    #[repr(C)]
+    #[derive(Clone, Copy)]
+    #[allow(dead_code)]
+    pub struct ListAnswer {
+        pub accepted: u32,
+        pub file: u32,
+        pub line: u32,
+        pub number: u32,
+    }
+
     pub const NO_WIDTH: u32 = 65_535;
     pub const NO_POINT: u32 = u32::MAX;
 
@@ -131,6 +142,12 @@ mod kastepuhm {
         ) -> WriteAnswer;
 
         fn kastepuhm_point_of(checkpoints: *const u32, checkpoints_length: usize, number: u32) -> u32;
+
+        fn kastepuhm_points_of(
+            checkpoints: *const u32, checkpoints_length: usize,
+            numbers: *const u32, numbers_length: usize,
+            points: *mut u32, points_length: usize,
+        ) -> ListAnswer;
     }
 
     /// An RNDF alone.
@@ -218,6 +235,12 @@ mod kastepuhm {
         // Safe: as in `read_rndf`.
         unsafe { kastepuhm_point_of(checkpoints.as_ptr(), checkpoints.len(), number) }
     }
+
+    /// The point of each number in its place; refused (20) where the two lists differ in length.
+    pub fn points_of(checkpoints: &[u32], numbers: &[u32], points: &mut [u32]) -> ListAnswer {
+        // Safe: as in `read_rndf`.
+        unsafe { kastepuhm_points_of(checkpoints.as_ptr(), checkpoints.len(), numbers.as_ptr(), numbers.len(), points.as_mut_ptr(), points.len()) }
+    }
 }
 
 use kastepuhm::{Answer, Name, Tables, WriteAnswer};
@@ -279,8 +302,17 @@ fn print_network(a: &Answer, t: &Tables, text: &[u8]) {
 
 fn print_mission(a: &Answer, t: &Tables, text: &[u8]) {
     println!("mission {} version {} date {} for {}", name(text, a.mdf_name), name(text, a.mdf_version), name(text, a.mdf_date), name(text, a.mdf_rndf));
-    for &goal in t.goals.iter().take(a.goals as usize) {
-        println!("goal {goal} point {}", point(t, kastepuhm::point_of(&t.checkpoints, goal)));
+    // A goal's row is its number, so the rows used are a list of numbers: all of them are asked at one go.
+    let goals = &t.goals[..a.goals as usize];
+    let mut points = vec![0; goals.len()];
+    if kastepuhm::points_of(&t.checkpoints, goals, &mut points).accepted == 0 {
+        println!("two lists of one length differ in length");
+    }
+    for (&goal, &its_point) in goals.iter().zip(&points) {
+        println!("goal {goal} point {}", point(t, its_point));
+        if its_point != kastepuhm::point_of(&t.checkpoints, goal) {
+            println!("asked alone it is another");
+        }
     }
     for row in t.limits.chunks_exact(3).take(a.limits as usize) {
         println!("limit {} minimum {} maximum {}", row[0], row[1], row[2]);

@@ -816,6 +816,20 @@ def lookup(checkpoints_table, number):
     return NO_POINT
 
 
+def points_of(checkpoints_table, numbers, lent):
+    """L4: "Take a list of numbers and a lent list for the points, over any
+    checkpoint table, as the single look-up does."  `lent` is the lent list's
+    length; answers (refusal or None, what the lent list then holds)."""
+    # "20, the two lists differ in length, tested first; the lent list is then
+    # zero. Numbers from 20 on give file 0 and line 0"
+    if len(numbers) != lent:
+        return (0, 0, 20), [0] * lent
+    # "The outcome equals the single question put for each number in turn; an
+    # unknown number gives 4,294,967,295 in its place and doesn't stop the
+    # rest."
+    return None, [lookup(checkpoints_table, number) for number in numbers]
+
+
 # ------------------------------------------------------------ house writing
 
 class Network:

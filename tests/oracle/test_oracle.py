@@ -13,10 +13,11 @@ import unittest
 
 import casefile
 import generate
+import lists
 import oracle
 from oracle import (RNDF_TABLES, STRIDE, TABLES, house_mdf, house_rndf, lookup,
-                    mission_of, name_of, network_of, read_pair, read_rndf,
-                    summary, write_mdf, write_rndf)
+                    mission_of, name_of, network_of, points_of, read_pair,
+                    read_rndf, summary, write_mdf, write_rndf)
 from yards import (MDF_STATEMENTS, MISSION_B, RNDF_STATEMENTS, ROUND_1, YARD_A,
                    YARD_B, YARD_C, ins, put, text)
 
@@ -169,6 +170,25 @@ class Parts(unittest.TestCase):
         self.assertEqual(lookup([], 7), none)
         self.assertEqual(lookup([7], 7), none)
         self.assertEqual(lookup([1, 9, 7], 7), none)
+
+    def test_lists(self):
+        """L4, by hand and at random."""
+        for label, table, numbers, lent, want in lists.HAND:
+            self.assertEqual(lists.naive(table, numbers, lent), want, label)
+        rng = random.Random(7)
+        some = [case[1:4] for case in lists.HAND] + [lists.random_case(rng) for _ in range(5000)]
+        kinds = set()
+        for table, numbers, lent in some:
+            refusal, points = points_of(table, numbers, lent)
+            self.assertEqual(len(points), lent)
+            want = lists.naive(table, numbers, lent)
+            if want is None:
+                self.assertEqual((refusal, points), ((0, 0, 20), [0] * lent))
+            else:
+                self.assertEqual((refusal, points), (None, want))
+                self.assertEqual(points, [points_of(table, [n], 1)[1][0] for n in numbers])
+            kinds.add((want is None, len(table) % 2, bool(table), bool(numbers)))
+        self.assertEqual(len(kinds), 2 * 3 * 2)     # an odd table is not empty
 
     def test_name(self):
         self.assertEqual(name_of(b"abc", 0, 3), b"abc")

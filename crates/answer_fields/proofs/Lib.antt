@@ -1,4 +1,5 @@
 -- What the contracts settle, and that an answer tells the whole reply.
 pub mod Settled
 pub mod PointSettled
+pub mod ListSettled
 pub mod Whole

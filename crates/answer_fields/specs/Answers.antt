@@ -1,5 +1,6 @@
 -- WHAT A READER MUST BELIEVE. What the library for C and Rust answers, field by field, and what the lent tables and the lent output then hold. Assumes nothing.
 use mathlib.Core.Path.{_≡_}
+use mathlib.Core.List.{List}
 use Prim.Native.Nat.{ℕ}
 use Rattle.terms.specs.Ascii.{Bytes}
 use Rattle.law.specs.Network.{present}
@@ -23,7 +24,11 @@ use Rattle.writings.specs.declared.WriteMdfReply.the-variants as WriteMdf
 use Rattle.writings.specs.Writes.{WritesRndf, WritesMdf}
 use Rattle.answer_fields.specs.declared.Name.{Name}
 use Rattle.answer_fields.specs.declared.Answer.{Answer}
+use Rattle.look_up.specs.declared.ListReply.{ListReply}
+use Rattle.look_up.specs.declared.ListReply.the-variants as Listed
+use Rattle.look_up.specs.Listed.{PointsOf}
 use Rattle.answer_fields.specs.declared.WriteAnswer.{WriteAnswer}
+use Rattle.answer_fields.specs.declared.ListAnswer.{ListAnswer}
 
 -- 01: "A name is its start and length in the lent text"
 abbrev pub named : Stretch → Name
@@ -115,3 +120,13 @@ pub record AnswersWriteMdf (rndf mdf : Bytes) (t : Lent) (u : MissionLent) (lent
   pub reply : WriteMdfReply
   pub writes : WritesMdf present rndf mdf t u lent reply left mission-left out
   pub told : given ≡ write-mdf-answer reply
+
+-- ## The look-up of a list of checkpoint numbers. Request L4. t: the table; numbers: the list; lent: the length of the lent list of points; left: what it then holds
+abbrev pub list-answer : ListReply → ListAnswer
+list-answer Listed.Answered = record { accepted = 1; file = 0; line = 0; number = 0 }
+list-answer (Listed.Refused x) = record { accepted = 0; file = x .file; line = x .line; number = x .number }
+
+pub record AnswersList (t numbers : List ℕ) (lent : ℕ) (given : ListAnswer) (left : List ℕ) : Type 0 where
+  pub reply : ListReply
+  pub looks : PointsOf t numbers lent reply left
+  pub told : given ≡ list-answer reply

@@ -1,9 +1,9 @@
 // What the library for C and Rust answers, field by field (include/kastepuhm.h), and the contracts of its functions, apart from the code that keeps them. There is no code here.
 //
 // specs/Answers: the fields, for each case of a reader's or writer's reply, and the contracts: what a reader must believe, with those of the readers and writers (replies/specs/Replies,
-// writings/specs/Writes). proofs/Settled: no second answer and no second memory satisfies them, and one does. proofs/Whole: an answer tells the whole reply.
+// writings/specs/Writes) and of the look-up (look_up/specs/LookUp, Listed). proofs/Settled, PointSettled, ListSettled: no second answer and no second memory satisfies them, and one does. proofs/Whole: an answer tells the whole reply.
 //
-// Rests on `writings` and what it rests on.
+// Rests on `writings`, `look_up` and what they rest on.
 
 // A name: its start and length in the lent text. A missing name is 0, 0.
 #[repr(C)]
@@ -44,4 +44,13 @@ pub struct Answer {
 pub struct WriteAnswer {
     pub answer: Answer,
     pub length: u32,
+}
+
+// What the look-up of a list answers: accepted is 1, and file, line and number are 0; or 0, and they are the refusal's.
+#[repr(C)]
+pub struct ListAnswer {
+    pub accepted: u32,
+    pub file: u32,
+    pub line: u32,
+    pub number: u32,
 }

@@ -1,17 +1,20 @@
 // The library for C and Rust engineers: `rt staticlib yard` writes target/staticlib/libyard.a, include/kastepuhm.h declares it for C, tests/callers/caller.rs for Rust.
 // Every function here takes plain slices (C hands over a pointer, then how many elements) and numbers, requires nothing of them, keeps nothing and allocates nothing.
 //
-// The answers and the contracts are `answer_fields`, with their laws; what a reader must believe beside them: replies/specs/Replies, writings/specs/Writes, look_up/specs/LookUp.
+// The answers and the contracts are `answer_fields`, with their laws; what a reader must believe beside them: replies/specs/Replies, writings/specs/Writes, look_up/specs/LookUp, Listed.
 //
 // Left out: asking for a name (`rows::name_of`), since a part of a slice cannot be returned to C. There a name is `text + start` for `length` bytes.
 //
 // Rests on `answer_fields`, `reader`, `writer`, `look_up` and what they rest on.
 use answer_fields::Answer;
+use answer_fields::ListAnswer;
 use answer_fields::Name;
 use answer_fields::WriteAnswer;
 use counts::Counts;
 use counts::MissionCounts;
+use look_up::ListReply;
 use look_up::point_of_word;
+use look_up::points_of;
 use reader::read_pair;
 use reader::read_rndf;
 use refusal::Refusal;
@@ -28,7 +31,7 @@ ghost use mathlib.Core.Path.{_≡_};
 ghost use lib.ListN.{length};
 ghost use Rattle.law.specs.Tables.{lent, mission-lent};
 ghost use Rattle.look_up.specs.LookUp.{PointOf};
-ghost use Rattle.answer_fields.specs.Answers.{named, laid-out, taken, refused, rndf-answer, pair-answer, write-answer, write-mdf-answer, AnswersRndf, AnswersPair, AnswersWriteRndf, AnswersWriteMdf};
+ghost use Rattle.answer_fields.specs.Answers.{named, laid-out, taken, refused, rndf-answer, pair-answer, write-answer, write-mdf-answer, list-answer, AnswersRndf, AnswersPair, AnswersWriteRndf, AnswersWriteMdf, AnswersList};
 
 fn named(s: Stretch) -> Name
     ensures { λ r. ⌜ r ≡ named s ⌝ }
@@ -172,6 +175,25 @@ fn write_mdf_answer(reply: WriteMdfReply) -> WriteAnswer
     }
 }
 
+fn list_answer(reply: ListReply) -> ListAnswer
+    ensures { λ r. ⌜ r ≡ list-answer reply ⌝ }
+{
+    match reply {
+        ListReply::Answered => ListAnswer {
+            accepted: 1,
+            file: 0,
+            line: 0,
+            number: 0,
+        },
+        ListReply::Refused(why) => ListAnswer {
+            accepted: 0,
+            file: why.file as u32,
+            line: why.line,
+            number: why.number as u32,
+        },
+    }
+}
+
 // An RNDF alone.
 #[no_mangle]
 pub extern "C" fn kastepuhm_read_rndf(
@@ -310,4 +332,17 @@ pub extern "C" fn kastepuhm_point_of(checkpoints: &[u32], number: u32) -> u32
     ensures { λ r. ⌜ PointOf (now (checkpoints .entry)) number r ⌝ }
 {
     point_of_word(checkpoints, number)
+}
+
+// The point of each checkpoint number of a list, in its place.
+#[no_mangle]
+pub extern "C" fn kastepuhm_points_of(
+    checkpoints: &[u32],
+    numbers: &[u32],
+    points: &mut [u32],
+) -> ListAnswer
+    ensures { λ r. ⌜ AnswersList (now (checkpoints .entry)) (now (numbers .entry)) (length (now (points .entry))) r (now (points .exit)) ⌝ }
+{
+    let reply = points_of(checkpoints, numbers, points);
+    list_answer(reply)
 }

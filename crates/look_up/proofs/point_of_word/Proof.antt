@@ -1,7 +1,7 @@
 -- `look_up::point_of_word` meets its contract: no row that was passed has the number. Assumes nothing.
 use mathlib.Core.Path.{refl, _∙_}
 use mathlib.Core.Logic.{inl, inr}
-use Prim.Native.Nat.{_-_, _<_, _≤_, zero-le}
+use Prim.Native.Nat.{_-_, _<_, _≤_}
 use native.Mathlib.Omega.{arith}
 use lib.ListN.{length}
 use borrow.Author.Needs.{needs}
@@ -21,11 +21,14 @@ abbrev μ-loop : tie.MeasureT-loop
 returns : tie.Need-returns Inv-loop μ-loop
 returns c = no-row (inl (c .if1 .taken)) refl
 
+passed-requires : tie.Need-passed-requires Inv-loop μ-loop
+passed-requires c κs = search needs
+
 rows-of-requires : tie.Need-rows-of-requires Inv-loop μ-loop
 rows-of-requires c κs = search needs
 
 loop-holds : tie.Need-loop-holds Inv-loop μ-loop
-loop-holds c = (zero-le, λ j point l row. omega arith)
+loop-holds c = let p = c .before .passed .ensures in (rw (c .rows-of .ensures) (p .0), p .1)
 
 mul-at : tie.Need-mul-at Inv-loop μ-loop
 mul-at c = search needs
@@ -48,9 +51,9 @@ shared-slice-read-result c = search needs
 returns-2 : tie.Need-returns-2 Inv-loop μ-loop
 returns-2 c =
     let b = c .before .before .before .before in
-    let a = b .before .before .before .before .args in
+    let a = b .before .before .before .before .before .args in
     let h : b .loop .row < rowsOf (length (a .checkpoints .now)) checkpointStride = rw (b .before .rows-of .ensures) at (c .before .before .before .loop-test .taken) in
-    first-row (b .loop .row) (b .before .before .if1 .left) (row-words (a .checkpoints .now) (b .loop .row) h ∙ rw (c .before .if2 .taken)) (b .loop .inv .1)
+    first-row (b .loop .row) (b .before .before .before .if1 .left) (row-words (a .checkpoints .now) (b .loop .row) h ∙ rw (c .before .if2 .taken)) (b .loop .inv .1)
 
 add-row : tie.Need-add-row Inv-loop μ-loop
 add-row c = search needs
@@ -61,14 +64,14 @@ loop-less c = search needs
 loop-again : tie.Need-loop-again Inv-loop μ-loop
 loop-again c =
     let b = c .before .before .before in
-    let a = b .before .before .before .before .args in
+    let a = b .before .before .before .before .before .args in
     let h : b .loop .row < rowsOf (length (a .checkpoints .now)) checkpointStride = rw (b .before .rows-of .ensures) at (c .before .before .loop-test .taken) in
     (omega arith, one-more (a .checkpoints .now) (b .loop .row) (a .wanted) h (c .if2 .left) (b .loop .inv .1))
 
 returns-3 : tie.Need-returns-3 Inv-loop μ-loop
 returns-3 c =
     let b = c .before in
-    let a = b .before .before .before .before .args in
+    let a = b .before .before .before .before .before .args in
     let h : rowsOf (length (a .checkpoints .now)) checkpointStride ≤ b .loop .row = rw (b .before .rows-of .ensures) at (c .loop-test .left) in
     no-row (inr (none-at-all (a .checkpoints .now) (b .loop .row) (a .wanted) h (b .loop .inv .1))) refl
 
@@ -79,6 +82,7 @@ point-of-word-spec =
     Inv-loop
     μ-loop
     returns
+    passed-requires
     rows-of-requires
     loop-holds
     mul-at
