@@ -8,7 +8,7 @@ use Rattle.terms.specs.Ascii.{Bytes, ascii}
 abbrev pub no-reason : Bytes
 no-reason = ascii "no such refusal"
 
--- 01, "Refusal numbers": from 0, which none has, to 19
+-- 01, "Refusal numbers", and those that the requests add (L4: 20): from 0, which none has
 unfoldable pub reasons : List Bytes
 reasons =
     no-reason
@@ -31,6 +31,7 @@ reasons =
     ∷ ascii "the limit's id was already given"
     ∷ ascii "some segment or zone has no limit"
     ∷ ascii "the house writing is over 16,777,215 bytes, or longer than the lent output"
+    ∷ ascii "the two lists differ in length"
     ∷ []
 
 unfoldable pub reason : ℕ → Bytes

@@ -18,7 +18,7 @@ ghost use Rattle.answers.specs.Answers.{at-line, sentence, refused, coun
 
 // ## Refusals
 
-// THE TABLE of reasons, in four parts, each of which hands on the numbers that it does not have: to check a `match` whose arms each call something takes as long as the square of
+// THE TABLE of reasons, in five parts, each of which hands on the numbers that it does not have: to check a `match` whose arms each call something takes as long as the square of
 // the arms. README.md's table of refusal numbers has the same words (tests/reasons.py).
 
 // 1 to 4: the text's bytes. The others: see below.
@@ -82,7 +82,7 @@ fn put_reason_from_10(out: &mut [u8], at: usize, number: u8) -> usize
     }
 }
 
-// 15 to 18: references of the MDF; 19: the writers. No reply has another number.
+// 15 to 18: references of the MDF; 19: the writers.
 fn put_reason_from_15(out: &mut [u8], at: usize, number: u8) -> usize
     ensures { λ r. ⌜ Wrote (pen (now (out .entry)) at) (reason-from 15 number) (pen (now (out .exit)) r) ⌝ }
 {
@@ -96,6 +96,16 @@ fn put_reason_from_15(out: &mut [u8], at: usize, number: u8) -> usize
             at,
             b"the house writing is over 16,777,215 bytes, or longer than the lent output",
         ),
+        _ => put_reason_from_20(out, at, number),
+    }
+}
+
+// From 20 on: what the requests add. No reply has another number.
+fn put_reason_from_20(out: &mut [u8], at: usize, number: u8) -> usize
+    ensures { λ r. ⌜ Wrote (pen (now (out .entry)) at) (reason-from 20 number) (pen (now (out .exit)) r) ⌝ }
+{
+    match number {
+        20 => put_bytes(out, at, b"the two lists differ in length"),
         _ => put_bytes(out, at, b"no such refusal"),
     }
 }
