@@ -1,4 +1,3 @@
 -- Laws of judging a line.
-pub mod Bodies
 pub mod Judged
 pub mod RndfTies

@@ -1,11 +1,9 @@
 // What a refusal says, in one shape for every crate: line and number of the text at hand (`Fault`), and with the file (`Refusal`) as the entry points reply it.
 //
-// specs/Shapes: both, made of their numbers. specs/Numbers: which numbers are of form and which of references, in document 01's words. specs/Size: 1, a text that is too long.
+// specs/Shapes: a fault made of its numbers. specs/Numbers: which numbers are of form and which of references, in document 01's words. specs/Size: 1, a text that is too long.
 // proofs/Apart: the numbers of form, of references, 1, 10 and 11 are apart. proofs/Sized: either side of the longest text.
 //
 // Rests on `terms`.
-ghost use mathlib.Core.Path.{_≡_};
-ghost use Rattle.refusal.specs.Shapes.{in-file};
 
 // 1: a text over so many bytes.
 pub const LONGEST_TEXT: usize = 16777215;
@@ -27,17 +25,4 @@ pub struct Refusal {
 pub enum References {
     Right,
     Wrong(Fault),
-}
-
-impl Fault {
-    // The refusal of a text that is this file.
-    pub fn in_file(self, file: u8) -> Refusal
-        ensures { λ r. ⌜ r ≡ in-file file self ⌝ }
-    {
-        Refusal {
-            file,
-            line: self.line,
-            number: self.number,
-        }
-    }
 }

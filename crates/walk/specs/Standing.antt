@@ -10,10 +10,6 @@ use Rattle.line.specs.Forms.{formOf, fieldsAt}
 use Rattle.line.specs.declared.Form as Form
 use Rattle.line.specs.declared.Form.the-variants.{Bad, Body}
 
--- 01: 1 "text over 16,777,215 bytes": the longest text that is walked
-abbrev pub most : ℕ
-most = 16777215
-
 -- where a line starts in the text, and its number
 pub record Where : Type 0 where
   pub start : ℕ

@@ -1,4 +1,4 @@
-use Rattle.judge.proofs.Bodies.{body-within}
+use Rattle.line.proofs.Faults.{body-within}
 use Rattle.mission_judge.specs.MdfLine.{mdfKind, verdict, lineBy}
 use Rattle.judge.specs.Judging.{Got, taken, valued, ofKind, known, told, formed, content, line}
 use borrow.Author.Tests.{eq-eqb, ne-eqb, lt-ltb, le-ltb}
