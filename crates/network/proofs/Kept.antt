@@ -20,7 +20,8 @@ use Rattle.rows.specs.Lay.{rowsOf, putRow}
 use Rattle.rows.specs.Columns.{segmentWords, laneWords, zoneWords, spotWords, checkpointWords, stopWords}
 use Rattle.rows.specs.Table.{tableOf, putRows}
 use Rattle.progress.specs.After.{widthOf, width-read, numberOf, number-read, fileRow}
-use Rattle.progress.specs.Given.{fitted}
+use Rattle.room.specs.Room.{fitted}
+use Rattle.room.proofs.Fitted.{fitted-kept}
 use Rattle.progress.specs.Shown.{shown-if-given, shown-file, shown-segment, shown-lane, shown-zone, shown-spot}
 use Rattle.progress.proofs.Shown.{missing-shown}
 use Rattle.table_words.specs.Words.{name-words, segment-words, lane-words, zone-words, spot-words, checkpoint-words, stop-words}
@@ -42,8 +43,9 @@ number-kept : (w : ℕ) → Between 1 largest w → numberOf w .0 ≡ w
 unfolding numberOf
 number-kept w b = ap (λ (x : CheckpointNumberRead). number-read x .0) (checkpoint-number-is (record { low = b .low; high = b .high }))
 
-pub fitted-kept : (n points : ℕ) → n < points → points ≤ most → fitted n ≡ n
-fitted-kept n points h l = omega arith
+-- the row of a point that there is fits into a word
+pub row-kept : (n points : ℕ) → n < points → points ≤ most → fitted n ≡ n
+row-kept n points h l = fitted-kept n (omega arith)
 
 -- ## Rows. `points`: how many there are
 pub lane-kept : (points : ℕ) (r : T.LaneRow) → LaneBounds points r → laneWords (shown-lane r) ≡ lane-words r
@@ -53,10 +55,10 @@ pub spot-kept : (points : ℕ) (r : T.SpotRow) → SpotBounds points r → spotW
 spot-kept points r b = ap (λ (w : ℕ). r .first-point ∷ w ∷ []) (width-kept (r .width) (b .width))
 
 pub checkpoint-kept : (points : ℕ) → points ≤ most → (r : T.CheckpointRow) → CheckpointBounds points r → checkpointWords (shown-checkpoint r) ≡ checkpoint-words r
-checkpoint-kept points l r b = ap₂ (λ (a p : ℕ). a ∷ p ∷ []) (number-kept (r .number) (b .number)) (fitted-kept (r .point) points (b .inside) l)
+checkpoint-kept points l r b = ap₂ (λ (a p : ℕ). a ∷ p ∷ []) (number-kept (r .number) (b .number)) (row-kept (r .point) points (b .inside) l)
 
 pub stop-kept : (points : ℕ) → points ≤ most → (n : ℕ) → n < points → stopWords (shown-stop n) ≡ stop-words n
-stop-kept points l n h = ap (λ (p : ℕ). p ∷ []) (fitted-kept n points h l)
+stop-kept points l n h = ap (λ (p : ℕ). p ∷ []) (row-kept n points h l)
 
 -- ## Names: by start and length, in both
 abbrev starts : Field → ℕ

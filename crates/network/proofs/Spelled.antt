@@ -52,7 +52,7 @@ use Rattle.network.proofs.Answered.{filled-over, no-fault, found-rows}
 use Rattle.network.proofs.ExitLines.{exit-starts, exits-at}
 use Rattle.network.proofs.Stored.{told, shown-point, shown-checkpoint, shown-stop, exit-point}
 use Rattle.network.proofs.Gathered.{nothing-yet, rows-given, state-behind, progress-behind, exits-given, points-so-far, filled-read}
-use Rattle.network.proofs.Kept.{fitted-kept, lane-kept, spot-kept, checkpoint-kept, stop-kept, segment-kept, zone-kept, file-kept, table-kept}
+use Rattle.network.proofs.Kept.{row-kept, lane-kept, spot-kept, checkpoint-kept, stop-kept, segment-kept, zone-kept, file-kept, table-kept}
 use Rattle.network.proofs.Holding.{at-first, CountsNetwork, exits-by-line, HoldsNetwork, CountedNetwork, FilledNetwork}
 
 module _ (n : Network Field) (ts : List (Statement Field)) (s : SpellsNetwork n ts) where
@@ -122,7 +122,7 @@ module _ (n : Network Field) (text : Bytes) (h : SpellsRndf n text) where
         let l : length (tables-unresolved n .points) ≤ most = subst (λ (c : Counts). c .points ≤ most) (sizes-with (point-row n) n) few-points in
         let kept : map exit-point (tables-unresolved n .exits) ≡ map (λ r. r .point) (tables-unresolved n .exits)
         = map-same exit-point (λ r. r .point) (tables-unresolved n .exits)
-        (each-map (λ r. r .point < length (tables-unresolved n .points)) (λ r. exit-point r ≡ r .point) (λ r k. fitted-kept (r .point) (length (tables-unresolved n .points)) k l) (tables-unresolved n .exits) e) in
+        (each-map (λ r. r .point < length (tables-unresolved n .points)) (λ r. exit-point r ≡ r .point) (λ r k. row-kept (r .point) (length (tables-unresolved n .points)) k l) (tables-unresolved n .exits) e) in
         let other : map (λ (r : T.ExitRow ℕ). r .point) (tables n .exits) ≡ map (λ r. r .point) (tables-unresolved n .exits)
         = ap (map (λ (r : T.ExitRow ℕ). r .point)) (sym (exits-with (point-row n) n)) ∙ map-map (λ (r : T.ExitRow ℕ). r .point) (with-entry (point-row n)) (tables-unresolved n .exits) in
         ap (λ (ps : List ℕ). exits-at ps exit-line-starts) (ap (map exit-point) a ∙ kept ∙ sym other)

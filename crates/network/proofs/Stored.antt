@@ -31,7 +31,7 @@ use Rattle.rows.proofs.Tables.{put-rows-append}
 use Rattle.progress.specs.declared.Progress.{Progress}
 use Rattle.progress.specs.declared.Row as DR
 use Rattle.progress.specs.After.{numberOf}
-use Rattle.progress.specs.Given.{fitted}
+use Rattle.room.specs.Room.{fitted}
 use Rattle.progress.specs.Shown.{shown, shown-row, shown-segment, shown-lane, shown-zone, shown-spot, first-after, within-after}
 use Rattle.progress.proofs.Shown.{after-shown, points-kept, row-shown}
 use Rattle.walk.specs.Standing.{Where, over}

@@ -3,7 +3,7 @@
 use mathlib.Core.Path.{_≡_, refl, sym, ap, ap₂, subst, _∙_}
 use mathlib.Core.List.{List, [], _∷_, map, map-map, head-eq-of-cons-eq, tail-eq-of-cons-eq, nil≢cons}
 use mathlib.Core.Option.{Option, none, some}
-use Prim.Native.Nat.{ℕ, suc, min, _*_, _≤_, _<_}
+use Prim.Native.Nat.{ℕ, suc, _*_, _≤_, _<_}
 use native.Mathlib.Omega.{arith}
 use lib.ListN.{length, length-map}
 use Rattle.terms.specs.Ascii.{Bytes}
@@ -27,6 +27,8 @@ use Rattle.text.specs.Answers.{read}
 use Rattle.text.proofs.Theorems.{read-rndf, rndf-file}
 use Rattle.text.proofs.TextReading.{spelled-read}
 use Rattle.units.specs.Range.{Numbered}
+use Rattle.room.specs.Room.{fitted}
+use Rattle.room.proofs.Fitted.{fitted-kept}
 use Rattle.rows.specs.Columns.{exitWords, checkpointWords}
 use Rattle.rows.specs.Table.{tableOf}
 use Rattle.rows.specs.declared.ExitRow.{ExitRow}
@@ -48,7 +50,7 @@ use Rattle.table_words.proofs.Bounds.{CheckpointBounds, spelled-bounded}
 use Rattle.table_words.proofs.RowsAtMost.{rows-at-most}
 use Rattle.walk.specs.Standing.{places-in}
 use Rattle.references.specs.Finding.{lookIn}
-use Rattle.references.specs.Exits.{inWord, done, at, resolvedFrom, entryOfRow, entryFault, resolvedRow, picked}
+use Rattle.references.specs.Exits.{done, at, resolvedFrom, entryOfRow, entryFault, resolvedRow, picked}
 use Rattle.marks.specs.Tests.{rowOf, firstRepeat}
 use Rattle.references.proofs.Exits as Exits
 use Rattle.references.proofs.Repeats as Repeats
@@ -83,10 +85,10 @@ module _ {E : Type 0} where
 
 -- the row that such a row becomes
 abbrev found-row : Look → ℕ → G.ExitRow PointId → ExitRow
-found-row k m a = record { point = a .point; entry = inWord (or-zero (resolve m k (a .entry))) }
+found-row k m a = record { point = a .point; entry = fitted (or-zero (resolve m k (a .entry))) }
 
 found-fits : (k : Look) (m : ℕ) (a : G.ExitRow PointId) (i : ℕ) → resolve m k (a .entry) ≡ some i → i ≤ 4294967295 → found-row k m a ≡ shown-exit (with-entry (λ e. i) a)
-found-fits k m a i e h = let fits : min i 4294967295 ≡ i = omega arith in ap (λ (o : Option ℕ). record { point = a .point; entry = inWord (or-zero o) }) e ∙ ap (λ (j : ℕ). record { point = a .point; entry = j }) fits
+found-fits k m a i e h = ap (λ (o : Option ℕ). record { point = a .point; entry = fitted (or-zero o) }) e ∙ ap (λ (j : ℕ). record { point = a .point; entry = j }) (fitted-kept i h)
 
 rows-resolved : (text : Bytes) (k : Look) (m : ℕ) (exits : List (G.ExitRow PointId)) (starts : List ℕ) → map (entry-at text) starts ≡ map (λ a. a .entry) exits → map (resolvedRow text k m) (at-starts exits starts) ≡ map (found-row k m) exits
 unfolding at-starts
@@ -94,7 +96,7 @@ rows-resolved text k m [] [] e = refl
 rows-resolved text k m [] (s ∷ starts) e = absurd (nil≢cons (sym e))
 rows-resolved text k m (a ∷ exits) [] e = absurd (nil≢cons e)
 rows-resolved text k m (a ∷ exits) (s ∷ starts) e =
-    ap₂ (λ (i : PointId) (rs : List ExitRow). record { point = a .point; entry = inWord (or-zero (resolve m k i)) } ∷ rs) (head-eq-of-cons-eq e) (rows-resolved text k m exits starts (tail-eq-of-cons-eq e))
+    ap₂ (λ (i : PointId) (rs : List ExitRow). record { point = a .point; entry = fitted (or-zero (resolve m k i)) } ∷ rs) (head-eq-of-cons-eq e) (rows-resolved text k m exits starts (tail-eq-of-cons-eq e))
 
 -- ## The text's exits
 -- `ts`: what is read of the text

@@ -1,16 +1,13 @@
 -- Executable: the row that a statement gives, over the program's types. A part's row comes out at its end word. Assumes nothing.
-use Prim.Native.Nat.{ℕ, min}
+use Prim.Native.Nat.{ℕ}
 use Rattle.grammar.specs.Tables.{row-of}
+use Rattle.room.specs.Room.{fitted}
 use Rattle.statement.specs.declared.Statement.{Statement}
 use Rattle.statement.specs.declared.Statement.the-variants as st
 use Rattle.progress.specs.declared.Progress.{Progress}
 use Rattle.progress.specs.declared.Row.{Row}
 use Rattle.progress.specs.declared.Row.the-variants as Row
 use Rattle.progress.specs.After.{numberOf, next-point}
-
--- a row that does not fit into 32 bits is the last that does
-abbrev pub fitted : ℕ → ℕ
-fitted n = min n 4294967295
 
 -- the row of waypoint z of the part that is open. Options come before the points of their part, so its first point is the next row of the points
 abbrev pub pointOf : Progress → ℕ → ℕ

@@ -16,7 +16,7 @@ use Rattle.progress.specs.declared.Progress.{Progress}
 use Rattle.progress.specs.declared.Row.{Row}
 use Rattle.progress.specs.declared.Row.the-variants as Row
 use Rattle.progress.specs.After.{named, noName, fileRow, segmentRow, laneRow, zoneRow, spotRow, widthOf, numberOf}
-use Rattle.progress.specs.Given.{fitted}
+use Rattle.room.specs.Room.{fitted}
 
 -- ## Names and rows
 abbrev pub shown-name : Stretch → RS.Stretch

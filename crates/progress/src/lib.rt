@@ -4,7 +4,8 @@
 // specs/After, specs/Given: the same, executable, which the contracts cite. specs/Shown: a state and a row of the theory `fill`, as the program has them.
 // proofs/Shown: the running form agrees with `fill`, statement by statement; no statement adds more than one row.
 //
-// Rests on `rows` (the rows by value), `units`, `statement`, `fill`, `grammar` and `terms`.
+// Rests on `rows` (the rows by value), `room` (a row's number in a word), `units`, `statement`, `fill`, `grammar` and `terms`.
+use room::in_word;
 use rows::CheckpointRow;
 use rows::ExitRow;
 use rows::FileRow;
@@ -42,8 +43,8 @@ const END_ZONE: u8 = 21;
 
 const END_SPOT: u8 = 27;
 
-// What stands for a row of the points that does not fit into 32 bits, and the number of rows from which on nothing more is counted. No text that is accepted has so many.
-const LAST_ROW: u32 = 4294967295;
+// The number of rows from which on nothing more is counted. No text that is accepted has so many.
+const FULL: u32 = 4294967295;
 
 pub struct Progress {
     // rows so far
@@ -261,7 +262,7 @@ impl Progress {
             + self.zones as usize
             + self.spots as usize;
         let lines = parts + self.checkpoints as usize + self.stops as usize + self.exits as usize;
-        LAST_ROW as usize <= lines + self.first as usize + self.within as usize
+        FULL as usize <= lines + self.first as usize + self.within as usize
     }
 
     fn onward(self, s: Statement) -> Progress
@@ -323,12 +324,7 @@ impl Progress {
     fn point_row(self, z: u32) -> u32
         ensures { λ r. ⌜ r ≡ pointOf self z ⌝ }
     {
-        let row = self.first as usize + self.within as usize + rows_behind(z) as usize;
-        if row < LAST_ROW as usize {
-            row as u32
-        } else {
-            LAST_ROW
-        }
+        in_word(self.first as usize + self.within as usize + rows_behind(z) as usize)
     }
 
     // The points of a lane, perimeter or spot begin behind those of the part before.

@@ -16,11 +16,11 @@ use Rattle.fill.specs.FirstFaults.{parts-of}
 use Rattle.fill.proofs.ReferenceLaws.{parts-are}
 use Rattle.rows.specs.declared.FileRow.{FileRow}
 use Rattle.rows.specs.declared.MissionFileRow.{MissionFileRow}
-use Rattle.rows.proofs.Forms.{kept}
 use Rattle.table_words.specs.Words.{Lent, MissionLent, zeros, mission-zeros, network-filled, mission-filled}
 use Rattle.table_words.specs.FileRows.{network-file, mission-file}
 use Rattle.table_words.proofs.RowsAtMost.{rows-at-most}
-use Rattle.progress.specs.Given.{fitted}
+use Rattle.room.specs.Room.{fitted}
+use Rattle.room.proofs.Fitted.{fitted-kept}
 use Rattle.counts.specs.declared.Counts.{Counts}
 use Rattle.network_reader.specs.Replies.{rows-used, AcceptsRndf, RefusesRndf}
 use Rattle.network_reader.specs.Reading as N
@@ -85,7 +85,7 @@ told-so : (rndf : Bytes) (t : Lent) (n : Network Field) → AcceptsRndf rndf t n
 told-so rndf t n a c file left p q r =
     let few = rows-at-most n rndf (a .spelled) in
     let size = a .size in
-    let parts : fitted (sizes (tables n) .segments + sizes (tables n) .zones) ≡ length (n .segments) + length (n .zones) = kept (sizes (tables n) .segments + sizes (tables n) .zones) 4294967295 (let x = few .segments in let y = few .zones in omega arith) ∙ parts-are (point-row n) n in
+    let parts : fitted (sizes (tables n) .segments + sizes (tables n) .zones) ≡ length (n .segments) + length (n .zones) = fitted-kept (sizes (tables n) .segments + sizes (tables n) .zones) (let x = few .segments in let y = few .zones in omega arith) ∙ parts-are (point-row n) n in
     rw (p, q, r, parts) refl
 
 module _ (rndf mdf : Bytes) (t : Lent) (u : MissionLent) (n : Network Field) (a : AcceptsRndf rndf t n) (c : Counts) (file : FileRow) (left : Lent) (p : c ≡ rows-used (sizes (tables n))) (q : file ≡ network-file n) (r : left ≡ network-filled n t) where

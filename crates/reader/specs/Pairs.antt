@@ -4,7 +4,7 @@ use Rattle.terms.specs.Ascii.{Bytes}
 use Rattle.rows.specs.declared.FileRow.{FileRow}
 use Rattle.rows.specs.declared.MissionFileRow.{MissionFileRow}
 use Rattle.table_words.specs.Words.{Lent, MissionLent}
-use Rattle.progress.specs.Given.{fitted}
+use Rattle.room.specs.Room.{fitted}
 use Rattle.counts.specs.declared.Counts.{Counts}
 use Rattle.network_reader.specs.Reading as N
 use Rattle.network_reader.specs.Reading.{readOf}

@@ -19,7 +19,7 @@ use room::in_word;
 use rows::FileRow;
 use rows::clear;
 ghost use mathlib.Core.Path.{_≡_};
-ghost use Rattle.progress.specs.Given.{fitted};
+ghost use Rattle.room.specs.Room.{fitted};
 ghost use Rattle.law.specs.Network.{present};
 ghost use Rattle.law.specs.Tables.{lent, mission-lent};
 ghost use Rattle.replies.specs.Replies.{ReadsRndf, ReadsPair};

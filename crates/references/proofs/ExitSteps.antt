@@ -6,6 +6,7 @@ use Prim.Native.Nat.{ℕ, zero, suc, _+_, _-_, _<_, _≤_}
 use native.Mathlib.Numerals.{add-one}
 use native.Mathlib.Omega.{arith}
 use Rattle.terms.specs.Ascii.{Bytes}
+use Rattle.room.specs.Room.{fitted}
 use Rattle.rows.specs.Lay.{putRow}
 use Rattle.rows.specs.Strides.{exitStride}
 use Rattle.rows.specs.Columns.{exitWords}
@@ -13,11 +14,11 @@ use Rattle.rows.specs.Read.{exitAt}
 use Rattle.rows.specs.declared.ExitRow.{ExitRow}
 use Rattle.fill.specs.Resolve.{Look}
 use Rattle.references.specs.Finding.{found}
-use Rattle.references.specs.Exits.{namedAt, inWord, putPoint, Outcome, done, at, onward, resolvedFrom, withFound, leftOn, leftFrom}
+use Rattle.references.specs.Exits.{namedAt, putPoint, Outcome, done, at, onward, resolvedFrom, withFound, leftOn, leftFrom}
 use Rattle.references.specs.declared.Found.{Found}
 
 -- the table with the point, as it is stored
-pub stored : (t : List ℕ) (row i : ℕ) (e : ExitRow) (w : ℕ) (u : List ℕ) → e ≡ exitAt t row → w ≡ inWord i → u ≡ putRow exitStride t row (exitWords (record { point = e .point; entry = w })) → u ≡ putPoint t row i
+pub stored : (t : List ℕ) (row i : ℕ) (e : ExitRow) (w : ℕ) (u : List ℕ) → e ≡ exitAt t row → w ≡ fitted i → u ≡ putRow exitStride t row (exitWords (record { point = e .point; entry = w })) → u ≡ putPoint t row i
 stored t row i e w u read word put = put ∙ ap₂ (λ (e : ExitRow) (w : ℕ). putRow exitStride t row (exitWords (record { point = e .point; entry = w }))) read word
 
 module _ (text : Bytes) (look : Look) (m : ℕ) (t : List ℕ) (row : ℕ) where

@@ -2,8 +2,9 @@
 use mathlib.Core.List.{List, map}
 use mathlib.Core.Option.{Option, none, some}
 use mathlib.Core.Bool.{Bool, true, false}
-use Prim.Native.Nat.{ℕ, zero, suc, min}
+use Prim.Native.Nat.{ℕ, zero, suc}
 use Rattle.terms.specs.Ascii.{Bytes}
+use Rattle.room.specs.Room.{fitted}
 use Rattle.rows.specs.Lay.{putRow}
 use Rattle.rows.specs.Strides.{exitStride}
 use Rattle.rows.specs.Columns.{exitWords}
@@ -22,12 +23,8 @@ use Rattle.marks.specs.declared.FirstRow.the-variants as R
 unfoldable pub namedAt : Bytes → Look → (m start : ℕ) → Option ℕ
 namedAt text look m start = resolve m look (point-of (entryOf (lineAt text start)))
 
--- a row number in a word of 32 bits
-abbrev pub inWord : ℕ → ℕ
-inWord i = min i 4294967295
-
 abbrev pub withPoint : ExitRow → ℕ → ExitRow
-withPoint e i = record { point = e .point; entry = inWord i }
+withPoint e i = record { point = e .point; entry = fitted i }
 
 -- the table with this point in the second word of a row
 abbrev pub putPoint : List ℕ → (row point : ℕ) → List ℕ

@@ -6,7 +6,7 @@
 // specs/: the same, executable, over the words of the tables. proofs/: Entries, the entry is the one that `text` reads of the line; Exits and Repeats,
 // over the tables of given rows the answers are those of `fill`'s specs/FirstFaults.
 //
-// Rests on `marks` (which row is the first), `rows`, `read_rows`, `line`, `number`, `scan`, `statement`, `fill`, for its laws on `text`, and on what these rest on.
+// Rests on `marks` (which row is the first), `room` (a row's number in a word), `rows`, `read_rows`, `line`, `number`, `scan`, `statement`, `fill`, for its laws on `text`, and on what these rest on.
 //
 // Settled: every contract here gives the answer by an executable function, and what a lent table holds by another, also where the answer is a row at fault: no second answer and no
 // second memory satisfies it. Contracts that give the answer by what it stands for (`found r`, `told r ..`) are settled by proofs/Settled.
@@ -21,6 +21,7 @@ use read_rows::exit_at;
 use read_rows::lane_at;
 use read_rows::segment_at;
 use read_rows::zone_at;
+use room::in_word;
 use rows::ExitRow;
 use rows::store_exit;
 use scan::far_byte_from;
@@ -33,7 +34,7 @@ ghost use Rattle.statement.specs.Meaning.{point-of};
 ghost use Rattle.fill.specs.Resolve as Resolve;
 ghost use Rattle.references.specs.Entry.{lineAt, idFrom, entryIn, entryWithin, entryOf};
 ghost use Rattle.references.specs.Finding.{found, lookIn};
-ghost use Rattle.references.specs.Exits.{namedAt, inWord, done, tried, onward, withFound, told, resolvedFrom, leftFrom};
+ghost use Rattle.references.specs.Exits.{namedAt, done, tried, onward, withFound, told, resolvedFrom, leftFrom};
 
 // ## The entry of a line
 // The line that starts at a place of the text, without its LF; an empty part where the place is beyond the text.
@@ -179,14 +180,7 @@ fn named_at(
     resolve(segments, lanes, zones, segment_count, e)
 }
 
-// A row number in a word of a table; no table has so many rows that it does not fit.
-fn in_word(i: usize) -> u32
-    ensures { λ r. ⌜ r ≡ inWord i ⌝ }
-{
-    if i < 4294967295 { i as u32 } else { 4294967295 }
-}
-
-// One row: its point stored, or its entry names none.
+// One row: its point stored, or its entry names none. No table has so many rows that a row's number does not fit into a word.
 fn resolve_exit(
     text: &[u8],
     segments: &[u32],
