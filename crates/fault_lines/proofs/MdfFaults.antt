@@ -1,22 +1,21 @@
 -- THE LAWS of 14 to 18 for a network: the first line at fault of an MDF for it; and no line is at fault exactly if the mission fits. Assumes nothing.
-use mathlib.Core.Path.{_≡_, refl, sym, ap, ap₂, subst, _∙_}
-use mathlib.Core.List.{List, [], _∷_, _++_, map}
+use mathlib.Core.Path.{_≡_, sym, ap, subst, _∙_}
+use mathlib.Core.List.{List, map}
 use mathlib.Core.Option.{none, some}
 use mathlib.Core.Bool.{Bool, true, false}
-use Prim.Native.Nat.{ℕ, _+_}
-use lib.ListN.{length-map}
+use Prim.Native.Nat.{ℕ}
 use Rattle.terms.specs.Ascii.{Bytes}
-use Rattle.terms.specs.Words.{perhaps}
 use Rattle.scan.specs.Reach.{sameBytes}
 use Rattle.scan.proofs.Equal.{same-equal, equal-same, same-false}
 use Rattle.line.specs.Content.{Field}
-use Rattle.grammar.specs.Network.{Lane, Spot, Network}
+use Rattle.grammar.specs.Network.{Network}
 use Rattle.grammar.specs.Mission.{Mission}
-use Rattle.grammar.specs.Names.{segment-named, zone-named, network-named, mission-named}
-use Rattle.grammar.specs.Tables.{gather, point-row, tables}
+use Rattle.grammar.specs.Names.{network-named, mission-named}
+use Rattle.grammar.specs.Tables.{point-row, tables}
 use Rattle.grammar.specs.References.{all-numbers, parts, Fits}
 use Rattle.text.specs.Spelling.{SpellsMdf, Name, bytes, bytes-of}
 use Rattle.fill.specs.FirstFaults.{Fault, first-foreign-goal, first-bad-limit, some-missing, numbers-of, parts-of}
+use Rattle.fill.proofs.NameLaws.{numbers-same, parts-same}
 use Rattle.fill.proofs.ReferenceLaws.{numbers-in-order, parts-are}
 use Rattle.fill.proofs.MissionLaws.{fits-by, fits-only}
 use Rattle.find_line.specs.FoundLines.{mdfLineOf}
@@ -30,23 +29,12 @@ pub mission-line-one : (n : Network Field) (text : Bytes) (i j k m : ℕ) → Fi
 mission-line-one n text = Any.mission-line-one (λ v. v .bytes ≡ n .name .bytes) (all-numbers n) (parts n) text
 
 -- ## Names told in another way change neither numbers nor ids
-gather-moved : {A A′ B : Type 0} (g : A → A′) (F : A → List B) (F′ : A′ → List B) → ((a : A) → F′ (g a) ≡ F a) → (l : List A) → gather F′ (map g l) ≡ gather F l
-gather-moved g F F′ e [] = refl
-gather-moved {B = B} g F F′ e (a ∷ l) = ap₂ (λ (x y : List B). x ++ y) (e a) (gather-moved g F F′ e l)
-
 module _ {N M : Type 0} (f : N → M) (n : Network N) where
   numbers-named : numbers-of (tables (network-named f n)) ≡ all-numbers n
-  unfolding network-named
-  numbers-named = numbers-in-order (point-row (network-named f n)) (network-named f n) ∙ ap₂ (λ (x y : List ℕ). x ++ y)
-      (ap (gather (λ (a : Lane). map (λ c. c .number) (a .checkpoints))) (gather-moved (segment-named f) (λ s. s .lanes) (λ s. s .lanes) (λ s. refl) (n .segments)))
-      (gather-moved (zone-named f) (λ z. gather numbers (z .spots)) (λ z. gather numbers (z .spots)) (λ z. refl) (n .zones))
-    where
-      numbers : Spot → List ℕ
-      numbers s = map (λ c. c .number) (perhaps (s .checkpoint))
+  numbers-named = numbers-in-order (point-row (network-named f n)) (network-named f n) ∙ numbers-same f n
 
   parts-named : parts-of (tables (network-named f n)) ≡ parts n
-  unfolding network-named
-  parts-named = parts-are (point-row (network-named f n)) (network-named f n) ∙ ap₂ (λ (x y : ℕ). x + y) (length-map (n .segments) (segment-named f)) (length-map (n .zones) (zone-named f))
+  parts-named = parts-are (point-row (network-named f n)) (network-named f n) ∙ parts-same f n
 
 -- ## The lines
 module _ (n : Network Field) (m : Mission Field) (text : Bytes) (h : SpellsMdf m text) where

@@ -33,7 +33,8 @@ split-one (a ∷ b) (d ∷ c) x y r t h e =
     (ap₂ _∷_ (head-eq-of-cons-eq e) (o .0), o .1)
 
 module _ {L : Lang} {line-of : (k : L .Kind) → L .Pay k → List Said} (C : Clear L line-of) where
-  not-blank : {Y : Type 0} {start : ℕ} {line : Bytes} {x : S L} → SpellsLine line-of start line none → SpellsLine line-of start line (some x) → Y
+  -- a blank line makes no statement
+  pub not-blank : {Y : Type 0} {start : ℕ} {line : Bytes} {x : S L} → SpellsLine line-of start line none → SpellsLine line-of start line (some x) → Y
   not-blank {start = start} {line = line} {x = x} h g = nothing (C .line-one start line none (some x) h g)
 
   same : {start : ℕ} {line : Bytes} {x y : S L} → SpellsLine line-of start line (some x) → SpellsLine line-of start line (some y) → x ≡ y

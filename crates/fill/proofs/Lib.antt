@@ -2,6 +2,7 @@
 pub mod RowLaws
 pub mod AmongLaws
 pub mod Lines
+pub mod NameLaws
 -- What statements fill.
 pub mod Folds
 pub mod LaneFills

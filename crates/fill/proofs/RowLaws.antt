@@ -41,6 +41,11 @@ pub map-gather : {A B C : Type 0} (g : B → C) (h : A → List B) (l : List A) 
 map-gather g h [] = refl
 map-gather g h (a ∷ l) = map-append g (h a) (gather h l) ∙ ap (_++_ (map g (h a))) (map-gather g h l)
 
+-- things told in another way, each with the same rows, have the same rows together
+pub gather-moved : {A A′ B : Type 0} (g : A → A′) (F : A → List B) (F′ : A′ → List B) → ((a : A) → F′ (g a) ≡ F a) → (l : List A) → gather F′ (map g l) ≡ gather F l
+gather-moved g F F′ e [] = refl
+gather-moved {B = B} g F F′ e (a ∷ l) = ap₂ (λ (x y : List B). x ++ y) (e a) (gather-moved g F F′ e l)
+
 -- what g tells of the rows of each thing, it tells of all the rows
 pub map-along : {A B C : Type 0} (g : B → C) (size : A → ℕ) (f : ℕ → A → List B) (h : ℕ → A → List C) → ((p : ℕ) (a : A) → map g (f p a) ≡ h p a) → (p : ℕ) (l : List A) → map g (along size f p l) ≡ along size h p l
 map-along g size f h e p [] = refl

@@ -3,20 +3,22 @@ use mathlib.Core.Path.{_≡_, refl, sym, ap, ap₂, subst, _∙_}
 use mathlib.Core.List.{List, _∷_, _++_, map}
 use Prim.Native.Nat.{ℕ, _+_}
 use lib.ListN.{length, length-map}
-use Rattle.terms.specs.Words.{Each, perhaps, Between}
+use Rattle.terms.specs.Words.{Each, Between}
 use Rattle.terms.proofs.Lists.{each-map}
 use Rattle.grammar.specs.Statements.{PointId}
 use Rattle.grammar.specs.Network.{Exit, Lane, Segment, Zone, Network}
 use Rattle.grammar.specs.Mission.{Mission}
 use Rattle.grammar.specs.Names.{segment-named, zone-named, network-named, mission-named}
-use Rattle.grammar.specs.Tables.{Tables, gather, all-lanes, tables, mission-tables}
-use Rattle.grammar.specs.References.{Nth, first, later, Different, Declared, waypoint, border, all-exits, all-numbers, Sound}
+use Rattle.grammar.specs.Tables.{Tables, gather, tables, mission-tables}
+use Rattle.grammar.specs.References.{Nth, first, later, Different, Declared, waypoint, border, all-exits, Sound}
 use Rattle.line.specs.Content.{Field}
 use Rattle.text.specs.Spelling.{Name, bytes, bytes-of}
 use Rattle.fill.specs.Counts.{sizes, mission-sizes}
+use Rattle.fill.proofs.RowLaws.{gather-moved}
+use Rattle.fill.proofs.NameLaws.{lanes-same, numbers-same}
 use Rattle.table_words.specs.Words.{Lent, MissionLent, filled, mission-filled}
 use Rattle.table_words.specs.Named.{tables-named}
-use Rattle.table_words.proofs.Renamed.{gather-moved, tables-renamed, sizes-named, filled-named}
+use Rattle.table_words.proofs.Renamed.{tables-renamed, sizes-named, filled-named}
 
 -- ## Lists
 nth-map : {A B : Type 0} (g : A → B) {i : ℕ} {a : A} {l : List A} → Nth i a l → Nth i (g a) (map g l)
@@ -30,18 +32,9 @@ nth-from g (a ∷ l) (later t) = let x = nth-from g l t in (x .0, later (x .1), 
 module _ {N N′ : Type 0} (f : N → N′) where
   -- ## Names told in another way
   module _ (n : Network N) where
-    lanes-same : all-lanes (network-named f n) ≡ all-lanes n
-    unfolding network-named
-    lanes-same = gather-moved (segment-named f) (λ s. s .lanes) (λ s. s .lanes) (λ s. refl) (n .segments)
-
     exits-same : all-exits (network-named f n) ≡ all-exits n
     unfolding network-named
-    exits-same = ap₂ (λ (x y : List Exit). x ++ y) (ap (λ (l : List Lane). gather (λ a. a .exits) l) lanes-same) (gather-moved (zone-named f) (λ z. z .border .exits) (λ z. z .border .exits) (λ z. refl) (n .zones))
-
-    numbers-same : all-numbers (network-named f n) ≡ all-numbers n
-    unfolding network-named
-    numbers-same = ap₂ (λ (x y : List ℕ). x ++ y) (ap (λ (l : List Lane). gather (λ a. map (λ c. c .number) (a .checkpoints)) l) lanes-same)
-        (gather-moved (zone-named f) (λ z. gather (λ s. map (λ c. c .number) (perhaps (s .checkpoint))) (z .spots)) (λ z. gather (λ s. map (λ c. c .number) (perhaps (s .checkpoint))) (z .spots)) (λ z. refl) (n .zones))
+    exits-same = ap₂ (λ (x y : List Exit). x ++ y) (ap (λ (l : List Lane). gather (λ a. a .exits) l) (lanes-same f n)) (gather-moved (zone-named f) (λ z. z .border .exits) (λ z. z .border .exits) (λ z. refl) (n .zones))
 
     declared-told : (e : PointId) → Declared n e → Declared (network-named f n) e
     unfolding network-named
@@ -60,13 +53,13 @@ module _ {N N′ : Type 0} (f : N → N′) where
     sound-told : Sound n → Sound (network-named f n)
     sound-told s = record {
       entries = subst (Each (λ e. Declared (network-named f n) (e .entry))) (sym exits-same) (each-map (λ e. Declared n (e .entry)) (λ e. Declared (network-named f n) (e .entry)) (λ e. declared-told (e .entry)) (all-exits n) (s .entries));
-      numbers = subst Different (sym numbers-same) (s .numbers);
+      numbers = subst Different (sym (numbers-same f n)) (s .numbers);
     }
 
     sound-as : Sound (network-named f n) → Sound n
     sound-as s = record {
       entries = each-map (λ e. Declared (network-named f n) (e .entry)) (λ e. Declared n (e .entry)) (λ e. declared-as (e .entry)) (all-exits n) (subst (Each (λ e. Declared (network-named f n) (e .entry))) exits-same (s .entries));
-      numbers = subst Different numbers-same (s .numbers);
+      numbers = subst Different (numbers-same f n) (s .numbers);
     }
 
   -- ## Networks that are one, with their names so told

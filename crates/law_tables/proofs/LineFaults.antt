@@ -1,13 +1,12 @@
 -- THE LAW of the first line at fault: by the lines of the law and by statements it is the same one. For every file. Assumes nothing.
 use mathlib.Core.Path.{_≡_, refl, sym, ap, ap₂, subst, _∙_}
 use mathlib.Core.List.{List, [], _∷_, _++_, map, map-append, append-assoc, head-eq-of-cons-eq, tail-eq-of-cons-eq, nil≢cons, cons≢nil}
-use mathlib.Core.Option.{none, some}
+use mathlib.Core.Option.{some}
 use Prim.Native.Nat.{ℕ, suc, _+_}
 use native.Mathlib.Omega.{arith}
 use native.Mathlib.Nat.{add-zero}
 use lib.ListN.{length}
 use Rattle.terms.specs.Ascii.{Bytes}
-use Rattle.terms.proofs.Tests.{nothing}
 use Rattle.line.specs.Lines.{linesOf}
 use Rattle.law.specs.Network.{Line, SayLines, Rules, present}
 use Rattle.law.specs.Faults as Law
@@ -17,7 +16,7 @@ use Rattle.text.specs.Spelling.{SpellsLine, SpellsLines, done, blank-line, stat
 use Rattle.form_faults.specs.FormFaults.{behind}
 use Rattle.fault_lines.specs.FaultLines.{SaysAt, FirstLine}
 use Rattle.fault_lines.proofs.LineOne.{Clear}
-use Rattle.fault_lines.proofs.Said.{says-only}
+use Rattle.fault_lines.proofs.Said.{not-blank, says-only}
 use Rattle.law_spelling.specs.LineOf.{law-line}
 use Rattle.law_spelling.proofs.Lines.{Begins, lines-to, lines-back}
 use Rattle.law_tables.proofs.Among.{Parted, parted}
@@ -37,9 +36,6 @@ module _ {L : Lang} {line-of : (k : L .Kind) → L .Pay k → List Said} (C : Cl
   one-more (blank-line {start = a} {line = l} {lines = ls} g s) this x h = blank-line g (one-more s this x (moved (further a l ls) h))
   one-more (statement {start = a} {line = l} {lines = ls} g s) this x h = statement g (one-more s this x (moved (further a l ls) h))
 
-  not-blank : {Y : Type 0} {start : ℕ} {line : Bytes} {x : S L} → SpellsLine line-of start line none → SpellsLine line-of start line (some x) → Y
-  not-blank {start = start} {line = line} {x = x} h g = nothing (C .line-one start line none (some x) h g)
-
   no-line : {Y : Type 0} {start : ℕ} {ls : List Bytes} {ss : List (S L)} (x : S L) → SpellsLines line-of start ls ss → ls ≡ [] → ss ≡ x ∷ [] → Y
   no-line x done e d = absurd (nil≢cons d)
   no-line x (blank-line g s) e d = absurd (cons≢nil e)
@@ -51,8 +47,8 @@ module _ {L : Lang} {line-of : (k : L .Kind) → L .Pay k → List Said} (C : Cl
   last-one {start} done this x e (blank-line h t) = no-line x t refl e
   last-one {start} done this x e (statement h t) = moved (sym (add-zero start)) (subst (λ (y : S L). SpellsLine line-of start this (some y)) (head-eq-of-cons-eq e) h)
   last-one (blank-line {start = a} {line = l} {lines = ls} g s) this x e (blank-line h t) = moved (sym (further a l ls)) (last-one s this x e t)
-  last-one (blank-line g s) this x e (statement h t) = not-blank g h
-  last-one (statement g s) this x e (blank-line h t) = not-blank h g
+  last-one (blank-line g s) this x e (statement h t) = not-blank C g h
+  last-one (statement g s) this x e (blank-line h t) = not-blank C h g
   last-one (statement {start = a} {line = l} {lines = ls} g s) this x e (statement h t) = moved (sym (further a l ls)) (last-one s this x (tail-eq-of-cons-eq e) t)
 
   -- ## A line of a text

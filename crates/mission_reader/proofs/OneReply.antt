@@ -1,6 +1,5 @@
--- An MDF is accepted with one mission, or refused at one line with one number, and never both; the contract of `read_mission` admits one reply, and one filling where it accepts. Assumes nothing.
-use mathlib.Core.Path.{_≡_, refl, sym, ap, subst, _∙_}
-use mathlib.Core.List.{List}
+-- An MDF is accepted with one mission, or refused at one line with one number, and never both. Assumes nothing.
+use mathlib.Core.Path.{_≡_, refl, subst}
 use Prim.Native.Nat.{ℕ, _≤_, _<_}
 use native.Mathlib.Omega.{arith}
 use lib.ListN.{length}
@@ -12,12 +11,6 @@ use Rattle.text.proofs.Theorems.{one-mdf}
 use Rattle.table_words.specs.Words.{MissionLent}
 use Rattle.form_faults.proofs.FormFaults.{mdf-one-bad-line, mdf-one-unended, mdf-bad-or-unended, mdf-bad-or-spelled, mdf-unended-or-spelled}
 use Rattle.fault_lines.proofs.MdfFaults.{mission-line-one, line-not-fits}
-use Rattle.rows.specs.declared.MissionFileRow.{MissionFileRow}
-use Rattle.refusal.specs.Shapes.{fault}
-use Rattle.counts.specs.declared.MissionCounts.{MissionCounts}
-use Rattle.mission_reader.specs.declared.MissionReply as DP
-use Rattle.mission_reader.specs.declared.MissionReply.the-variants as Reply
-use Rattle.mission_reader.specs.MissionReading.{Read, refused, accepted, outcome}
 use Rattle.mission_reader.specs.MissionReplies.{most, RoomFor, AcceptsMdf, RefusesMdf, too-long, bad-line, unended, no-room, bad-reference}
 
 module _ (n : Network Field) (mdf : Bytes) (u : MissionLent) where
@@ -61,20 +54,3 @@ module _ (n : Network Field) (mdf : Bytes) (u : MissionLent) where
   one-refused i k i′ k′ (bad-reference {m = m} h s r f) (unended h′ b) = absurd (mdf-unended-or-spelled mdf i′ m b s)
   one-refused i k i′ k′ (bad-reference {m = m} h s r f) (no-room {m = m′} h′ s′ r′) = absurd (r′ (subst (λ (x : Mission Field). RoomFor x u) (one-mdf m m′ mdf s s′) r))
   one-refused i k i′ k′ (bad-reference h s r f) (bad-reference h′ s′ r′ f′) = mission-line-one n mdf i i′ k k′ f f′
-
--- ## The contract of `read_mission`, `outcome r goals limits ≡ missionOf ..`
-abbrev reply-in : Read → DP.MissionReply
-reply-in (refused line number) = Reply.Refused (fault line number)
-reply-in (accepted c f goals limits) = Reply.Accepted c f
-
-reply-told : (r : DP.MissionReply) (goals limits : List ℕ) → reply-in (outcome r goals limits) ≡ r
-reply-told (Reply.Accepted c f) goals limits = refl
-reply-told (Reply.Refused f) goals limits = refl
-
--- no second reply satisfies it ..
-pub one-reply : (x : Read) (r r′ : DP.MissionReply) (g l g′ l′ : List ℕ) → outcome r g l ≡ x → outcome r′ g′ l′ ≡ x → r ≡ r′
-one-reply x r r′ g l g′ l′ e e′ = sym (reply-told r g l) ∙ ap reply-in (e ∙ sym e′) ∙ reply-told r′ g′ l′
-
--- .. and where it accepts, no other tables. (What the tables hold where it refuses is not said: its caller clears them.)
-pub one-filling : (c : MissionCounts) (f : MissionFileRow) (g l g′ l′ : List ℕ) → outcome (Reply.Accepted c f) g l ≡ outcome (Reply.Accepted c f) g′ l′ → (g ≡ g′) × (l ≡ l′)
-one-filling c f g l g′ l′ e = (cc, cc)

@@ -6,11 +6,11 @@
 //
 // specs/MissionReplies: what an MDF gets, over statements (replies/specs/Replies says it over lines). specs/MissionReading: the same, executable; the contracts cite it. proofs/Theorems: the one is the other.
 // proofs/Found: what the walk found. proofs/References: 14 to 18 over filled tables are the first line at fault. proofs/Standing: a name stands in its text where it says.
-// proofs/OneReply: no second reply. proofs/Steps: the parts of `read_mission` together.
+// proofs/OneReply: no text gets two answers. proofs/Steps: the parts of `read_mission` together.
 //
 // Rests on `counts`, `refusal`, `room`, `mission`, `marks`, `mission_references`, `find_line`, `rows` and `scan`, for its theorem on `fault_lines`, `form_faults` and `table_words`, and on what they rest on.
 //
-// Settled: the contract of `read_mission` gives its reply, and where it accepts both tables, by a function of what is lent (proofs/OneReply).
+// Settled: the contract of `read_mission` gives its reply, and where it accepts both tables, by a function of what is lent.
 use counts::MissionCounts;
 use find_line::mdf_line;
 use marks::BadLimit;

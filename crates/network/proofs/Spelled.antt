@@ -1,5 +1,5 @@
 -- THE LAWS of a text that spells a network: the walk counts the rows of its tables, and stores them where there is room. Assumes nothing.
-use mathlib.Core.Path.{_≡_, refl, sym, ap, ap₂, subst, _∙_}
+use mathlib.Core.Path.{_≡_, refl, sym, ap, subst, _∙_}
 use mathlib.Core.List.{List, [], _∷_, map, map-map}
 use Prim.Native.Nat.{ℕ, _≤_, _<_}
 use native.Mathlib.Omega.{arith}
@@ -7,7 +7,6 @@ use lib.ListN.{length, length-map}
 use lib.Dec.{lit<}
 use lib.IntN.{pos}
 use Rattle.terms.specs.Ascii.{Bytes}
-use Rattle.terms.specs.Words.{Each}
 use Rattle.terms.proofs.Lists.{each-map, each-any}
 use Rattle.line.specs.Content.{Field}
 use Rattle.grammar.specs.Statements.{Statement, PointId}
@@ -26,6 +25,7 @@ use Rattle.fill.specs.NetworkRows.{tabled, fill}
 use Rattle.fill.specs.Resolve.{with-entry}
 use Rattle.fill.specs.Counts.{Counts, sizes}
 use Rattle.fill.specs.Tally.{no-counts, tallied}
+use Rattle.fill.proofs.RowLaws.{map-each}
 use Rattle.fill.proofs.CountLaws.{ends-agree}
 use Rattle.fill.proofs.NetworkFills.{network-fills}
 use Rattle.fill.proofs.ReferenceLaws.{exits-with, sizes-with}
@@ -94,10 +94,6 @@ exits-at-most [] (a ∷ starts) = omega arith
 exits-at-most (p ∷ points) [] = omega arith
 exits-at-most (p ∷ points) (a ∷ starts) = let h = exits-at-most points starts in omega arith
 
-map-same : {A B : Type 0} (f g : A → B) (l : List A) → Each (λ a. f a ≡ g a) l → map f l ≡ map g l
-map-same f g [] e = refl
-map-same {B = B} f g (a ∷ l) e = ap₂ (λ (x : B) (y : List B). x ∷ y) (e .0) (map-same f g l (e .1))
-
 -- ## The tables of a text that spells the network
 module _ (n : Network Field) (text : Bytes) (h : SpellsRndf n text) where
   -- where the lines of its exits start
@@ -121,7 +117,7 @@ module _ (n : Network Field) (text : Bytes) (h : SpellsRndf n text) where
         let e = spelled-bounded (λ e. e) n (h .said) (h .net) .exits in
         let l : length (tables-unresolved n .points) ≤ most = subst (λ (c : Counts). c .points ≤ most) (sizes-with (point-row n) n) few-points in
         let kept : map exit-point (tables-unresolved n .exits) ≡ map (λ r. r .point) (tables-unresolved n .exits)
-        = map-same exit-point (λ r. r .point) (tables-unresolved n .exits)
+        = map-each exit-point (λ r. r .point) (tables-unresolved n .exits)
         (each-map (λ r. r .point < length (tables-unresolved n .points)) (λ r. exit-point r ≡ r .point) (λ r k. row-kept (r .point) (length (tables-unresolved n .points)) k l) (tables-unresolved n .exits) e) in
         let other : map (λ (r : T.ExitRow ℕ). r .point) (tables n .exits) ≡ map (λ r. r .point) (tables-unresolved n .exits)
         = ap (map (λ (r : T.ExitRow ℕ). r .point)) (sym (exits-with (point-row n) n)) ∙ map-map (λ (r : T.ExitRow ℕ). r .point) (with-entry (point-row n)) (tables-unresolved n .exits) in

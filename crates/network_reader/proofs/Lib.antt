@@ -3,4 +3,3 @@ pub mod Steps
 pub mod Rooms
 pub mod Referring
 pub mod Theorems
-pub mod Only

@@ -2,7 +2,7 @@
 // the entries of exits are looked up and repeats sought (`references`, `marks`; 12 and 13, whose line is found again by `find_line`).
 // What a refusal leaves in the tables is cleared by the entry points (the crate `reader`).
 //
-// specs/Replies: what a text gets, over statements (replies/specs/Replies says it over lines). specs/Reading: the same, executable. proofs/Theorems: what is answered is so. proofs/Only: and nothing else is.
+// specs/Replies: what a text gets, over statements (replies/specs/Replies says it over lines). specs/Reading: the same, executable. proofs/Theorems: what is answered is so.
 //
 // Rests on `counts`, `refusal`, `room`, `network`, `references`, `marks`, `find_line`, `table_words`, `form_faults`, `fault_lines` and what they rest on.
 use counts::Counts;

@@ -1,23 +1,21 @@
 -- ASKING FOR A NAME of a spelled text gives its bytes. Document 01, "Tables". Assumes nothing.
-use mathlib.Core.Path.{_≡_, refl, ap, subst, _∙_}
+use mathlib.Core.Path.{_≡_, refl, subst}
 use mathlib.Core.List.{List, [], _∷_, _++_, map}
 use mathlib.Core.Option.{Option, none, some}
 use Prim.Native.Nat.{ℕ, _+_}
-use native.Mathlib.Omega.{arith}
-use lib.ListN.{length, length-append}
+use lib.ListN.{length}
 use Rattle.terms.specs.Ascii.{Bytes}
 use Rattle.terms.specs.Words.{Each, InTurn, nothing, then, perhaps}
 use Rattle.line.specs.Content.{Field, Content}
 use Rattle.line.specs.Text.{Ended}
 use Rattle.line.specs.Located.{Within, EachLine}
-use Rattle.line.proofs.Located.{stands, cut-fields}
+use Rattle.line.proofs.Located.{cut-fields}
 use Rattle.law.specs.Network.{Network, Mission, Segment, Zone, Said, Line, word, name, numbers, coordinate, boundary, SpellFields, Mixed, left, right, AnyOrder, line, SpellsSegment, SpellsZone, SayLines, done, blank, statement, file-options, present}
 use Rattle.law.specs.Network as Law
 use Rattle.law.specs.Short.{SpellsRndf, SpellsMdf}
 use Rattle.law.specs.Tables.{name-words}
-use Rattle.rows.specs.Read.{stretchOf}
-use Rattle.rows.specs.Name.{nameOf}
-use Rattle.rows.proofs.Names.{name-fits, name-missing}
+use Rattle.rows.proofs.Names.{name-missing}
+use Rattle.mission_reader.proofs.Standing.{asked}
 use Rattle.replies.specs.Replies.{stretch, network-file, mission-file}
 use Rattle.promises.specs.Accepted.{Asked, NamesAsked, MissionNamesAsked}
 
@@ -25,15 +23,6 @@ use Rattle.promises.specs.Accepted.{Asked, NamesAsked, MissionNamesAsked
 pub words-of-name : (v : Option Field) → name-words v ≡ stretch v .start ∷ stretch v .length ∷ []
 words-of-name none = refl
 words-of-name (some v) = refl
-
--- asking for a field that stands in the text gives its bytes
-asked : (text : Bytes) (f : Field) → Within 0 text f → nameOf text (stretchOf (f .start) (length (f .bytes))) ≡ f .bytes
-asked text f w =
-    let a = ap length (w .is) in
-    let b = length-append (w .before) (f .bytes ++ w .after) in
-    let c = length-append (f .bytes) (w .after) in
-    let s : f .start ≡ 0 + length (w .before) = w .starts in
-    name-fits text (stretchOf (f .start) (length (f .bytes))) (omega arith) ∙ stands text f w
 
 -- ## What is said of every line of a list holds of every line of its parts
 parted : {A : Type 0} (P : A → Type 0) (l r : List A) → Each P (l ++ r) → Each P l × Each P r

@@ -10,6 +10,8 @@ use Rattle.grammar.specs.Mission.{Mission}
 use Rattle.grammar.specs.Names.{perhaps-name, segment-named, zone-named, network-named, mission-named}
 use Rattle.grammar.specs.Tables.{SegmentRow, LaneRow, ZoneRow, CheckpointRow, ExitRow, FileRow, Tables, MissionTables, gather, along, lane-size, lane-row, spot-row, checkpoint-row, spot-checkpoint, exit-row, row-of, no-lane, no-segment, no-zone, all-lanes, zone-points, zone-size, first-zone-point, file-row, segment-row, segment-rows, lane-rows, zone-row, zone-rows-from, zone-rows, over-spots, part-row, point-row, tables-with, tables, mission-tables}
 use Rattle.fill.specs.Counts.{Counts, sizes}
+use Rattle.fill.proofs.RowLaws.{gather-moved}
+use Rattle.fill.proofs.NameLaws.{lanes-same}
 use Rattle.line.specs.Content.{Field}
 use Rattle.statement.specs.Meaning.{Stretch}
 use Rattle.made_out.specs.Names.{stretch-of}
@@ -24,10 +26,6 @@ getD-map : {A B : Type 0} (g : A → B) (l : List A) (i : ℕ) (d : A) → getD 
 getD-map g [] i d = refl
 getD-map g (a ∷ l) zero d = refl
 getD-map g (a ∷ l) (suc i) d = getD-map g l i d
-
-pub gather-moved : {A A′ B : Type 0} (g : A → A′) (F : A → List B) (F′ : A′ → List B) → ((a : A) → F′ (g a) ≡ F a) → (l : List A) → gather F′ (map g l) ≡ gather F l
-gather-moved g F F′ e [] = refl
-gather-moved {B = B} g F F′ e (a ∷ l) = ap₂ (λ (x y : List B). x ++ y) (e a) (gather-moved g F F′ e l)
 
 along-moved : {A A′ B : Type 0} (g : A → A′) (size : A → ℕ) (size′ : A′ → ℕ) (F : ℕ → A → List B) (F′ : ℕ → A′ → List B) → ((a : A) → size′ (g a) ≡ size a) → ((p : ℕ) (a : A) → F′ p (g a) ≡ F p a)
     → (p : ℕ) (l : List A) → along size′ F′ p (map g l) ≡ along size F p l
@@ -45,19 +43,15 @@ module _ {N M : Type 0} (f : N → M) where
   zones-moved p q (z ∷ l) = ap (_∷_ (zone-row-named f (zone-row p q z))) (zones-moved (p + zone-size z) (q + length (z .spots)) l)
 
   module _ (n : Network N) where
-    lanes-same : all-lanes (network-named f n) ≡ all-lanes n
-    unfolding network-named
-    lanes-same = gather-moved (segment-named f) (λ s. s .lanes) (λ s. s .lanes) (λ s. refl) (n .segments)
-
     first-same : first-zone-point (network-named f n) ≡ first-zone-point n
-    first-same = ap (λ (l : List Lane). length (gather (λ a. a .points) l)) lanes-same
+    first-same = ap (λ (l : List Lane). length (gather (λ a. a .points) l)) (lanes-same f n)
 
     segments-named : segment-rows (network-named f n) ≡ map (segment-row-named f) (segment-rows n)
     unfolding network-named
     segments-named = segments-moved 0 (n .segments)
 
     lanes-named : lane-rows (network-named f n) ≡ lane-rows n
-    lanes-named = ap (λ (l : List Lane). along lane-size (λ first a. lane-row first a ∷ []) 0 l) lanes-same
+    lanes-named = ap (λ (l : List Lane). along lane-size (λ first a. lane-row first a ∷ []) 0 l) (lanes-same f n)
 
     zones-named : zone-rows (network-named f n) ≡ map (zone-row-named f) (zone-rows n)
     unfolding network-named
@@ -71,13 +65,13 @@ module _ {N M : Type 0} (f : N → M) where
 
     -- and the lanes
     over-lanes : {B : Type 0} (F : ℕ → Lane → List B) → along lane-size F 0 (all-lanes (network-named f n)) ≡ along lane-size F 0 (all-lanes n)
-    over-lanes F = ap (λ (l : List Lane). along lane-size F 0 l) lanes-same
+    over-lanes F = ap (λ (l : List Lane). along lane-size F 0 l) (lanes-same f n)
 
     pub tables-with-named : {E : Type 0} (g : PointId → E) → tables-with g (network-named f n) ≡ tables-named f (tables-with g n)
     unfolding tables-with network-named
     tables-with-named {E} g =
         let spots = over-zones (over-spots (λ first s. spot-row first s ∷ [])) (over-spots (λ first s. spot-row first s ∷ [])) (λ p z. refl) in
-        let points = ap₂ (λ (x y : List Position). x ++ y) (ap (λ (l : List Lane). gather (λ a. a .points) l) lanes-same) (gather-moved (zone-named f) zone-points zone-points (λ z. refl) (n .zones)) in
+        let points = ap₂ (λ (x y : List Position). x ++ y) (ap (λ (l : List Lane). gather (λ a. a .points) l) (lanes-same f n)) (gather-moved (zone-named f) zone-points zone-points (λ z. refl) (n .zones)) in
         let checkpoints = ap₂ (λ (x y : List CheckpointRow). x ++ y) (over-lanes (λ first a. map (checkpoint-row first) (a .checkpoints)))
         (over-zones (over-spots (λ first s. spot-checkpoint first (s .checkpoint))) (over-spots (λ first s. spot-checkpoint first (s .checkpoint))) (λ p z. refl)) in
         let stops = over-lanes (λ first a. map (row-of first) (a .stops)) in

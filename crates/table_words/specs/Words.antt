@@ -2,7 +2,7 @@
 use mathlib.Core.List.{List, [], _∷_}
 use mathlib.Core.Option.{Option, none, some}
 use Prim.Native.Nat.{ℕ, _≤_}
-use lib.ListN.{length, replicate}
+use lib.ListN.{length}
 use lib.IntN.{ℤ, pos}
 use Rattle.grammar.specs.Statements.{Position}
 use Rattle.grammar.specs.MissionStatements.{Limit}
@@ -13,7 +13,7 @@ use Rattle.fill.specs.Counts.{Counts, MissionCounts}
 use Rattle.rows.specs.Lay.{rowsOf}
 use Rattle.rows.specs.Strides.{segmentStride, laneStride, zoneStride, spotStride, pointStride, checkpointStride, stopStride, exitStride, goalStride, limitStride}
 use Rattle.rows.specs.Table.{tableOf}
-pub use Rattle.law.specs.Tables.{Lent, MissionLent}
+pub use Rattle.law.specs.Tables.{Lent, MissionLent, zeros, mission-zeros}
 
 -- ## The words of a row without a name
 -- 01: "Lane: first point, points, width, left and right"
@@ -47,22 +47,6 @@ goal-words number = number ∷ []
 -- 01: "Limit: id, minimum, maximum."
 abbrev pub limit-words : Limit → List ℕ
 limit-words r = r .id ∷ r .minimum ∷ r .maximum ∷ []
-
--- 01: "All lent tables .. are then zero over their whole length"
-abbrev pub zeros : Lent → Lent
-zeros t = record {
-  segments = replicate (length (t .segments)) 0;
-  lanes = replicate (length (t .lanes)) 0;
-  zones = replicate (length (t .zones)) 0;
-  spots = replicate (length (t .spots)) 0;
-  points = replicate (length (t .points)) (pos 0);
-  checkpoints = replicate (length (t .checkpoints)) 0;
-  stops = replicate (length (t .stops)) 0;
-  exits = replicate (length (t .exits)) 0;
-}
-
-abbrev pub mission-zeros : MissionLent → MissionLent
-mission-zeros t = record { goals = replicate (length (t .goals)) 0; limits = replicate (length (t .limits)) 0 }
 
 -- 01, refusal 11: "a table has fewer rows than needed"; there is room where none has
 pub record HasRoom (c : Counts) (t : Lent) : Type 0 where

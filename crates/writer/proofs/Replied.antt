@@ -1,7 +1,5 @@
 -- All that the writers take from the readers' contracts: what an accepted text spells and how many rows it has, that a refusal leaves zeros, that the reply and the tables are settled, and what is accepted. Assumes nothing.
-use mathlib.Core.Path.{_≡_, refl, sym, ap}
-use Prim.Native.Nat.{ℕ}
-use native.Mathlib.Omega.{arith}
+use mathlib.Core.Path.{_≡_, refl, ap}
 use Rattle.terms.specs.Ascii.{Bytes}
 use Rattle.line.specs.Content.{Field}
 use Rattle.law.specs.Network.{present}
@@ -12,14 +10,13 @@ use Rattle.text.specs.Spelling.{SpellsRndf, SpellsMdf}
 use Rattle.fill.specs.Counts.{sizes}
 use Rattle.rows.specs.declared.FileRow.{FileRow}
 use Rattle.rows.specs.declared.MissionFileRow.{MissionFileRow}
-use Rattle.table_words.specs.Words.{Lent, MissionLent, zeros, mission-zeros, network-filled, mission-filled}
+use Rattle.table_words.specs.Words.{Lent, MissionLent, network-filled, mission-filled}
 use Rattle.table_words.specs.FileRows.{network-file, mission-file}
 use Rattle.counts.specs.declared.Counts.{Counts}
 use Rattle.counts.specs.declared.MissionCounts.{MissionCounts}
 use Rattle.network_reader.specs.Replies.{rows-used, AcceptsRndf}
 use Rattle.mission_reader.specs.MissionReplies.{AcceptsMdf}
 use Rattle.mission_reader.specs.MissionReplies as M
-use Rattle.refusal.specs.declared.Refusal.{Refusal}
 use Rattle.replies.specs.declared.RndfReply.{RndfReply}
 use Rattle.replies.specs.declared.PairReply.{PairReply}
 use Rattle.replies.specs.declared.RndfReply.the-variants as Reply
@@ -28,16 +25,8 @@ use Rattle.replies.specs.Replies.{ReadsRndf, ReadsPair}
 use Rattle.reader.specs.ByStatements as R
 use Rattle.reader.proofs.Lawful.{rndf-reads-to, rndf-reads-back, pair-reads-to, pair-reads-back}
 pub use Rattle.text.proofs.Theorems.{one-rndf, one-mdf}
+pub use Rattle.replies.proofs.Said.{never-both, pair-never-both, refused-zero, pair-refused-zero}
 pub use Rattle.replies.proofs.Settled.{rndf-settled, rndf-some, pair-settled, pair-some}
-
--- ## No reply is both
-module _ {c : Counts} {file : FileRow} {why : Refusal} where
-  pub never-both : Reply.Accepted c file ≡ Reply.Refused why → ⊥
-  never-both e = let z : _≡_ {A = ℕ} 0 1 = cc in omega arith
-
-module _ {c : Counts} {file : FileRow} {d : MissionCounts} {row : MissionFileRow} {why : Refusal} where
-  pub pair-never-both : Pair.Accepted c file d row ≡ Pair.Refused why → ⊥
-  pair-never-both e = let z : _≡_ {A = ℕ} 0 1 = cc in omega arith
 
 -- ## What a reply says; a refusal says what is given
 abbrev pub counts-of : Counts → RndfReply → Counts
@@ -77,13 +66,6 @@ module _ (text : Bytes) (t left : Lent) where
   pub replies-so : (n : Network Field) (reply : RndfReply) → AcceptsRndf text t n → ReadsRndf present text t reply left → reply ≡ Reply.Accepted (rows-used (sizes (tables n))) (network-file n)
   replies-so n reply a h = rndf-settled text t reply (Reply.Accepted (rows-used (sizes (tables n))) (network-file n)) left (network-filled n t) h (rndf-reads-to text t (Reply.Accepted (rows-used (sizes (tables n))) (network-file n)) (network-filled n t) (R.accepted n a refl refl)) .0
 
-  pub refused-zero : (why : Refusal) → ReadsRndf present text t (Reply.Refused why) left → left ≡ zeros t
-  refused-zero why h = go (rndf-reads-back text t (Reply.Refused why) left h)
-    where
-      go : R.ReadsRndf text t (Reply.Refused why) left → left ≡ zeros t
-      go (R.accepted n a e k) = absurd (never-both (sym e))
-      go (R.refused line number a e k) = k
-
 -- ## An RNDF with its MDF
 pub record PairTaken (rndf mdf : Bytes) (t : Lent) (u : MissionLent) (c : Counts) (d : MissionCounts) : Type 0 where
   pub net : Network Field
@@ -115,11 +97,3 @@ module _ (rndf mdf : Bytes) (t left : Lent) (u mission-left : MissionLent) where
   pair-replies-so n m reply a b h =
       pair-settled rndf mdf t u reply (Pair.Accepted (rows-used (sizes (tables n))) (network-file n) (M.rows-used m) (mission-file m)) left (network-filled n t) mission-left (mission-filled (mission-tables m) u) h
       (pair-reads-to rndf mdf t u (Pair.Accepted (rows-used (sizes (tables n))) (network-file n) (M.rows-used m) (mission-file m)) (network-filled n t) (mission-filled (mission-tables m) u) (R.accepted n m a b refl refl refl)) .0
-
-  pub pair-refused-zero : (why : Refusal) → ReadsPair present rndf mdf t u (Pair.Refused why) left mission-left → (left ≡ zeros t) × (mission-left ≡ mission-zeros u)
-  pair-refused-zero why h = go (pair-reads-back rndf mdf t u (Pair.Refused why) left mission-left h)
-    where
-      go : R.ReadsPair rndf mdf t u (Pair.Refused why) left mission-left → (left ≡ zeros t) × (mission-left ≡ mission-zeros u)
-      go (R.accepted n m a b e k j) = absurd (pair-never-both (sym e))
-      go (R.rndf-refused line number a e k j) = (k, j)
-      go (R.mdf-refused n line number a b e k j) = (k, j)
