@@ -13,7 +13,7 @@ use Rattle.grammar.specs.Mission.{Mission}
 use Rattle.grammar.specs.Tables.{gather, tables, mission-tables}
 use Rattle.grammar.specs.References.{Sound}
 use Rattle.fill.specs.Counts.{Counts, sizes, mission-sizes}
-use Rattle.table_words.specs.Words.{HasRoom, MissionHasRoom, segment-words, lane-words, zone-words, spot-words, position-words, checkpoint-words, stop-words, exit-words, goal-words, limit-words, network-filled, mission-filled, zeros, mission-zeros}
+use Rattle.table_words.specs.Words.{HasRoom, MissionHasRoom, segment-words, lane-words, zone-words, spot-words, position-words, checkpoint-words, stop-words, exit-words, goal-words, limit-words, network-filled, mission-filled}
 use Rattle.law_tables.proofs.SameRows.{flat-rows, start-of, length-of, segments-same, lanes-same, zones-same, spots-same, points-same, checkpoints-same, stops-same}
 use Rattle.law_tables.proofs.Entries.{exits-count, exits-same}
 
@@ -103,10 +103,3 @@ module _ (m : Mission Field) where
     goals = subst (λ (k : ℕ). k ≤ length (lent .goals) / 1) (length-map (m .goals) goal-words) (h .goals);
     limits = subst (λ (k : ℕ). k ≤ length (lent .limits) / 3) (length-map (m .limits) limit-words) (h .limits);
   }
-
--- ## Tables that are cleared
-pub zeros-same : (lent : Lent) → zeros lent ≡ Law.zeros lent
-zeros-same lent = refl
-
-pub mission-zeros-same : (lent : MissionLent) → mission-zeros lent ≡ Law.mission-zeros lent
-mission-zeros-same lent = refl

@@ -17,7 +17,7 @@ use Rattle.table_words.specs.Words.{network-filled, mission-filled}
 use Rattle.table_words.specs.FileRows as Rows
 use Rattle.law_spelling.proofs.Texts.{rndf-to, rndf-back, mdf-to, mdf-back}
 use Rattle.law_faults.proofs.Theorems.{rndf-bad-to, rndf-bad-back, rndf-unended-to, rndf-unended-back, mdf-bad-to, mdf-bad-back, mdf-unended-to, mdf-unended-back}
-use Rattle.law_tables.proofs.SameTables.{counts-same, filled-same, room-to, room-back, mission-filled-same, mission-room-to, mission-room-back, zeros-same, mission-zeros-same}
+use Rattle.law_tables.proofs.SameTables.{counts-same, filled-same, room-to, room-back, mission-filled-same, mission-room-to, mission-room-back}
 use Rattle.law_tables.proofs.SameFits.{fits-to, fits-back}
 use Rattle.law_tables.proofs.RndfFirst.{rndf-first-to, rndf-first-back}
 use Rattle.law_tables.proofs.MdfFirst.{mdf-first-to, mdf-first-back}
@@ -69,11 +69,11 @@ module _ (text : Bytes) (t : Lent) where
 
   pub rndf-reads-to : (reply : RndfReply) (left : Lent) → Old.ReadsRndf text t reply left → New.ReadsRndf present text t reply left
   rndf-reads-to reply left (Old.accepted n a e k) = New.accepted n (accepts-to n a) (e ∙ ap₂ Reply.Accepted (counts-are n) (file-is n)) (k ∙ filled-same n (a .sound) t)
-  rndf-reads-to reply left (Old.refused line number a e k) = New.refused line number (refuses-to line number a) e (k ∙ zeros-same t)
+  rndf-reads-to reply left (Old.refused line number a e k) = New.refused line number (refuses-to line number a) e k
 
   pub rndf-reads-back : (reply : RndfReply) (left : Lent) → New.ReadsRndf present text t reply left → Old.ReadsRndf text t reply left
   rndf-reads-back reply left (New.accepted n a e k) = Old.accepted n (accepts-back n a) (e ∙ sym (ap₂ Reply.Accepted (counts-are n) (file-is n))) (k ∙ sym (filled-same n (a .right) t))
-  rndf-reads-back reply left (New.refused line number a e k) = Old.refused line number (refuses-back line number a) e (k ∙ sym (zeros-same t))
+  rndf-reads-back reply left (New.refused line number a e k) = Old.refused line number (refuses-back line number a) e k
 
 -- ## An MDF for a network
 module _ (n : Network Field) (mdf : Bytes) (u : MissionLent) where
@@ -104,10 +104,10 @@ module _ (rndf mdf : Bytes) (t : Lent) (u : MissionLent) where
 
   pub pair-reads-to : (reply : PairReply) (left : Lent) (mission-left : MissionLent) → Old.ReadsPair rndf mdf t u reply left mission-left → New.ReadsPair present rndf mdf t u reply left mission-left
   pair-reads-to reply left mission-left (Old.accepted n m a b e k l) = New.accepted n m (accepts-to rndf t n a) (mdf-accepts-to n mdf u m b) (e ∙ replied n m) (k ∙ filled-same n (a .sound) t) (l ∙ mission-filled-same m u)
-  pair-reads-to reply left mission-left (Old.rndf-refused line number a e k l) = New.rndf-refused line number (refuses-to rndf t line number a) e (k ∙ zeros-same t) (l ∙ mission-zeros-same u)
-  pair-reads-to reply left mission-left (Old.mdf-refused n line number a b e k l) = New.mdf-refused n line number (accepts-to rndf t n a) (mdf-refuses-to n mdf u line number b) e (k ∙ zeros-same t) (l ∙ mission-zeros-same u)
+  pair-reads-to reply left mission-left (Old.rndf-refused line number a e k l) = New.rndf-refused line number (refuses-to rndf t line number a) e k l
+  pair-reads-to reply left mission-left (Old.mdf-refused n line number a b e k l) = New.mdf-refused n line number (accepts-to rndf t n a) (mdf-refuses-to n mdf u line number b) e k l
 
   pub pair-reads-back : (reply : PairReply) (left : Lent) (mission-left : MissionLent) → New.ReadsPair present rndf mdf t u reply left mission-left → Old.ReadsPair rndf mdf t u reply left mission-left
   pair-reads-back reply left mission-left (New.accepted n m a b e k l) = Old.accepted n m (accepts-back rndf t n a) (mdf-accepts-back n mdf u m b) (e ∙ sym (replied n m)) (k ∙ sym (filled-same n (a .right) t)) (l ∙ sym (mission-filled-same m u))
-  pair-reads-back reply left mission-left (New.rndf-refused line number a e k l) = Old.rndf-refused line number (refuses-back rndf t line number a) e (k ∙ sym (zeros-same t)) (l ∙ sym (mission-zeros-same u))
-  pair-reads-back reply left mission-left (New.mdf-refused n line number a b e k l) = Old.mdf-refused n line number (accepts-back rndf t n a) (mdf-refuses-back n mdf u line number b) e (k ∙ sym (zeros-same t)) (l ∙ sym (mission-zeros-same u))
+  pair-reads-back reply left mission-left (New.rndf-refused line number a e k l) = Old.rndf-refused line number (refuses-back rndf t line number a) e k l
+  pair-reads-back reply left mission-left (New.mdf-refused n line number a b e k l) = Old.mdf-refused n line number (accepts-back rndf t n a) (mdf-refuses-back n mdf u line number b) e k l
