@@ -1,11 +1,12 @@
--- The places do not look into names: a step is the same whatever names are. Proved once, for two machines that differ only in what their statements say. Assumes nothing.
+-- The places do not look into names: a step is the same whatever names are. Proved once, for two machines that differ only in what their statements say; and what statements of a kind say moves along with the names. Assumes nothing.
 use mathlib.Core.Path.{_≡_, refl, sym, ap, ap₂, subst, subst-refl, _∙_, pathJ}
 use mathlib.Core.List.{List, [], _∷_, map}
 use mathlib.Core.Option.{Option, none, some}
 use mathlib.Core.Bool.{Bool, true, false, _&&_}
 use Prim.Native.Nat.{ℕ, zero, suc}
 use lib.Dec.{T}
-use Rattle.grammar.specs.Language.{Lang, S, say, as-dec, asKind}
+use Rattle.terms.specs.Words.{Among}
+use Rattle.grammar.specs.Language.{Lang, S, say, as-dec, asKind, allOf, Only}
 use Rattle.grammar.specs.Machine.{Out, next, refuse, Opt, Due, Verdict, other, bad, good, judge, lacks, distinct, take, optAt, clear, Machine, Stand, over, inside, guard, enter, hit, settle, step}
 use Rattle.grammar.specs.Forms.{tested}
 use Rattle.grammar.specs.Network.{GoodExit, GoodPerimeterExit}
@@ -17,6 +18,8 @@ use Rattle.grammar.specs.MissionPlaces as Ma
 use Rattle.grammar.specs.Stands.{asDue, ofRow, stands}
 use Rattle.grammar.specs.Stands as Stands
 use Rattle.grammar.specs.Renamed.{says-named, statement-named, orders-named, order-named}
+use Rattle.grammar.proofs.Rows.{each-of-map}
+use Rattle.grammar.proofs.LanguageLaws.{all-some, all-none}
 
 -- ## Options and due statements of both machines
 pub record Both {K : Type 0} (P Q : K → Type 0) (m : (k : K) → P k → Q k) : Type 0 where
@@ -65,6 +68,19 @@ module _ {K : Type 0} (d : Discrete K) (P Q : K → Type 0) (m : (k : K) → P k
       go : (x : Dec (s .kind ≡ k)) → as-dec L′ k (s .kind) x (m (s .kind) (s .val)) ≡ given k (as-dec L k (s .kind) x (s .val))
       go (yes e) = ap some (along k e)
       go (no n) = refl
+
+  -- what the statements of a kind say moves along
+  pub all-moved : (k : K) (os : List (S L)) → allOf L′ k (map moved os) ≡ map (m k) (allOf L k os)
+  all-moved k [] = refl
+  all-moved k (s ∷ os) = go (asKind L k s) refl (all-moved k os)
+    where
+      go : (x : Option (P k)) → asKind L k s ≡ x → allOf L′ k (map moved os) ≡ map (m k) (allOf L k os) → allOf L′ k (map moved (s ∷ os)) ≡ map (m k) (allOf L k (s ∷ os))
+      go (some v) e h = all-some L′ k (moved s) (map moved os) (m k v) (as-moved k s ∙ ap (given k) e) ∙ ap (_∷_ (m k v)) h ∙ sym (ap (map (m k)) (all-some L k s os v e))
+      go none e h = all-none L′ k (moved s) (map moved os) (as-moved k s ∙ ap (given k) e) ∙ h ∙ sym (ap (map (m k)) (all-none L k s os e))
+
+  -- and so do the kinds that there are
+  pub only-moved : (ks : List K) (os : List (S L)) → Only L ks os → Only L′ ks (map moved os)
+  only-moved ks os e = each-of-map (λ s. Among (s .kind) ks) moved os e
 
   opt-moved : (row : List (Both P Q m)) (g : List Bool) (s : S L) → optAt L′ (map right row) g (moved s) ≡ optAt L (map left row) g s
   opt-moved [] g s = refl

@@ -1,28 +1,18 @@
 -- What a statement changes, and the row that it gives, go by what it means. Assumes nothing.
 use mathlib.Core.Path.{_≡_, refl}
-use mathlib.Core.Bool.{Bool, true, false}
 use Prim.Native.Nat.{ℕ}
-use lib.Dec.{eqb}
-use Rattle.terms.specs.Words.{pick}
-use Rattle.grammar.specs.Statements.{Boundary, double-yellow, solid-yellow, solid-white, broken-white}
 use Rattle.statement.specs.declared.Statement.{Statement}
 use Rattle.statement.specs.declared.Statement.the-variants as st
 use Rattle.statement.specs.Meaning.{boundary, meant}
 use Rattle.statement.specs.Kinds.{boundaryRow, written}
+use Rattle.statement.proofs.Laws.{boundary-back}
 use Rattle.progress.specs.declared.Progress.{Progress}
 use Rattle.progress.specs.After.{sideOf, afterOf}
 use Rattle.progress.specs.Given.{rowOf}
 
-there-and-back : (b : Boundary) → boundary (boundaryRow b) ≡ b
-unfolding boundary
-there-and-back double-yellow = refl
-there-and-back solid-yellow = refl
-there-and-back solid-white = refl
-there-and-back broken-white = refl
-
 side-again : (b : ℕ) → sideOf (boundaryRow (boundary b)) ≡ sideOf b
 unfolding sideOf
-side-again b = rw (there-and-back (boundary b)) refl
+side-again b = rw (boundary-back (boundary b)) refl
 
 pub after-by-meaning : (s : Statement) (p : Progress) → afterOf s p ≡ afterOf (written (meant s)) p
 unfolding afterOf

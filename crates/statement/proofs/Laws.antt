@@ -14,7 +14,7 @@ use Prim.Native.Nat.{zero, suc}
 use native.Mathlib.Omega.{arith}
 
 -- ## There and back again
-boundary-back : (b : Boundary) → boundary (boundaryRow b) ≡ b
+pub boundary-back : (b : Boundary) → boundary (boundaryRow b) ≡ b
 unfolding boundary
 boundary-back double-yellow = refl
 boundary-back solid-yellow = refl

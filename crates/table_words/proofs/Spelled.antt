@@ -1,13 +1,13 @@
 -- Spelling does not look into names: a network, or a mission, with its names told in another way is spelled by its statements with their names so told. Assumes nothing.
-use mathlib.Core.Path.{_≡_, refl, sym, ap, ap₂, subst, subst-refl, _∙_, pathJ}
+use mathlib.Core.Path.{_≡_, refl, sym, ap, ap₂, subst, _∙_}
 use mathlib.Core.List.{List, [], _∷_, _++_, map, map-append}
 use mathlib.Core.Option.{Option, none, some}
 use Prim.Native.Nat.{ℕ, suc, _+_}
 use native.Mathlib.Omega.{arith}
 use lib.ListN.{length, length-map}
-use Rattle.terms.specs.Words.{Among, perhaps, InTurn, nothing, then}
+use Rattle.terms.specs.Words.{perhaps, InTurn, nothing, then}
 use Rattle.terms.proofs.Lists.{map-id}
-use Rattle.grammar.specs.Language.{Lang, S, say, as-dec, asKind, allOf, Only}
+use Rattle.grammar.specs.Language.{say, Only}
 use Rattle.grammar.specs.Statements.{Kind, Kind-discrete, Says, Statement, Position, numbered, ofKind, RNDF-name, num-segments, num-zones, format-version, creation-date, segment, num-lanes, segment-name, end-segment, lane, num-waypoints, lane-width, left-boundary, right-boundary, checkpoint, stop, exit, end-lane, zone, num-spots, zone-name, end-zone, perimeter, num-perimeterpoints, end-perimeter, spot, spot-width, end-spot, end-file}
 use Rattle.grammar.specs.Statements as G
 use Rattle.grammar.specs.MissionStatements as M
@@ -15,46 +15,7 @@ use Rattle.grammar.specs.Network.{Lane, Segment, Perimeter, Spot, Zone, Network
 use Rattle.grammar.specs.Mission.{Mission, SpellsMission}
 use Rattle.grammar.specs.Names.{perhaps-name, segment-named, zone-named, network-named, mission-named}
 use Rattle.grammar.specs.Renamed.{says-named, statement-named, orders-named, order-named}
-use Rattle.grammar.proofs.Rows.{each-of-map}
-use Rattle.grammar.proofs.LanguageLaws.{all-some, all-none}
-
--- ## Statements of one kind, for any language
-module _ {K : Type 0} (d : Discrete K) (P Q : K → Type 0) (m : (k : K) → P k → Q k) where
-  abbrev L : Lang
-  L = record { Kind = K; Pay = P; disc = d }
-
-  abbrev L′ : Lang
-  L′ = record { Kind = K; Pay = Q; disc = d }
-
-  abbrev moved : S L → S L′
-  moved s = say L′ (s .kind) (m (s .kind) (s .val))
-
-  abbrev given : (j : K) → Option (P j) → Option (Q j)
-  given j none = none
-  given j (some v) = some (m j v)
-
-  as-moved : (k : K) (s : S L) → asKind L′ k (moved s) ≡ given k (asKind L k s)
-  as-moved k s = go (d (s .kind) k)
-    where
-      along : (j : K) (e : s .kind ≡ j) → subst Q e (m (s .kind) (s .val)) ≡ m j (subst P e (s .val))
-      along j e = pathJ (λ j e. subst Q e (m (s .kind) (s .val)) ≡ m j (subst P e (s .val))) (subst-refl Q (m (s .kind) (s .val)) ∙ ap (m (s .kind)) (sym (subst-refl P (s .val)))) e
-
-      go : (x : Dec (s .kind ≡ k)) → as-dec L′ k (s .kind) x (m (s .kind) (s .val)) ≡ given k (as-dec L k (s .kind) x (s .val))
-      go (yes e) = ap some (along k e)
-      go (no n) = refl
-
-  -- what the statements of a kind say moves along
-  all-moved : (k : K) (os : List (S L)) → allOf L′ k (map moved os) ≡ map (m k) (allOf L k os)
-  all-moved k [] = refl
-  all-moved k (s ∷ os) = go (asKind L k s) refl (all-moved k os)
-    where
-      go : (x : Option (P k)) → asKind L k s ≡ x → allOf L′ k (map moved os) ≡ map (m k) (allOf L k os) → allOf L′ k (map moved (s ∷ os)) ≡ map (m k) (allOf L k (s ∷ os))
-      go (some v) e h = all-some L′ k (moved s) (map moved os) (m k v) (as-moved k s ∙ ap (given k) e) ∙ ap (_∷_ (m k v)) h ∙ sym (ap (map (m k)) (all-some L k s os v e))
-      go none e h = all-none L′ k (moved s) (map moved os) (as-moved k s ∙ ap (given k) e) ∙ h ∙ sym (ap (map (m k)) (all-none L k s os e))
-
-  -- and so do the kinds that there are
-  only-moved : (ks : List K) (os : List (S L)) → Only L ks os → Only L′ ks (map moved os)
-  only-moved ks os e = each-of-map (λ s. Among (s .kind) ks) moved os e
+use Rattle.grammar.proofs.Renaming.{all-moved, only-moved}
 
 -- ## Lists
 map-same : {A : Type 0} (g : A → A) → ((a : A) → g a ≡ a) → (l : List A) → map g l ≡ l
