@@ -201,17 +201,24 @@ fn put_network(
     put_words(exits);
 }
 
-fn show_alone_in(
-    text: &[u8],
-    segments: &mut [u32],
-    lanes: &mut [u32],
-    zones: &mut [u32],
-    spots: &mut [u32],
-    points: &mut [i32],
-    checkpoints: &mut [u32],
-    stops: &mut [u32],
-    exits: &mut [u32],
-) {
+// The tables stand where they are lent from: a function that only handed ten slices on would be dear to check.
+fn show_alone(text: &[u8], room: Room) {
+    let mut segment_words = [FULL; MOST_WORDS];
+    let mut lane_words = [FULL; MOST_WORDS];
+    let mut zone_words = [FULL; MOST_WORDS];
+    let mut spot_words = [FULL; MOST_WORDS];
+    let mut point_words = [-77i32; MOST_WORDS];
+    let mut checkpoint_words = [FULL; MOST_WORDS];
+    let mut stop_words = [FULL; MOST_WORDS];
+    let mut exit_words = [FULL; MOST_WORDS];
+    let segments = lent(&mut segment_words, room.segments);
+    let lanes = lent(&mut lane_words, room.lanes);
+    let zones = lent(&mut zone_words, room.zones);
+    let spots = lent(&mut spot_words, room.spots);
+    let points = lent_signed(&mut point_words, room.points);
+    let checkpoints = lent(&mut checkpoint_words, room.checkpoints);
+    let stops = lent(&mut stop_words, room.stops);
+    let exits = lent(&mut exit_words, room.exits);
     let reply = read_rndf(
         text,
         segments,
@@ -236,7 +243,7 @@ fn show_alone_in(
     );
 }
 
-fn show_alone(text: &[u8], room: Room) {
+fn show_pair(rndf: &[u8], mdf: &[u8], room: Room) {
     let mut segment_words = [FULL; MOST_WORDS];
     let mut lane_words = [FULL; MOST_WORDS];
     let mut zone_words = [FULL; MOST_WORDS];
@@ -245,33 +252,18 @@ fn show_alone(text: &[u8], room: Room) {
     let mut checkpoint_words = [FULL; MOST_WORDS];
     let mut stop_words = [FULL; MOST_WORDS];
     let mut exit_words = [FULL; MOST_WORDS];
-    show_alone_in(
-        text,
-        lent(&mut segment_words, room.segments),
-        lent(&mut lane_words, room.lanes),
-        lent(&mut zone_words, room.zones),
-        lent(&mut spot_words, room.spots),
-        lent_signed(&mut point_words, room.points),
-        lent(&mut checkpoint_words, room.checkpoints),
-        lent(&mut stop_words, room.stops),
-        lent(&mut exit_words, room.exits),
-    );
-}
-
-fn show_pair_in(
-    rndf: &[u8],
-    mdf: &[u8],
-    segments: &mut [u32],
-    lanes: &mut [u32],
-    zones: &mut [u32],
-    spots: &mut [u32],
-    points: &mut [i32],
-    checkpoints: &mut [u32],
-    stops: &mut [u32],
-    exits: &mut [u32],
-    goals: &mut [u32],
-    limits: &mut [u32],
-) {
+    let mut goal_words = [FULL; MOST_WORDS];
+    let mut limit_words = [FULL; MOST_WORDS];
+    let segments = lent(&mut segment_words, room.segments);
+    let lanes = lent(&mut lane_words, room.lanes);
+    let zones = lent(&mut zone_words, room.zones);
+    let spots = lent(&mut spot_words, room.spots);
+    let points = lent_signed(&mut point_words, room.points);
+    let checkpoints = lent(&mut checkpoint_words, room.checkpoints);
+    let stops = lent(&mut stop_words, room.stops);
+    let exits = lent(&mut exit_words, room.exits);
+    let goals = lent(&mut goal_words, room.goals);
+    let limits = lent(&mut limit_words, room.limits);
     let reply = read_pair(
         rndf,
         mdf,
@@ -299,33 +291,6 @@ fn show_pair_in(
     );
     put_words(goals);
     put_words(limits);
-}
-
-fn show_pair(rndf: &[u8], mdf: &[u8], room: Room) {
-    let mut segment_words = [FULL; MOST_WORDS];
-    let mut lane_words = [FULL; MOST_WORDS];
-    let mut zone_words = [FULL; MOST_WORDS];
-    let mut spot_words = [FULL; MOST_WORDS];
-    let mut point_words = [-77i32; MOST_WORDS];
-    let mut checkpoint_words = [FULL; MOST_WORDS];
-    let mut stop_words = [FULL; MOST_WORDS];
-    let mut exit_words = [FULL; MOST_WORDS];
-    let mut goal_words = [FULL; MOST_WORDS];
-    let mut limit_words = [FULL; MOST_WORDS];
-    show_pair_in(
-        rndf,
-        mdf,
-        lent(&mut segment_words, room.segments),
-        lent(&mut lane_words, room.lanes),
-        lent(&mut zone_words, room.zones),
-        lent(&mut spot_words, room.spots),
-        lent_signed(&mut point_words, room.points),
-        lent(&mut checkpoint_words, room.checkpoints),
-        lent(&mut stop_words, room.stops),
-        lent(&mut exit_words, room.exits),
-        lent(&mut goal_words, room.goals),
-        lent(&mut limit_words, room.limits),
-    );
 }
 
 // ## The cases
