@@ -1,5 +1,5 @@
--- A text that spells a network, or a mission, has one house writing; it fits an output, or it does not; and what the reader accepted spells one. Assumes nothing.
-use mathlib.Core.Path.{_≡_, sym, ap, _∙_}
+-- A text that spells a network has one house writing and one map, one that spells a mission has one house writing; it fits an output, or it does not; and what the reader accepted spells one. Assumes nothing.
+use mathlib.Core.Path.{_≡_, refl, sym, ap, _∙_}
 use mathlib.Core.Logic.{_⊎_, inl, inr}
 use Prim.Native.Nat.{ℕ}
 use Rattle.terms.specs.Ascii.{Bytes}
@@ -9,6 +9,7 @@ use Rattle.law.specs.Tables.{Lent, MissionLent}
 use Rattle.grammar.proofs.Written.{network-good, mission-good}
 use Rattle.text.proofs.Theorems.{one-rndf, one-mdf}
 use Rattle.law_spelling.proofs.Texts.{rndf-back, mdf-back}
+use Rattle.map_law.specs.Map.{geojson}
 use Rattle.house_text.specs.House.{HouseRndf, HouseMdf}
 use Rattle.house_text.specs.HouseText.{house-rndf, house-mdf}
 use Rattle.house_text.proofs.Lawful.{house-rndf-only, house-rndf-is, house-mdf-only, house-mdf-is}
@@ -25,13 +26,20 @@ use Rattle.replies.specs.declared.RndfReply.the-variants as Reply
 use Rattle.replies.specs.declared.PairReply.the-variants as Pair
 use Rattle.replies.specs.Replies.{ReadsRndf, ReadsPair}
 use Rattle.replies.proofs.Said.{accepted-filled, pair-accepted-filled}
+use Rattle.writings.specs.Writes.{MapOf}
 
 -- ## Writings
-pub record RndfWriting (text : Bytes) : Type 0 where
+-- a writing of the network that a text spells
+pub record WritingOf (Writing : Network Field → Bytes → Type 0) (text : Bytes) : Type 0 where
   pub net : Network Field
   pub writing : Bytes
   pub spelled : SpellsText present SpellsNetwork net text
-  pub house : HouseRndf net writing
+  pub house : Writing net writing
+
+-- every text that spells a network has one such writing, and no second
+pub record OneWriting (Writing : Network Field → Bytes → Type 0) : Type 0 where
+  pub there : (n : Network Field) (text : Bytes) → SpellsText present SpellsNetwork n text → WritingOf Writing text
+  pub same : (text : Bytes) (x y : WritingOf Writing text) → x .writing ≡ y .writing
 
 pub record MdfWriting (mdf : Bytes) : Type 0 where
   pub mission : Mission Field
@@ -39,14 +47,24 @@ pub record MdfWriting (mdf : Bytes) : Type 0 where
   pub spelled : SpellsText present SpellsMission mission mdf
   pub house : HouseMdf mission writing
 
-pub rndf-writing-one : (text : Bytes) (x y : RndfWriting text) → x .writing ≡ y .writing
-rndf-writing-one text x y = house-rndf-only (x .net) (x .writing) (x .house) ∙ ap house-rndf (one-rndf (x .net) (y .net) text (rndf-back (x .net) text (x .spelled)) (rndf-back (y .net) text (y .spelled))) ∙ sym (house-rndf-only (y .net) (y .writing) (y .house))
+one-net : {Writing : Network Field → Bytes → Type 0} (text : Bytes) (x y : WritingOf Writing text) → x .net ≡ y .net
+one-net text x y = one-rndf (x .net) (y .net) text (rndf-back (x .net) text (x .spelled)) (rndf-back (y .net) text (y .spelled))
+
+pub house-one : OneWriting HouseRndf
+house-one = record {
+  there = λ n text s. let b = rndf-back n text s in record { net = n; writing = house-rndf n; spelled = s; house = house-rndf-is n (network-good n (b .said) (b .net)) };
+  same = λ text x y. house-rndf-only (x .net) (x .writing) (x .house) ∙ ap house-rndf (one-net text x y) ∙ sym (house-rndf-only (y .net) (y .writing) (y .house));
+}
+
+-- a map is a function of the network
+pub map-one : OneWriting MapOf
+map-one = record {
+  there = λ n text s. record { net = n; writing = geojson n; spelled = s; house = refl };
+  same = λ text x y. x .house ∙ ap geojson (one-net text x y) ∙ sym (y .house);
+}
 
 pub mdf-writing-one : (mdf : Bytes) (x y : MdfWriting mdf) → x .writing ≡ y .writing
 mdf-writing-one mdf x y = house-mdf-only (x .mission) (x .writing) (x .house) ∙ ap house-mdf (one-mdf (x .mission) (y .mission) mdf (mdf-back (x .mission) mdf (x .spelled)) (mdf-back (y .mission) mdf (y .spelled))) ∙ sym (house-mdf-only (y .mission) (y .writing) (y .house))
-
-rndf-written : (n : Network Field) (text : Bytes) → SpellsText present SpellsNetwork n text → RndfWriting text
-rndf-written n text s = let b = rndf-back n text s in record { net = n; writing = house-rndf n; spelled = s; house = house-rndf-is n (network-good n (b .said) (b .net)) }
 
 mdf-written : (m : Mission Field) (mdf : Bytes) → SpellsText present SpellsMission m mdf → MdfWriting mdf
 mdf-written m mdf s = let b = mdf-back m mdf s in record { mission = m; writing = house-mdf m; spelled = s; house = house-mdf-is m (mission-good m (b .said) (b .net)) }
@@ -59,8 +77,8 @@ fits-or-not lent x = go (answerOf lent x) (output-is lent x)
     go Finished.TooLong o = inr (answered-too-long o .0)
 
 -- ## What the reader accepted has one
-pub accepted-written : (text : Bytes) (t left : Lent) (c : Counts) (file : FileRow) → ReadsRndf present text t (Reply.Accepted c file) left → RndfWriting text
-accepted-written text t left c file h = let x = accepted-filled text t left c file h in rndf-written (x .0) text (x .1 .spelled)
+pub accepted-written : {Writing : Network Field → Bytes → Type 0} → OneWriting Writing → (text : Bytes) (t left : Lent) (c : Counts) (file : FileRow) → ReadsRndf present text t (Reply.Accepted c file) left → WritingOf Writing text
+accepted-written one text t left c file h = let x = accepted-filled text t left c file h in one .there (x .0) text (x .1 .spelled)
 
 pub pair-written : (rndf mdf : Bytes) (t left : Lent) (u mission-left : MissionLent) (c : Counts) (file : FileRow) (d : MissionCounts) (row : MissionFileRow) → ReadsPair present rndf mdf t u (Pair.Accepted c file d row) left mission-left → MdfWriting mdf
 pair-written rndf mdf t left u mission-left c file d row h = let x = pair-accepted-filled rndf mdf t left u mission-left c file d row h in mdf-written (x .1) mdf (x .3 .spelled)

@@ -4,6 +4,7 @@ use Rattle.line.specs.Line.{Field}
 use Rattle.law.specs.Network.{Network, Mission, Rules, SpellsNetwork, SpellsMission, SpellsText}
 use Rattle.law.specs.Tables.{Lent, MissionLent, mission-zeros}
 use Rattle.law.specs.Tables as Tables
+use Rattle.map_law.specs.Map.{geojson}
 use Rattle.house_text.specs.House.{HouseRndf, HouseMdf}
 use Rattle.output.specs.Output.{zeros, Fits, filled}
 use Rattle.rows.specs.declared.FileRow.{FileRow}
@@ -19,16 +20,27 @@ use Rattle.writings.specs.declared.WriteReply.the-variants as Write
 use Rattle.writings.specs.declared.WriteMdfReply.{WriteMdfReply}
 use Rattle.writings.specs.declared.WriteMdfReply.the-variants as WriteMdf
 
--- ## An RNDF: the reply, and what is left in the lent tables and the lent output. t: these tables as they were lent; lent: the length of that output; writing: the house writing
-pub data WritesRndf (rules : Rules) (text : Bytes) (t : Lent) (lent : ℕ) (reply : WriteReply) (left : Lent) (out : Bytes) : Type 0 where
+-- ## Any writing of an accepted network: the reply, and what is left in the lent tables and the lent output. t: these tables as they were lent; lent: the length of that output
+pub data Writes (rules : Rules) (Writing : Network Field → Bytes → Type 0) (text : Bytes) (t : Lent) (lent : ℕ) (reply : WriteReply) (left : Lent) (out : Bytes) : Type 0 where
   -- 01: "reads them first and refuses as the reader does before any refusal of its own"
-  refused : (why : Refusal) → ReadsRndf rules text t (Reply.Refused why) left → reply ≡ Write.Refused why → out ≡ zeros lent → WritesRndf rules text t lent reply left out
-  -- 01: 19 "house writing over 16,777,215 bytes or longer than the lent output"; "All lent tables, and the writer's lent output, are then zero over their whole length"
-  too-long : (n : Network Field) (writing : Bytes) (c : Counts) (file : FileRow) (read : Lent) → ReadsRndf rules text t (Reply.Accepted c file) read → SpellsText rules SpellsNetwork n text → HouseRndf n writing → (Fits lent writing → ⊥)
-      → reply ≡ Write.Refused (refusal 1 0 19) → left ≡ Tables.zeros t → out ≡ zeros lent → WritesRndf rules text t lent reply left out
+  refused : (why : Refusal) → ReadsRndf rules text t (Reply.Refused why) left → reply ≡ Write.Refused why → out ≡ zeros lent → Writes rules Writing text t lent reply left out
+  -- 01: 19 "house writing over 16,777,215 bytes or longer than the lent output"; "All lent tables, and the writer's lent output, are then zero over their whole length". L2: "19, with its zeros, where this or a later request's output is over 16,777,215 bytes or longer than the lent one"
+  too-long : (n : Network Field) (writing : Bytes) (c : Counts) (file : FileRow) (read : Lent) → ReadsRndf rules text t (Reply.Accepted c file) read → SpellsText rules SpellsNetwork n text → Writing n writing → (Fits lent writing → ⊥)
+      → reply ≡ Write.Refused (refusal 1 0 19) → left ≡ Tables.zeros t → out ≡ zeros lent → Writes rules Writing text t lent reply left out
   -- the tables hold what the reader leaves. 01: "A lent output is zero behind what was written."
-  written : (n : Network Field) (writing : Bytes) (c : Counts) (file : FileRow) → ReadsRndf rules text t (Reply.Accepted c file) left → SpellsText rules SpellsNetwork n text → HouseRndf n writing → Fits lent writing
-      → reply ≡ Write.Written c file (length writing) → out ≡ filled lent writing → WritesRndf rules text t lent reply left out
+  written : (n : Network Field) (writing : Bytes) (c : Counts) (file : FileRow) → ReadsRndf rules text t (Reply.Accepted c file) left → SpellsText rules SpellsNetwork n text → Writing n writing → Fits lent writing
+      → reply ≡ Write.Written c file (length writing) → out ≡ filled lent writing → Writes rules Writing text t lent reply left out
+
+-- the house writing of an RNDF
+abbrev pub WritesRndf : Rules → (text : Bytes) → Lent → (lent : ℕ) → WriteReply → (left : Lent) → (out : Bytes) → Type 0
+WritesRndf rules = Writes rules HouseRndf
+
+-- L2: "Write an accepted network as one FeatureCollection"
+abbrev pub MapOf : Network Field → Bytes → Type 0
+MapOf n writing = writing ≡ geojson n
+
+abbrev pub WritesMap : Rules → (text : Bytes) → Lent → (lent : ℕ) → WriteReply → (left : Lent) → (out : Bytes) → Type 0
+WritesMap rules = Writes rules MapOf
 
 -- ## The MDF of a pair. u: the goals and limits as they were lent
 pub data WritesMdf (rules : Rules) (rndf mdf : Bytes) (t : Lent) (u : MissionLent) (lent : ℕ) (reply : WriteMdfReply) (left : Lent) (mission-left : MissionLent) (out : Bytes) : Type 0 where
