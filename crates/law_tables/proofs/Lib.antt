@@ -2,6 +2,8 @@
 pub mod SameRows
 pub mod Entries
 pub mod SameTables
+-- Names.
+pub mod NamesStand
 -- References.
 pub mod SameFits
 -- The first line at fault.

@@ -2,6 +2,7 @@
 //
 // proofs/: the laws.
 //   SameRows: the rows of every table. Entries: the row of an entry's point. SameTables: what the lent tables hold, how many rows are used, when there is room.
+//   NamesStand: every name stands in the text and has a byte at least.
 //   SameFits: when a mission fits a network.
 //   Among, LineFaults: the first line at fault, for every file. RndfFirst: 12 and 13. MdfFirst: 14 to 18.
 //

@@ -1,9 +1,8 @@
 -- A name of a spelled text stands in it where it says, so asking for it returns its bytes. Assumes nothing.
-use mathlib.Core.Path.{_≡_, sym, subst, _∙_}
-use mathlib.Core.List.{List, [], _∷_, _++_, append-assoc}
+use mathlib.Core.Path.{_≡_, subst}
+use mathlib.Core.List.{List, [], _∷_}
 use mathlib.Core.Option.{some}
-use Prim.Native.Nat.{ℕ, _+_}
-use native.Mathlib.Omega.{arith}
+use Prim.Native.Nat.{ℕ}
 use lib.ListN.{length}
 use Rattle.terms.specs.Ascii.{Bytes}
 use Rattle.terms.specs.Words.{Each}
@@ -20,15 +19,7 @@ use Rattle.text.specs.MdfLines.{mdf-line}
 use Rattle.text.specs.Spelling.{SpellsLine, says, SpellsLines, done, blank-line, statement, SpellsRndf, SpellsMdf}
 use Rattle.rows.specs.Read.{stretchOf}
 use Rattle.rows.specs.Name.{nameOf}
-use Rattle.rows.proofs.Names.{name-between}
-
--- asking for a field that stands in the text returns its bytes
-pub asked : (text : Bytes) (f : Field) → Within 0 text f → nameOf text (stretchOf (f .start) (length (f .bytes))) ≡ f .bytes
-asked text f w =
-    let e : text ≡ (w .before ++ f .bytes) ++ w .after = w .is ∙ sym (append-assoc (w .before) (f .bytes) (w .after)) in
-    let s : f .start ≡ 0 + length (w .before) = w .starts in
-    let k : f .start ≡ length (w .before) = omega arith in
-    rw (e, k) (name-between (w .before) (f .bytes) (w .after))
+use Rattle.table_words.proofs.Named.{asked}
 
 -- ## The names of statements
 module _ (text : Bytes) where

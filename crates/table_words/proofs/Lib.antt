@@ -4,7 +4,8 @@ pub mod Filled
 -- The numbers in them, and how many there are.
 pub mod Bounds
 pub mod RowsAtMost
--- Names told in another way.
+-- Names: asked for, told in another way.
+pub mod Named
 pub mod Spelled
 pub mod Renamed
 -- Decided.
