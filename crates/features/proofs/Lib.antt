@@ -1,0 +1,2 @@
+-- The laws of the loops: one row more, and the end.
+pub mod Loops

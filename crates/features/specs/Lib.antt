@@ -1,0 +1,2 @@
+-- What is put of any tables.
+pub mod Drawn

@@ -1,0 +1,2 @@
+-- What is put.
+pub mod Json
