@@ -1,0 +1,3 @@
+-- Lists with commas, by place; walks over rows.
+pub mod Marked
+pub mod Passed
