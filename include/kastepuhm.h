@@ -9,9 +9,9 @@
  *
  * What it does
  *   It reads the text of a route network (RNDF) and of a mission (MDF) in the format of March 14, 2007 as document 01 narrows it, and either fills the tables that you lend and
- *   accepts, or refuses with file, line and one number. It also puts the house writing of either file into an output that you lend. That it does so for all texts, all tables
- *   and all outputs is proved of its source (crates/yard, crates/replies/specs/Replies.antt, crates/writings/specs/Writes.antt); the compiler, the declarations below and your
- *   calls are not part of that proof.
+ *   accepts, or refuses with file, line and one number. It also puts the house writing of either file, or a map of the network, into an output that you lend. That it does so for
+ *   all texts, all tables and all outputs is proved of its source (crates/yard, crates/replies/specs/Replies.antt, crates/writings/specs/Writes.antt); the compiler, the
+ *   declarations below and your calls are not part of that proof.
  *
  * What you hand over
  *   Every slice is a pointer and then its length: how many elements it has, not how many rows or bytes. Nothing is asked of what a slice holds, and no length is too short:
@@ -25,7 +25,7 @@
  *   returns. Calls in several threads at once do not disturb each other as long as no two of them write the same tables or output; texts may be shared.
  *
  * Stack, as the kit's compiler builds it (tests/stack.py measures it)
- *   kastepuhm_read_rndf and kastepuhm_write_rndf take less than 8 KiB, kastepuhm_read_pair and kastepuhm_write_mdf less than 12 KiB: 4,096 bytes of marks for each file are in it.
+ *   kastepuhm_read_rndf, kastepuhm_write_rndf and kastepuhm_write_map take less than 8 KiB, kastepuhm_read_pair and kastepuhm_write_mdf less than 12 KiB: 4,096 bytes of marks for each file are in it.
  *   kastepuhm_point_of takes a few words. Give a thread that calls them a stack to match.
  *
  * Time
@@ -202,7 +202,7 @@ enum {
     KASTEPUHM_NO_SUCH_ID = 16,         /* the limit's id is not in the RNDF */
     KASTEPUHM_LIMIT_AGAIN = 17,        /* the limit's id was already given */
     KASTEPUHM_LIMIT_MISSING = 18,      /* some segment or zone has no limit (line: that of end_speed_limits) */
-    KASTEPUHM_OUTPUT_TOO_LONG = 19,    /* writers only, after all others: the house writing is over 16,777,215 bytes or longer than the lent output (file: the one written; line 0) */
+    KASTEPUHM_OUTPUT_TOO_LONG = 19,    /* writers only, after all others: the writing is over 16,777,215 bytes, or longer than the lent output (file: the one written; line 0) */
     KASTEPUHM_LISTS_DIFFER = 20        /* kastepuhm_points_of only: the two lists differ in length (file 0, line 0) */
 };
 
@@ -234,8 +234,8 @@ kastepuhm_answer kastepuhm_read_pair(
     uint32_t *limits, size_t limits_length);
 
 /*
- * The writers. They put the house writing of a file into `out`: one tab between fields, a line feed after every line, no comment, blank line or carriage return, options in their
- * listed order, no sign before 0.000000. What was written is read again as the same network or mission.
+ * The writers. Two put the house writing of a file into `out`: one tab between fields, a line feed after every line, no comment, blank line or carriage return, options in their
+ * listed order, no sign before 0.000000. What was written is read again as the same network or mission. One puts the map of a network there, as GeoJSON: see kastepuhm_write_map.
  *
  * A writer reads the texts first, as the reader of the same texts does, and refuses as it does. Where it accepts, the tables hold what that reader leaves, and the answer has its
  * counts and names; these names are still places in the text that you lent, not in `out`.
@@ -245,7 +245,8 @@ kastepuhm_answer kastepuhm_read_pair(
  * every lent table is 0.
  *
  * How long it has to be: a house writing has at most one byte more than its text (the line feed of an unfinished last line; all else only becomes shorter). Lend
- * text_length + 1 bytes and refusal 19 only comes where the writing itself has over 16,777,215. This bound is not part of what is proved.
+ * text_length + 1 bytes and refusal 19 only comes where the writing itself has over 16,777,215. This bound is not part of what is proved. A map is longer than its text, often
+ * several times: lend 16,777,215 bytes, and refusal 19 only comes where it has more.
  */
 typedef struct kastepuhm_write_answer {
     kastepuhm_answer answer;       /* as the reader of these texts answers, or refusal 19 */
@@ -254,6 +255,22 @@ typedef struct kastepuhm_write_answer {
 
 /* The house writing of an RNDF. */
 kastepuhm_write_answer kastepuhm_write_rndf(
+    const uint8_t *text, size_t text_length,
+    uint32_t *segments, size_t segments_length,
+    uint32_t *lanes, size_t lanes_length,
+    uint32_t *zones, size_t zones_length,
+    uint32_t *spots, size_t spots_length,
+    int32_t *points, size_t points_length,
+    uint32_t *checkpoints, size_t checkpoints_length,
+    uint32_t *stops, size_t stops_length,
+    uint32_t *exits, size_t exits_length,
+    uint8_t *out, size_t out_length);
+
+/*
+ * The map of an RNDF's network, one GeoJSON FeatureCollection (RFC 7946), for web maps: lanes as lines, perimeters as polygons, checkpoints as points, with identifiers and names
+ * as properties. docs/GEOJSON.md lays its bytes down. It has no line feed and no space, and ends with `}`.
+ */
+kastepuhm_write_answer kastepuhm_write_map(
     const uint8_t *text, size_t text_length,
     uint32_t *segments, size_t segments_length,
     uint32_t *lanes, size_t lanes_length,

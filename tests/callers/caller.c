@@ -1,6 +1,6 @@
 /*
  * A worked caller in C: caller NETWORK [MISSION] reads an RNDF, alone or with its MDF, and prints the summary program's line, what stands in the tables, and then the
- * length and first line of the house writing.
+ * length and first line of the house writing, and the network's map.
  * Texts up to 8,192 bytes, 256 points and 128 rows of every other table, as the summary program has them; all of it lies in this program's own memory.
  */
 #include "kastepuhm.h"
@@ -35,6 +35,8 @@ static uint32_t limits[ROWS * KASTEPUHM_LIMIT_STRIDE];
 static uint32_t goal_points[ROWS];
 /* One byte more than a text may have: its last line may come without a line feed. */
 static uint8_t house[MOST_BYTES + 1];
+/* A map may have about seven times its text's bytes; if this is too short, refusal 19 says so. */
+static uint8_t map[8 * MOST_BYTES];
 
 /* Whether the file could be taken; if not, why is printed. */
 static int load(const char *path, uint8_t *text, size_t *length)
@@ -196,6 +198,14 @@ static void print_house(const char *what, const kastepuhm_write_answer *w)
     printf("house writing of the %s %" PRIu32 " bytes: %.*s\n", what, w->length, end, (const char *)house);
 }
 
+static void print_map(const kastepuhm_write_answer *w)
+{
+    if (w->answer.accepted)
+        printf("map of the network %" PRIu32 " bytes: %.*s\n", w->length, (int)w->length, (const char *)map);
+    else
+        printf("map of the network refused %" PRIu32 " %" PRIu32 " %" PRIu32 "\n", w->answer.file, w->answer.line, w->answer.number);
+}
+
 int main(int count, char **words)
 {
     size_t rndf_length, mdf_length;
@@ -229,5 +239,8 @@ int main(int count, char **words)
                                 checkpoints, LENGTH(checkpoints), stops, LENGTH(stops), exits, LENGTH(exits), goals, LENGTH(goals), limits, LENGTH(limits), house, LENGTH(house));
         print_house("mission", &w);
     }
+    w = kastepuhm_write_map(rndf, rndf_length, segments, LENGTH(segments), lanes, LENGTH(lanes), zones, LENGTH(zones), spots, LENGTH(spots), points, LENGTH(points),
+                            checkpoints, LENGTH(checkpoints), stops, LENGTH(stops), exits, LENGTH(exits), map, LENGTH(map));
+    print_map(&w);
     return 0;
 }

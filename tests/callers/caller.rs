@@ -1,5 +1,5 @@
 //! A worked caller in Rust, without crates: `caller NETWORK [MISSION]` reads an RNDF, alone or with its MDF, and prints the summary program's line, what stands in the tables, and
-//! then the length and first line of the house writing. The module `kastepuhm` is what to copy: the declarations and safe functions over them. include/kastepuhm.h says what every column and number means.
+//! then the length and first line of the house writing, and the network's map. The module `kastepuhm` is what to copy: the declarations and safe functions over them. include/kastepuhm.h says what every column and number means.
 //! Texts up to 8,192 bytes, 256 points and 128 rows of every other table, as the summary program has them.
 use std::io::Read;
 
@@ -125,6 +125,19 @@ mod kastepuhm {
             out: *mut u8, out_length: usize,
         ) -> WriteAnswer;
 
+        fn kastepuhm_write_map(
+            text: *const u8, text_length: usize,
+            segments: *mut u32, segments_length: usize,
+            lanes: *mut u32, lanes_length: usize,
+            zones: *mut u32, zones_length: usize,
+            spots: *mut u32, spots_length: usize,
+            points: *mut i32, points_length: usize,
+            checkpoints: *mut u32, checkpoints_length: usize,
+            stops: *mut u32, stops_length: usize,
+            exits: *mut u32, exits_length: usize,
+            out: *mut u8, out_length: usize,
+        ) -> WriteAnswer;
+
         fn kastepuhm_write_mdf(
             rndf: *const u8, rndf_length: usize,
             mdf: *const u8, mdf_length: usize,
@@ -194,6 +207,25 @@ mod kastepuhm {
         // Safe: as in `read_rndf`.
         unsafe {
             kastepuhm_write_rndf(
+                text.as_ptr(), text.len(),
+                t.segments.as_mut_ptr(), t.segments.len(),
+                t.lanes.as_mut_ptr(), t.lanes.len(),
+                t.zones.as_mut_ptr(), t.zones.len(),
+                t.spots.as_mut_ptr(), t.spots.len(),
+                t.points.as_mut_ptr(), t.points.len(),
+                t.checkpoints.as_mut_ptr(), t.checkpoints.len(),
+                t.stops.as_mut_ptr(), t.stops.len(),
+                t.exits.as_mut_ptr(), t.exits.len(),
+                out.as_mut_ptr(), out.len(),
+            )
+        }
+    }
+
+    /// The map of an RNDF's network, as GeoJSON.
+    pub fn write_map(text: &[u8], t: &mut Tables, out: &mut [u8]) -> WriteAnswer {
+        // Safe: as in `read_rndf`.
+        unsafe {
+            kastepuhm_write_map(
                 text.as_ptr(), text.len(),
                 t.segments.as_mut_ptr(), t.segments.len(),
                 t.lanes.as_mut_ptr(), t.lanes.len(),
@@ -328,6 +360,14 @@ fn print_house(what: &str, w: &WriteAnswer, out: &[u8]) {
     println!("house writing of the {what} {} bytes: {}", w.length, String::from_utf8_lossy(first));
 }
 
+fn print_map(w: &WriteAnswer, out: &[u8]) {
+    if w.answer.accepted == 0 {
+        println!("map of the network refused {} {} {}", w.answer.file, w.answer.line, w.answer.number);
+        return;
+    }
+    println!("map of the network {} bytes: {}", w.length, String::from_utf8_lossy(&out[..w.length as usize]));
+}
+
 fn run(network: &str, mission: Option<&str>) -> Result<(), &'static str> {
     let rndf = load(network)?;
     let mdf = mission.map(load).transpose()?;
@@ -356,6 +396,9 @@ fn run(network: &str, mission: Option<&str>) -> Result<(), &'static str> {
         let w = kastepuhm::write_mdf(&rndf, mdf, &mut t, &mut house);
         print_house("mission", &w, &house);
     }
+    let mut map = vec![0; 8 * MOST_BYTES];
+    let w = kastepuhm::write_map(&rndf, &mut t, &mut map);
+    print_map(&w, &map);
     Ok(())
 }
 

@@ -3,14 +3,19 @@
 use mathlib.Core.Path.{_≡_, refl, sym, ap, _∙_}
 use Prim.Native.Nat.{ℕ}
 use Rattle.terms.specs.Ascii.{Bytes}
+use Rattle.line.specs.Content.{Field}
+use Rattle.law.specs.Network.{Network}
 use Rattle.law.specs.Tables.{Lent, MissionLent}
 use Rattle.replies.proofs.Settled.{rndf-settled, rndf-some}
 use Rattle.replies.proofs.Settled.{pair-settled, pair-some}
-use Rattle.writings.proofs.Settled.{rndf-write-settled, rndf-write-some}
+use Rattle.house_text.specs.House.{HouseRndf}
+use Rattle.writings.specs.Writes.{MapOf}
+use Rattle.writings.proofs.OneWriting.{OneWriting, house-one, map-one}
+use Rattle.writings.proofs.Settled.{write-settled, write-some}
 use Rattle.writings.proofs.MdfSettled.{mdf-write-settled, mdf-write-some}
 use Rattle.answer_fields.specs.declared.Answer.{Answer}
 use Rattle.answer_fields.specs.declared.WriteAnswer.{WriteAnswer}
-use Rattle.answer_fields.specs.Answers.{rndf-answer, pair-answer, write-answer, write-mdf-answer, AnswersRndf, AnswersPair, AnswersWriteRndf, AnswersWriteMdf}
+use Rattle.answer_fields.specs.Answers.{rndf-answer, pair-answer, write-answer, write-mdf-answer, AnswersRndf, AnswersPair, AnswersWrite, AnswersWriteRndf, AnswersWriteMap, AnswersWriteMdf}
 
 -- no second answer, and no second memory
 pub rndf-answer-settled : (text : Bytes) (t : Lent) (a a′ : Answer) (l l′ : Lent) → AnswersRndf text t a l → AnswersRndf text t a′ l′ → (a ≡ a′) × (l ≡ l′)
@@ -36,22 +41,38 @@ pair-answer-some rndf mdf t u =
     (pair-answer (x .reply), x .left, x .mission-left, record { reply = x .reply; reads = x .reads; told = refl })
 
 -- ## The writers
-pub write-answer-settled : (text : Bytes) (t : Lent) (lent : ℕ) (a a′ : WriteAnswer) (l l′ : Lent) (o o′ : Bytes) → AnswersWriteRndf text t lent a l o → AnswersWriteRndf text t lent a′ l′ o′
-    → (a ≡ a′) × (l ≡ l′) × (o ≡ o′)
-write-answer-settled text t lent a a′ l l′ o o′ x y =
-    let same = rndf-write-settled text t lent (x .reply) (y .reply) l l′ o o′ (x .writes) (y .writes) in
-    (x .told ∙ ap write-answer (same .0) ∙ sym (y .told), same .1, same .2)
+-- any writing of a network that an accepted network has exactly one of
+module _ (Writing : Network Field → Bytes → Type 0) (one : OneWriting Writing) (text : Bytes) (t : Lent) (lent : ℕ) where
+  any-answer-settled : (a a′ : WriteAnswer) (l l′ : Lent) (o o′ : Bytes) → AnswersWrite Writing text t lent a l o → AnswersWrite Writing text t lent a′ l′ o′ → (a ≡ a′) × (l ≡ l′) × (o ≡ o′)
+  any-answer-settled a a′ l l′ o o′ x y =
+      let same = write-settled Writing one text t lent (x .reply) (y .reply) l l′ o o′ (x .writes) (y .writes) in
+      (x .told ∙ ap write-answer (same .0) ∙ sym (y .told), same .1, same .2)
 
+  any-answer-some : (a : WriteAnswer) × (l : Lent) × (o : Bytes) × AnswersWrite Writing text t lent a l o
+  any-answer-some =
+      let x = write-some Writing one text t lent in
+      (write-answer (x .reply), x .left, x .out, record { reply = x .reply; writes = x .writes; told = refl })
+
+-- the house writing, and the map
+module _ (text : Bytes) (t : Lent) (lent : ℕ) where
+  pub write-answer-settled : (a a′ : WriteAnswer) (l l′ : Lent) (o o′ : Bytes) → AnswersWriteRndf text t lent a l o → AnswersWriteRndf text t lent a′ l′ o′ → (a ≡ a′) × (l ≡ l′) × (o ≡ o′)
+  write-answer-settled = any-answer-settled HouseRndf house-one text t lent
+
+  pub write-answer-some : (a : WriteAnswer) × (l : Lent) × (o : Bytes) × AnswersWriteRndf text t lent a l o
+  write-answer-some = any-answer-some HouseRndf house-one text t lent
+
+  pub map-answer-settled : (a a′ : WriteAnswer) (l l′ : Lent) (o o′ : Bytes) → AnswersWriteMap text t lent a l o → AnswersWriteMap text t lent a′ l′ o′ → (a ≡ a′) × (l ≡ l′) × (o ≡ o′)
+  map-answer-settled = any-answer-settled MapOf map-one text t lent
+
+  pub map-answer-some : (a : WriteAnswer) × (l : Lent) × (o : Bytes) × AnswersWriteMap text t lent a l o
+  map-answer-some = any-answer-some MapOf map-one text t lent
+
+-- the MDF of a pair
 pub write-mdf-answer-settled : (rndf mdf : Bytes) (t : Lent) (u : MissionLent) (lent : ℕ) (a a′ : WriteAnswer) (l l′ : Lent) (k k′ : MissionLent) (o o′ : Bytes)
     → AnswersWriteMdf rndf mdf t u lent a l k o → AnswersWriteMdf rndf mdf t u lent a′ l′ k′ o′ → (a ≡ a′) × (l ≡ l′) × (k ≡ k′) × (o ≡ o′)
 write-mdf-answer-settled rndf mdf t u lent a a′ l l′ k k′ o o′ x y =
     let same = mdf-write-settled rndf mdf t u lent (x .reply) (y .reply) l l′ k k′ o o′ (x .writes) (y .writes) in
     (x .told ∙ ap write-mdf-answer (same .0) ∙ sym (y .told), same .1, same .2, same .3)
-
-pub write-answer-some : (text : Bytes) (t : Lent) (lent : ℕ) → (a : WriteAnswer) × (l : Lent) × (o : Bytes) × AnswersWriteRndf text t lent a l o
-write-answer-some text t lent =
-    let x = rndf-write-some text t lent in
-    (write-answer (x .reply), x .left, x .out, record { reply = x .reply; writes = x .writes; told = refl })
 
 pub write-mdf-answer-some : (rndf mdf : Bytes) (t : Lent) (u : MissionLent) (lent : ℕ)
     → (a : WriteAnswer) × (l : Lent) × (k : MissionLent) × (o : Bytes) × AnswersWriteMdf rndf mdf t u lent a l k o

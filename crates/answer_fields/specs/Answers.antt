@@ -3,7 +3,8 @@ use mathlib.Core.Path.{_≡_}
 use mathlib.Core.List.{List}
 use Prim.Native.Nat.{ℕ}
 use Rattle.terms.specs.Ascii.{Bytes}
-use Rattle.law.specs.Network.{present}
+use Rattle.line.specs.Line.{Field}
+use Rattle.law.specs.Network.{Network, present}
 use Rattle.law.specs.Tables.{Lent, MissionLent}
 use Rattle.rows.specs.Read.{stretchOf}
 use Rattle.rows.specs.declared.Stretch.{Stretch}
@@ -21,7 +22,8 @@ use Rattle.writings.specs.declared.WriteReply.{WriteReply}
 use Rattle.writings.specs.declared.WriteReply.the-variants as Write
 use Rattle.writings.specs.declared.WriteMdfReply.{WriteMdfReply}
 use Rattle.writings.specs.declared.WriteMdfReply.the-variants as WriteMdf
-use Rattle.writings.specs.Writes.{WritesRndf, WritesMdf}
+use Rattle.house_text.specs.House.{HouseRndf}
+use Rattle.writings.specs.Writes.{Writes, MapOf, WritesMdf}
 use Rattle.answer_fields.specs.declared.Name.{Name}
 use Rattle.answer_fields.specs.declared.Answer.{Answer}
 use Rattle.look_up.specs.declared.ListReply.{ListReply}
@@ -109,11 +111,19 @@ pub record AnswersPair (rndf mdf : Bytes) (t : Lent) (u : MissionLent) (given : 
   pub reads : ReadsPair present rndf mdf t u reply left mission-left
   pub told : given ≡ pair-answer reply
 
--- ## The house writing of an RNDF: the fields of the writer's reply, and the tables and the output as it promises. lent: the length of that output
-pub record AnswersWriteRndf (text : Bytes) (t : Lent) (lent : ℕ) (given : WriteAnswer) (left : Lent) (out : Bytes) : Type 0 where
+-- ## Any writing of an RNDF's network: the fields of the writer's reply, and the tables and the output as it promises. lent: the length of that output
+pub record AnswersWrite (Writing : Network Field → Bytes → Type 0) (text : Bytes) (t : Lent) (lent : ℕ) (given : WriteAnswer) (left : Lent) (out : Bytes) : Type 0 where
   pub reply : WriteReply
-  pub writes : WritesRndf present text t lent reply left out
+  pub writes : Writes present Writing text t lent reply left out
   pub told : given ≡ write-answer reply
+
+-- its house writing
+abbrev pub AnswersWriteRndf : (text : Bytes) → Lent → (lent : ℕ) → WriteAnswer → (left : Lent) → (out : Bytes) → Type 0
+AnswersWriteRndf = AnswersWrite HouseRndf
+
+-- its map. Request L2
+abbrev pub AnswersWriteMap : (text : Bytes) → Lent → (lent : ℕ) → WriteAnswer → (left : Lent) → (out : Bytes) → Type 0
+AnswersWriteMap = AnswersWrite MapOf
 
 -- ## The house writing of the MDF of a pair
 pub record AnswersWriteMdf (rndf mdf : Bytes) (t : Lent) (u : MissionLent) (lent : ℕ) (given : WriteAnswer) (left : Lent) (mission-left : MissionLent) (out : Bytes) : Type 0 where

@@ -30,7 +30,7 @@ reasons =
     ∷ ascii "the limit's id is not in the RNDF"
     ∷ ascii "the limit's id was already given"
     ∷ ascii "some segment or zone has no limit"
-    ∷ ascii "the house writing is over 16,777,215 bytes, or longer than the lent output"
+    ∷ ascii "the writing is over 16,777,215 bytes, or longer than the lent output"
     ∷ ascii "the two lists differ in length"
     ∷ []
 

@@ -94,7 +94,7 @@ fn put_reason_from_15(out: &mut [u8], at: usize, number: u8) -> usize
         19 => put_bytes(
             out,
             at,
-            b"the house writing is over 16,777,215 bytes, or longer than the lent output",
+            b"the writing is over 16,777,215 bytes, or longer than the lent output",
         ),
         _ => put_reason_from_20(out, at, number),
     }

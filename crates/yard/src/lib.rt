@@ -5,7 +5,7 @@
 //
 // Left out: asking for a name (`rows::name_of`), since a part of a slice cannot be returned to C. There a name is `text + start` for `length` bytes.
 //
-// Rests on `answer_fields`, `reader`, `writer`, `look_up` and what they rest on.
+// Rests on `answer_fields`, `reader`, `writer`, `map_writer`, `look_up` and what they rest on.
 use answer_fields::Answer;
 use answer_fields::ListAnswer;
 use answer_fields::Name;
@@ -15,6 +15,7 @@ use counts::MissionCounts;
 use look_up::ListReply;
 use look_up::point_of_word;
 use look_up::points_of;
+use map_writer::write_map;
 use reader::read_pair;
 use reader::read_rndf;
 use refusal::Refusal;
@@ -31,7 +32,7 @@ ghost use mathlib.Core.Path.{_≡_};
 ghost use lib.ListN.{length};
 ghost use Rattle.law.specs.Tables.{lent, mission-lent};
 ghost use Rattle.look_up.specs.LookUp.{PointOf};
-ghost use Rattle.answer_fields.specs.Answers.{named, laid-out, taken, refused, rndf-answer, pair-answer, write-answer, write-mdf-answer, list-answer, AnswersRndf, AnswersPair, AnswersWriteRndf, AnswersWriteMdf, AnswersList};
+ghost use Rattle.answer_fields.specs.Answers.{named, laid-out, taken, refused, rndf-answer, pair-answer, write-answer, write-mdf-answer, list-answer, AnswersRndf, AnswersPair, AnswersWriteRndf, AnswersWriteMap, AnswersWriteMdf, AnswersList};
 
 fn named(s: Stretch) -> Name
     ensures { λ r. ⌜ r ≡ named s ⌝ }
@@ -275,6 +276,37 @@ pub extern "C" fn kastepuhm_write_rndf(
     ensures { λ r. ⌜ AnswersWriteRndf (now (text .entry)) (lent (now (segments .entry)) (now (lanes .entry)) (now (zones .entry)) (now (spots .entry)) (now (points .entry)) (now (checkpoints .entry)) (now (stops .entry)) (now (exits .entry))) (length (now (out .entry))) r (lent (now (segments .exit)) (now (lanes .exit)) (now (zones .exit)) (now (spots .exit)) (now (points .exit)) (now (checkpoints .exit)) (now (stops .exit)) (now (exits .exit))) (now (out .exit)) ⌝ }
 {
     let reply = write_rndf(
+        text,
+        segments,
+        lanes,
+        zones,
+        spots,
+        points,
+        checkpoints,
+        stops,
+        exits,
+        out,
+    );
+    write_answer(reply)
+}
+
+// The map of an RNDF's network, into `out`.
+#[no_mangle]
+pub extern "C" fn kastepuhm_write_map(
+    text: &[u8],
+    segments: &mut [u32],
+    lanes: &mut [u32],
+    zones: &mut [u32],
+    spots: &mut [u32],
+    points: &mut [i32],
+    checkpoints: &mut [u32],
+    stops: &mut [u32],
+    exits: &mut [u32],
+    out: &mut [u8],
+) -> WriteAnswer
+    ensures { λ r. ⌜ AnswersWriteMap (now (text .entry)) (lent (now (segments .entry)) (now (lanes .entry)) (now (zones .entry)) (now (spots .entry)) (now (points .entry)) (now (checkpoints .entry)) (now (stops .entry)) (now (exits .entry))) (length (now (out .entry))) r (lent (now (segments .exit)) (now (lanes .exit)) (now (zones .exit)) (now (spots .exit)) (now (points .exit)) (now (checkpoints .exit)) (now (stops .exit)) (now (exits .exit))) (now (out .exit)) ⌝ }
+{
+    let reply = write_map(
         text,
         segments,
         lanes,
