@@ -1,0 +1,192 @@
+// The planners' map: `yard_map RNDF`, the name of a file. It prints the network's map (GeoJSON, docs/GEOJSON.md) on standard output; or, on standard error, one sentence:
+// what is wrong, with the file's name, the line, the reason and its number, in the words of `yard_check`; or why the file could not be read. Standard output is then
+// empty. `run-map` builds and runs it, and adds a status.
+//
+// Nothing is promised of what is printed (no contract can say it); what is written is `write_map`'s, and proved there.
+//
+// Memory: there is no heap, and the usual stack has 8 MiB. So a text may have 524,288 bytes, every table has the rows that such a text can fill, as in `yard_check`, and the
+// output has eight bytes to each of the text: 11 and 19 should never come of it (counted by hand, not proved; if they came, they would be told). A larger file is too big for
+// this program; of one over 16,777,215 bytes the answer is known without it: 1.
+use answers::put_sentence;
+use libc::STDERR_FILENO;
+use libc::STDOUT_FILENO;
+use map_writer::write_map;
+use writings::WriteReply;
+
+const MOST_BYTES: usize = 524288;
+
+// The most that a byte of text can give is in a lane of one point (58 bytes) under a name of 128 quotation marks, 6.7 bytes, and in a checkpoint (19 bytes), 7.6.
+const MOST_MAP: usize = 8 * MOST_BYTES;
+
+// The longest name that a system opens.
+const MOST_NAME: usize = 4095;
+
+// Room for a name and a reason.
+const MOST_ANSWER: usize = 4608;
+
+// The words of each table, as in `yard_check`.
+const SEGMENT_WORDS: usize = 4 * (MOST_BYTES / 92 + 1);
+
+const LANE_WORDS: usize = 5 * (MOST_BYTES / 58 + 1);
+
+const ZONE_WORDS: usize = 6 * (MOST_BYTES / 102 + 1);
+
+const SPOT_WORDS: usize = 2 * (MOST_BYTES / 66 + 1);
+
+const POINT_WORDS: usize = 2 * (MOST_BYTES / 24 + 1);
+
+const CHECKPOINT_WORDS: usize = 2 * (MOST_BYTES / 19 + 1);
+
+const STOP_WORDS: usize = MOST_BYTES / 11 + 1;
+
+const EXIT_WORDS: usize = 2 * (MOST_BYTES / 17 + 1);
+
+// ## Files
+
+// What came of a file: so many bytes of it, or why there are none.
+enum Loaded {
+    Bytes(usize),
+    OverLimit,
+    TooBig,
+    Unreadable,
+}
+
+// The first n bytes, or all of them.
+fn first(s: &[u8], n: usize) -> &[u8] {
+    if n < s.len() { &s[..n] } else { s }
+}
+
+// Fills the lent text from an open file. A byte that is left over behind a full text makes it too big; where the file ends tells whether it is over
+// the readers' limit too (of a pipe that is not told).
+fn load_open(fd: i32, text: &mut [u8]) -> Loaded {
+    let n = io::read_full(fd, text);
+    let mut more = [0u8; 1];
+    let got = libc::read(fd, &mut more);
+    if got < 0 {
+        return Loaded::Unreadable;
+    }
+    if got == 0 {
+        return Loaded::Bytes(n);
+    }
+    if libc::lseek(fd, 0, libc::SEEK_END) > 16777215 {
+        Loaded::OverLimit
+    } else {
+        Loaded::TooBig
+    }
+}
+
+fn load(path: &[u8], text: &mut [u8]) -> Loaded {
+    let fd = os::open_read(path);
+    if fd < 0 {
+        return Loaded::Unreadable;
+    }
+    let loaded = load_open(fd, text);
+    libc::close(fd);
+    loaded
+}
+
+// ## What is said instead of a map
+
+fn say(s: &[u8]) {
+    io::write_all(STDERR_FILENO, s);
+}
+
+fn say_of(name: &[u8], s: &[u8]) {
+    say(name);
+    say(s);
+}
+
+fn say_refused(name: &[u8], line: u32, number: u8) {
+    let mut out = [0u8; MOST_ANSWER];
+    let n = put_sentence(&mut out, 0, name, line, number);
+    say(first(&out, n));
+}
+
+// ## The map
+
+// Tables and output are lent as arrays up to here, which is cheaper to prove.
+fn draw(
+    out: &mut [u8; MOST_MAP],
+    text: &[u8],
+    segments: &mut [u32; SEGMENT_WORDS],
+    lanes: &mut [u32; LANE_WORDS],
+    zones: &mut [u32; ZONE_WORDS],
+    spots: &mut [u32; SPOT_WORDS],
+    points: &mut [i32; POINT_WORDS],
+    checkpoints: &mut [u32; CHECKPOINT_WORDS],
+    stops: &mut [u32; STOP_WORDS],
+    exits: &mut [u32; EXIT_WORDS],
+) -> WriteReply {
+    write_map(
+        text,
+        segments,
+        lanes,
+        zones,
+        spots,
+        points,
+        checkpoints,
+        stops,
+        exits,
+        out,
+    )
+}
+
+fn print(out: &[u8; MOST_MAP], n: u32) {
+    io::write_all(STDOUT_FILENO, first(out, n as usize));
+}
+
+fn show(name: &[u8], text: &[u8]) {
+    let mut segments = [0u32; SEGMENT_WORDS];
+    let mut lanes = [0u32; LANE_WORDS];
+    let mut zones = [0u32; ZONE_WORDS];
+    let mut spots = [0u32; SPOT_WORDS];
+    let mut points = [0i32; POINT_WORDS];
+    let mut checkpoints = [0u32; CHECKPOINT_WORDS];
+    let mut stops = [0u32; STOP_WORDS];
+    let mut exits = [0u32; EXIT_WORDS];
+    let mut out = [0u8; MOST_MAP];
+    let reply = draw(
+        &mut out,
+        text,
+        &mut segments,
+        &mut lanes,
+        &mut zones,
+        &mut spots,
+        &mut points,
+        &mut checkpoints,
+        &mut stops,
+        &mut exits,
+    );
+    match reply {
+        WriteReply::Written(_, _, n) => print(&out, n),
+        WriteReply::Refused(why) => say_refused(name, why.line, why.number),
+    }
+}
+
+fn with_name(name: &[u8]) {
+    let mut text = [0u8; MOST_BYTES];
+    let loaded = load(name, &mut text);
+    match loaded {
+        Loaded::Bytes(n) => show(name, first(&text, n)),
+        Loaded::OverLimit => say_refused(name, 0, 1),
+        Loaded::TooBig => say_of(
+            name,
+            b": the file is too big for this program, which takes up to 524,288 bytes\n",
+        ),
+        Loaded::Unreadable => say_of(name, b": the file can't be read\n"),
+    }
+}
+
+fn main() {
+    if os::arg_count() != 2 {
+        say(b"Name one RNDF file.\n");
+        return;
+    }
+    let mut name = [0u8; MOST_NAME];
+    let n = os::arg(1, &mut name);
+    if os::errno() == libc::ENAMETOOLONG {
+        say(b"The file's name is over 4,095 bytes.\n");
+    } else {
+        with_name(first(&name, n));
+    }
+}
