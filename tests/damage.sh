@@ -1,21 +1,23 @@
 #!/bin/sh
-# tests/damage.sh [--built] [COUNT | long] [SEED]
+# tests/damage.sh [--built] [COUNT | long] [SEED] [SORT]
 #
 # Compares the library for C with the independent reader in tests/oracle on pairs of texts, well-formed and damaged: 4,000 of them, or COUNT, or 200,000 (`long`). The pairs come from
 # SEED (1 if not given) and are the same on every machine. Compared are the reply, the names, the row counts and every number of every lent table; the tables are lent full of other
-# numbers, and every text and table ends where the memory ends. Printed: how often each refusal number came, how often each kind of damage (tests/damage/pairs.py), and each case that
-# differs, which is kept in target/damage. The last line is 'seed S: N pairs and M RNDFs alone, K differ'; the status is 0 if none differs and every number from 1 to 18 came.
+# numbers, and every text and table ends where the memory ends. As many maps (request L2) are compared byte by byte, and as JSON with what the network says; the output ends where the
+# memory ends too. Printed: how often each refusal number came, how often each kind of damage (tests/damage/pairs.py), what the maps showed, and each case that differs, which is kept
+# in target/damage. The last line is 'seed S: N pairs, M RNDFs alone and L maps (W written), K differ'; the status is 0 if none differs and every number from 1 to 19 came.
+# With a SORT, `pairs` or `maps`, only that one is compared.
 #
 # Builds the library first (`rt staticlib yard`), unless --built is given. Needs python3 and a C compiler (Debian: gcc; on Arm gcc-x86-64-linux-gnu, and the kit's emulator runs it);
 # what is missing it installs, where it may.
-# It runs on all cores that it may use: 4,000 pairs take some 6 seconds on two, 200,000 some 4 minutes. `python3 tests/damage/compare.py --mutants COUNT SEED` tells whether these
+# It runs on all cores that it may use: 4,000 pairs take some 15 seconds on two, 36,000, which write over 20,000 maps, some 2 minutes, 200,000 some 10. `python3 tests/damage/compare.py --mutants COUNT SEED` tells whether these
 # pairs notice each of the small mistakes of tests/oracle/mutate.py in a copy of the oracle (4,000 notice all but two or three, 20,000 all).
 set -eu
 root=$(cd "$(dirname "$0")/.." && pwd -P)
 if [ "${1:-}" = --built ]; then shift; else (cd "$root" && rt staticlib yard) >&2; fi
 count=${1:-4000}
 [ "$count" != long ] || count=200000
-case $count${2:-} in *[!0-9]*) echo "usage: tests/damage.sh [--built] [COUNT | long] [SEED]" >&2; exit 2 ;; esac
+case $count${2:-} in *[!0-9]*) echo "usage: tests/damage.sh [--built] [COUNT | long] [SEED] [SORT]" >&2; exit 2 ;; esac
 library=$root/target/staticlib/libyard.a
 [ -f "$library" ] || { echo "tests/damage.sh: $library is not built" >&2; exit 2; }
 work=$(mktemp -d)
@@ -27,4 +29,4 @@ need python3 python3
 "$compiler" -std=c11 -O2 -Wall -Wextra -Wpedantic -Wconversion -Werror -static -I"$root/include" "$root/tests/damage/reader.c" "$library" -o "$work/reader.x86"
 printf '#!/bin/sh\nexec %s "%s"\n' "${emulator:+\"$emulator\"}" "$work/reader.x86" >"$work/reader"
 chmod +x "$work/reader"
-python3 "$root/tests/damage/compare.py" "$work/reader" "$count" "${2:-1}"
+python3 "$root/tests/damage/compare.py" "$work/reader" "$count" "${2:-1}" ${3:+"$3"}

@@ -1,14 +1,18 @@
 #!/usr/bin/env python3
 """Compares the library with the oracle on pairs of texts, well-formed and damaged (tests/damage.sh builds everything and runs this).
 
-    compare.py PROGRAM COUNT SEED       PROGRAM is tests/damage/reader.c, compiled; COUNT pairs, in blocks that each have their own generator
-    compare.py --mutants COUNT SEED     no library: do the pairs notice each small mistake of tests/oracle/mutate.py in a copy of the oracle?
+    compare.py PROGRAM COUNT SEED [SORT]    PROGRAM is tests/damage/reader.c, compiled; COUNT pairs, in blocks that each have their own generator; with a SORT (pairs, maps) only that one
+    compare.py --mutants COUNT SEED [SORT]  no library: do the cases notice each small mistake of tests/oracle/mutate.py (and maps.py) in a copy of the oracle?
 
 Of every pair the reply, every name, every row count and every number of every lent table have to be the oracle's; every fourth RNDF is read alone as well. Each reply is counted by
 file and number. A case that differs is printed and kept in target/damage. The status is 0 if none differs and every refusal number came.
 
-A case for the program, little endian: 1 byte mode (1 RNDF alone, 2 pair); both texts' lengths (8 bytes each) and how many bytes of each are given (4 each); the ten tables' lengths
-(4 each); the bytes. Its answer: kastepuhm_answer (28 words), the lent tables' words, one word that is 0 if nothing else was written.
+The map is written too (request L2), of every second RNDF and of as many that are whole, into an output that is often just long enough or a byte too short: every byte of it has to
+be the oracle's. What was written is then read by Python's json and held to the network (tests/oracle/maps.py, which knows nothing of the oracle's writer): features and their order,
+properties, positions, the direction and the closing of rings. The cases worked out by hand there and the longest maps are among the first block's.
+
+A case for the program, little endian: 1 byte mode (1 RNDF alone, 2 pair, 3 map); both texts' lengths (8 bytes each) and how many bytes of each are given (4 each); the ten tables' lengths
+and the output's (4 each); the bytes. Its answer: kastepuhm_write_answer (29 words), the lent tables' words, the output's bytes, one word that is 0 if nothing else was written.
 """
 import array
 import multiprocessing
@@ -21,22 +25,53 @@ import types
 
 sys.dont_write_bytecode = True
 import pairs                        # noqa: E402
+import maps                         # noqa: E402  (tests/oracle, by way of pairs)
 from pairs import g, oracle         # noqa: E402
 
 ROOT = os.path.dirname(os.path.dirname(os.path.dirname(os.path.abspath(__file__))))
 KEPT = os.path.join(ROOT, "target", "damage")
 BLOCK = 500
+NUMBERS = range(1, 20)
 MOST_KEPT = 20                      # cases that differ, of a block
+RNDF_ALONE, PAIR, MAP = 1, 2, 3
+HEAD = struct.Struct("<29I")        # kastepuhm_write_answer
 ROWS = ["segments", "lanes", "zones", "spots", "points", "checkpoints", "stops", "exits", "goals", "limits"]
 
 
-def block_of(seed, number, count):
-    """The cases of a block as (mode, case)."""
-    rng = random.Random("damage %d %d" % (seed, number))
+def pairs_of(rng, number, count):
+    """COUNT pairs as (mode, case), every fourth RNDF alone as well, and the map of every second."""
     cases = pairs.large_cases(rng) if number % 40 == 0 else []
     while len(cases) < count:
         cases.append(pairs.make_case(rng))
-    return [(mode, case) for k, case in enumerate(cases) for mode in ((2, 1) if k % 4 == 0 else (2,))]
+    return [(mode, case) for k, case in enumerate(cases) for mode in ((PAIR, RNDF_ALONE, MAP), (PAIR,), (PAIR, MAP), (PAIR,))[k % 4]]
+
+
+def maps_of(rng, number, count):
+    """Maps of whole RNDFs, half as many; in the first block also those worked out by hand."""
+    return [(MAP, case) for case in [pairs.map_case(rng) for _ in range(count // 2)] + (pairs.maps_by_hand() if number == 0 else [])]
+
+
+SORTS = {"pairs": pairs_of, "maps": maps_of}
+
+
+def block_of(seed, number, count, sorts):
+    """The cases of a block; each sort has its own generator."""
+    out = []
+    for sort in sorts:
+        rng = random.Random("%s %d %d" % (sort.replace("pairs", "damage"), seed, number))    # the pairs are those of before there were sorts
+        cases = SORTS[sort](rng, number, count)
+        for mode, case in cases:
+            if mode == MAP:
+                lend_output(rng, case)
+        out += cases
+    return out
+
+
+def lend_output(rng, case):
+    """As many bytes as the map has, or a little more or less; now and then far more, or none."""
+    reply = oracle.read_rndf(said(case.rndf, case.rndf_length), case.room)
+    size = len(oracle.geojson(oracle.network_of(reply, case.rndf))) if reply.accepted else 100
+    case.out = max(0, min(size, oracle.LARGEST_TEXT + 5) + rng.choice([0, 0, 0, 0, 0, 0, 1, 1, 2, 3, 7, 300, -1, -1, -size // 2, -size]))
 
 
 def said(text, length):
@@ -49,42 +84,56 @@ def said(text, length):
 
 
 def judge(reader, mode, case):
+    """The reader's reply, and what the output then holds: its bytes in use, and all of them."""
     rndf, mdf = said(case.rndf, case.rndf_length), said(case.mdf, case.mdf_length)
-    return reader.read_rndf(rndf, case.room) if mode == 1 else reader.read_pair(rndf, mdf, case.room)
+    if mode == MAP:
+        done = reader.write_map(rndf, case.room, case.out)
+        return done.reply, done.written or 0, done.output
+    return reader.read_rndf(rndf, case.room) if mode == RNDF_ALONE else reader.read_pair(rndf, mdf, case.room), 0, b""
 
 
 def lent(mode, case):
-    return [case.room[t] if mode == 2 or t not in oracle.MDF_TABLES else 0 for t in ROWS]
+    return [case.room[t] if mode == PAIR or t not in oracle.MDF_TABLES else 0 for t in ROWS]
+
+
+def lent_output(mode, case):
+    return case.out if mode == MAP else 0
+
+
+def answer_size(mode, case):
+    return HEAD.size + 4 * sum(lent(mode, case)) + lent_output(mode, case) + 4
 
 
 def encode(mode, case):
-    mdf, mdf_length = (case.mdf, case.mdf_length) if mode == 2 else (b"", 0)
-    return struct.pack("<B2Q2I10I", mode, case.rndf_length, mdf_length, len(case.rndf), len(mdf), *lent(mode, case)) + case.rndf + mdf
+    mdf, mdf_length = (case.mdf, case.mdf_length) if mode == PAIR else (b"", 0)
+    return struct.pack("<B2Q2I11I", mode, case.rndf_length, mdf_length, len(case.rndf), len(mdf), *lent(mode, case), lent_output(mode, case)) + case.rndf + mdf
 
 
-def words(reply, mode, case):
-    """What the program has to write for the oracle's reply."""
+def words(judged, mode, case):
+    """What the program has to write for the oracle's answer."""
+    reply, written, output = judged
     if not reply.accepted:
-        return struct.pack("<28I", 0, *reply.refusal, *[0] * 24) + bytes(4 * sum(lent(mode, case)) + 4)
-    head = struct.pack("<28I", 1, 0, 0, 0, *[reply.used.get(t, 0) for t in ROWS], *reply.file, *(reply.mission or [0] * 8))
+        return HEAD.pack(0, *reply.refusal, *[0] * 25) + bytes(4 * sum(lent(mode, case))) + output + bytes(4)
+    head = HEAD.pack(1, 0, 0, 0, *[reply.used.get(t, 0) for t in ROWS], *reply.file, *(reply.mission or [0] * 8), written)
     tables = [array.array("i" if t == "points" else "I", reply.tables[t]) for t in ROWS if t in reply.tables]
     if sys.byteorder == "big":
         for table in tables:
             table.byteswap()
-    return head + b"".join(table.tobytes() for table in tables) + bytes(4)
+    return head + b"".join(table.tobytes() for table in tables) + output + bytes(4)
 
 
 def shown(answer, mode, case):
     """A reply and its tables, in words."""
-    if len(answer) != 4 * (28 + sum(lent(mode, case)) + 1):
+    if len(answer) != answer_size(mode, case):
         return "no answer: the program ended"
-    head = struct.unpack_from("<28I", answer)
-    at = 112
-    out = ["accepted, rows %s, names %s" % (head[4:14], head[14:]) if head[0] else "refused %d %d %d" % head[1:4] + (", then %s" % (head[4:],) if any(head[4:]) else "")]
+    head = HEAD.unpack_from(answer)
+    at = HEAD.size
+    out = ["accepted, rows %s, names %s, bytes written %d" % (head[4:14], head[14:28], head[28]) if head[0] else "refused %d %d %d" % head[1:4] + (", then %s" % (head[4:],) if any(head[4:]) else "")]
     for table, length in zip(ROWS, lent(mode, case)):
         out.append("  %s %s" % (table, struct.unpack_from("<%d%s" % (length, "i" if table == "points" else "I"), answer, at)))
         at += 4 * length
-    if any(answer[at:]):
+    out.append("  output %s" % answer[at:at + lent_output(mode, case)])
+    if any(answer[at + lent_output(mode, case):]):
         out.append("  something else was written")
     return "\n".join(out)
 
@@ -96,7 +145,7 @@ def answers(program, cases):
         done = subprocess.run([program], input=b"".join(encode(*c) for c in rest), stdout=subprocess.PIPE, check=False).stdout
         at = 0
         for k, (mode, case) in enumerate(rest):
-            size = 4 * (28 + sum(lent(mode, case)) + 1)
+            size = answer_size(mode, case)
             out.append(done[at:at + size])
             at += size
             if len(out[-1]) < size:
@@ -110,55 +159,79 @@ def keep(seed, number, k, mode, case, want, got):
     path = os.path.join(KEPT, "case-%d-%d-%d" % (seed, number, k))
     with open(path + ".rndf", "wb") as f:
         f.write(case.rndf)
-    if mode == 2:
+    if mode == PAIR:
         with open(path + ".mdf", "wb") as f:
             f.write(case.mdf)
     oracles, ours = shown(want, mode, case), shown(got, mode, case)
     with open(path + ".txt", "w") as f:
-        f.write("%s; damage: %s; lengths %d %d; numbers lent %s\n" % ("pair" if mode == 2 else "RNDF alone", ", ".join(case.kinds), case.rndf_length, case.mdf_length,
-                                                                     dict(zip(ROWS, lent(mode, case)))))
+        f.write("%s; damage: %s; lengths %d %d; numbers lent %s; output of %d bytes\n" % ({PAIR: "pair", RNDF_ALONE: "RNDF alone", MAP: "map"}[mode], ", ".join(case.kinds),
+                case.rndf_length, case.mdf_length, dict(zip(ROWS, lent(mode, case))), lent_output(mode, case)))
         f.write("\nthe oracle:\n%s\n\nthe library:\n%s\n" % (oracles, ours))
     first = next(((a, b) for a, b in zip(oracles.splitlines(), ours.splitlines()) if a != b), ("the same", "the same, but it wrote elsewhere too"))
     return "DIFFERS %s (%s)\n  oracle:  %s\n  library: %s" % ((os.path.relpath(path, ROOT), ", ".join(case.kinds)) + tuple(x.strip()[:300] for x in first))
 
 
+def map_said(judged, mode, case, got):
+    """What Python's json finds otherwise in a written map, and how often each shape came in it."""
+    reply, written, _ = judged
+    if mode != MAP or not reply.accepted:
+        return [], {}
+    network = oracle.network_of(reply, case.rndf)
+    at = HEAD.size + 4 * sum(lent(mode, case))
+    try:
+        return maps.differences(got[at:at + written], network), maps.shapes(network)
+    except (ValueError, KeyError, TypeError, AttributeError) as wrong:
+        return ["%s: %s" % (type(wrong).__name__, wrong)], {}
+
+
 def run_block(job):
-    """Counts by reply, by kind of damage, and what differs."""
-    program, seed, number, count = job
-    cases = block_of(seed, number, count)
-    replies, kinds, differing = {}, {}, []
+    """Counts by reply, by kind of damage, by shape on the maps, and what differs."""
+    program, seed, number, count, sorts = job
+    cases = block_of(seed, number, count, sorts)
+    replies, kinds, shapes, differing = {}, {}, {}, []
     for k, ((mode, case), got) in enumerate(zip(cases, answers(program, cases))):
-        reply = judge(oracle, mode, case)
-        want = words(reply, mode, case)
+        judged = judge(oracle, mode, case)
+        reply = judged[0]
+        want = words(judged, mode, case)
         key = "ok" if reply.accepted else (reply.refusal[0], reply.refusal[2])
         replies[mode, key] = replies.get((mode, key), 0) + 1
-        for kind in set(case.kinds) if mode == 2 else ():
+        for kind in set(case.kinds) if mode == PAIR else ():
             drawn, taken = kinds.get(kind, (0, 0))
             kinds[kind] = (drawn + 1, taken + reply.accepted)
+        by_json, more = map_said(judged, mode, case, got)
+        for shape, n in more.items():
+            shapes[shape] = shapes.get(shape, 0) + n
         if want != got:
             differing.append(keep(seed, number, k, mode, case, want, got) if len(differing) < MOST_KEPT else "DIFFERS")
-    return replies, kinds, differing
+        if by_json:
+            differing.append("DIFFERS by json, case %d of block %d: %s" % (k, number, "; ".join(by_json)[:300]))
+    return replies, kinds, shapes, differing
 
 
-def print_counts(replies, kinds):
+def print_counts(replies, kinds, shapes):
     def of(mode, key):
         return replies.get((mode, key), 0)
-    print("\n%-12s %10s %10s %12s" % ("reply", "pair: RNDF", "pair: MDF", "RNDF alone"))
-    print("%-12s %21d %12d" % ("accepted", of(2, "ok"), of(1, "ok")))
-    for number in range(1, 19):
-        print("%-12d %10d %10d %12d" % (number, of(2, (1, number)), of(2, (2, number)), of(1, (1, number))))
+    print("\n%-12s %10s %10s %12s %8s" % ("reply", "pair: RNDF", "pair: MDF", "RNDF alone", "map"))
+    print("%-12s %21d %12d %8d" % ("accepted", of(PAIR, "ok"), of(RNDF_ALONE, "ok"), of(MAP, "ok")))
+    for number in NUMBERS:
+        print("%-12d %10d %10d %12d %8d" % (number, of(PAIR, (1, number)), of(PAIR, (2, number)), of(RNDF_ALONE, (1, number)), of(MAP, (1, number))))
     print("\n%-28s %8s %8s" % ("damage (pairs)", "drawn", "accepted"))
     for kind, (drawn, taken) in sorted(kinds.items()):
         print("%-28s %8d %8d" % (kind, drawn, taken))
+    print("\n%-40s %8s" % ("on the maps", "came"))
+    for shape, n in sorted(shapes.items()):
+        print("%-40s %8d" % (shape, n))
 
 
-def compare(program, count, seed):
-    jobs = [(program, seed, b, min(BLOCK, count - b * BLOCK)) for b in range(-(-count // BLOCK))]
-    replies, kinds, differing, done = {}, {}, 0, 0
+def compare(program, count, seed, sorts):
+    jobs = [(program, seed, b, min(BLOCK, count - b * BLOCK), sorts) for b in range(-(-count // BLOCK))]
+    replies, kinds, shapes, differing, done = {}, {}, {}, 0, 0
     with multiprocessing.Pool(len(os.sched_getaffinity(0))) as pool:
-        for more, more_kinds, lines in pool.imap_unordered(run_block, jobs):
+        for more, more_kinds, more_shapes, lines in pool.imap_unordered(run_block, jobs):
             for key, n in more.items():
                 replies[key] = replies.get(key, 0) + n
+            for shape, n in more_shapes.items():
+                shapes[shape] = shapes.get(shape, 0) + n
             for kind, (drawn, taken) in more_kinds.items():
                 kinds[kind] = tuple(map(sum, zip(kinds.get(kind, (0, 0)), (drawn, taken))))
             for line in lines:
@@ -167,38 +240,41 @@ def compare(program, count, seed):
             done += 1
             if done % 40 == 0:
                 print("%d of %d blocks" % (done, len(jobs)), file=sys.stderr, flush=True)
-    print_counts(replies, kinds)
-    missing = [n for n in range(1, 19) if not any(key != "ok" and key[1] == n for _, key in replies)]
+    print_counts(replies, kinds, shapes)
+    missing = [n for n in NUMBERS if sorts == list(SORTS) and not any(key != "ok" and key[1] == n for _, key in replies)]
     if missing:
         print("never came: " + ", ".join(map(str, missing)))
-    pair_count = sum(n for (mode, _), n in replies.items() if mode == 2)
-    print("\nseed %d: %d pairs and %d RNDFs alone, %d differ" % (seed, pair_count, sum(replies.values()) - pair_count, differing))
+    counts = [sum(n for (mode, _), n in replies.items() if mode == one) for one in (PAIR, RNDF_ALONE, MAP)]
+    print("\nseed %d: %d pairs, %d RNDFs alone and %d maps (%d written), %d differ" % (seed, *counts, replies.get((MAP, "ok"), 0), differing))
     return 1 if differing or missing else 0
 
 
-def mutants(count, seed):
+def mutants(count, seed, sorts):
     import mutate
-    cases = [c for b in range(-(-count // BLOCK)) for c in block_of(seed, b, min(BLOCK, count - b * BLOCK)) if len(c[1].rndf) + len(c[1].mdf) < 1 << 20]
+    cases = [c for b in range(-(-count // BLOCK)) for c in block_of(seed, b, min(BLOCK, count - b * BLOCK), sorts) if len(c[1].rndf) + len(c[1].mdf) < 1 << 20]
 
     def told(reader, mode, case):
         try:
-            r = judge(reader, mode, case)
-            return r.refusal, r.used, r.file, r.mission, r.tables
+            r, *written = judge(reader, mode, case)
+            return r.refusal, r.used, r.file, r.mission, r.tables, written
         except Exception:
             return None
     right = [told(oracle, *c) for c in cases]
     source = open(oracle.__file__).read()
     survive = 0
-    for old, new in mutate.MUTANTS:
+    mistakes = [mistake for sort in sorts for mistake in {"pairs": mutate.MUTANTS, "maps": maps.MUTANTS}[sort]]
+    for old, new in mistakes:
+        assert old in source, old
         mutant = types.ModuleType("mutant")
         exec(compile(source.replace(old, new, 1), "mutant", "exec"), mutant.__dict__)
         if old not in mutate.HARMLESS and all(told(mutant, *c) == want for c, want in zip(cases, right)):
             survive += 1
             print("not noticed: %r -> %r" % (old, new))
-    print("%d mistakes, %d not noticed" % (len(mutate.MUTANTS) - len(mutate.HARMLESS), survive))
+    print("%d mistakes, %d not noticed" % (sum(old not in mutate.HARMLESS for old, _ in mistakes), survive))
     return 1 if survive else 0
 
 
 if __name__ == "__main__":
     program, count, seed = sys.argv[1], int(sys.argv[2]), int(sys.argv[3])
-    sys.exit(mutants(count, seed) if program == "--mutants" else compare(program, count, seed))
+    sorts = sys.argv[4:] or list(SORTS)
+    sys.exit(mutants(count, seed, sorts) if program == "--mutants" else compare(program, count, seed, sorts))

@@ -9,6 +9,7 @@ import sys
 
 sys.path.insert(0, os.path.join(os.path.dirname(os.path.dirname(os.path.abspath(__file__))), "oracle"))
 import generate as g    # noqa: E402
+import maps             # noqa: E402
 import oracle           # noqa: E402
 
 LARGEST = oracle.LARGEST_TEXT
@@ -307,8 +308,8 @@ def label(kind):
 # ---- cases
 
 class Case:
-    """Two texts, how long each is said to be, how many numbers each table has (`room`), and what was done to the texts."""
-    __slots__ = ("rndf", "mdf", "rndf_length", "mdf_length", "room", "kinds")
+    """Two texts, how long each is said to be, how many numbers each table has (`room`), what was done to the texts, and how many bytes are lent for the map (`out`)."""
+    __slots__ = ("rndf", "mdf", "rndf_length", "mdf_length", "room", "kinds", "out")
 
 
 class Long(bytes):
@@ -417,3 +418,29 @@ def large_cases(rng):
         case.kinds.append("padded_to_largest")
         cases.append(case)
     return cases
+
+
+# ---- maps (request L2)
+
+def map_case(rng):
+    """A whole RNDF, with quotation marks in half of the names that its map shows."""
+    lines, room = small_pair(rng)
+    for fields in lines[1]:
+        if fields[0] in (b"segment_name", b"zone_name") and rng.random() < 0.5:
+            at = rng.randrange(len(fields[1]) + 1)
+            fields[1] = (fields[1][:at] + rng.choice([b'"', b'"', b'""', b'"<b>&"', b'</script>"']) + fields[1][at:])[:128]
+    return rndf_case(g.render(rng, lines[1], rng.choice([0, 0.3, 1])), room, "whole")
+
+
+def maps_by_hand():
+    """The RNDFs whose maps were worked out by hand, each three times (compare.py draws the output's length), and the longest maps: one that is taken and one that is not, by size."""
+    longest = [("%d segments of 32,768 lanes" % n, maps.longest(n)) for n in (1, 2)]
+    return [rndf_case(rndf, {t: oracle.STRIDE[t] * (66000 if t in ("lanes", "points") else 100) for t in oracle.TABLES}, label)
+            for label, rndf, *_ in [hand for hand in maps.HAND for _ in range(3)] + longest]
+
+
+def rndf_case(rndf, room, label):
+    case = Case()
+    case.rndf, case.mdf, case.room, case.kinds = rndf, b"", room, [label]
+    case.rndf_length, case.mdf_length = len(rndf), 0
+    return case

@@ -1,8 +1,8 @@
 /*
  * Runs pairs of texts through the library, as many as stand on standard input, and writes what it answered and left in the lent tables (tests/damage/compare.py has the formats).
  *
- * Each text and each table is lent with nothing behind it: the memory ends there, so that a reader that goes one byte too far is stopped at once. The tables are lent full of other
- * numbers, with one before them that must stay; the texts must stay too. A text may be lent longer than it is given here, up to MOST_BYTES, which costs no memory.
+ * Each text, each table and the output is lent with nothing behind it: the memory ends there, so that a reader that goes one byte too far is stopped at once. Tables and output are
+ * lent full of other numbers, with one before them that must stay; the texts must stay too. A text may be lent longer than it is given here, up to MOST_BYTES, which costs no memory.
  */
 #define _GNU_SOURCE
 #include "kastepuhm.h"
@@ -12,14 +12,16 @@
 #include <string.h>
 #include <sys/mman.h>
 
+enum { RNDF_ALONE = 1, PAIR, MAP };
 enum { SEGMENTS, LANES, ZONES, SPOTS, POINTS, CHECKPOINTS, STOPS, EXITS, GOALS, LIMITS, TABLES };
 
 #define MOST_BYTES ((size_t)1 << 33)
 #define MOST_NUMBERS ((size_t)1 << 20)
+#define MOST_OUTPUT ((size_t)1 << 25)
 #define OTHER 0x5A5A5A5Au
 
-static uint8_t *text_ends[2], *table_ends[TABLES], *given[2];
-static size_t text_lengths[2], given_lengths[2], lengths[TABLES];
+static uint8_t *text_ends[2], *table_ends[TABLES], *output_end, *given[2];
+static size_t text_lengths[2], given_lengths[2], lengths[TABLES], output_length;
 
 /* Where `size` bytes of memory end; behind them nothing may be read or written. */
 static uint8_t *end_of_memory(size_t size)
@@ -62,9 +64,33 @@ static void soil_table(int i)
         *p = OTHER;
 }
 
+static void soil_output(void)
+{
+    if (output_length >= MOST_OUTPUT)
+        exit(2);
+    memset(output_end - output_length - 1, (int)(OTHER & 0xFF), output_length + 1);
+}
+
 #define TEXT(i) text_ends[i] - text_lengths[i], text_lengths[i]
 #define LENT(i) table(i), lengths[i]
 #define NETWORK LENT(SEGMENTS), LENT(LANES), LENT(ZONES), LENT(SPOTS), (int32_t *)table(POINTS), lengths[POINTS], LENT(CHECKPOINTS), LENT(STOPS), LENT(EXITS)
+
+static kastepuhm_write_answer answer(int mode)
+{
+    kastepuhm_write_answer read = {0};
+    switch (mode) {
+    case RNDF_ALONE:
+        read.answer = kastepuhm_read_rndf(TEXT(0), NETWORK);
+        return read;
+    case PAIR:
+        read.answer = kastepuhm_read_pair(TEXT(0), TEXT(1), NETWORK, LENT(GOALS), LENT(LIMITS));
+        return read;
+    case MAP:
+        return kastepuhm_write_map(TEXT(0), NETWORK, output_end - output_length, output_length);
+    default:
+        exit(2);
+    }
+}
 
 int main(void)
 {
@@ -73,25 +99,30 @@ int main(void)
         text_ends[i] = end_of_memory(MOST_BYTES);
     for (int i = 0; i < TABLES; i++)
         table_ends[i] = end_of_memory(MOST_NUMBERS * sizeof(uint32_t));
+    output_end = end_of_memory(MOST_OUTPUT);
     while ((mode = getchar()) != EOF) {
         uint32_t elsewhere = 0;
-        kastepuhm_answer a;
+        kastepuhm_write_answer a;
         for (int i = 0; i < 2; i++)
             text_lengths[i] = number(8);
         for (int i = 0; i < 2; i++)
             given_lengths[i] = number(4);
         for (int i = 0; i < TABLES; i++)
             lengths[i] = number(4);
+        output_length = number(4);
         for (int i = 0; i < 2; i++)
             take_text(i);
         for (int i = 0; i < TABLES; i++)
             soil_table(i);
-        a = mode == 1 ? kastepuhm_read_rndf(TEXT(0), NETWORK) : kastepuhm_read_pair(TEXT(0), TEXT(1), NETWORK, LENT(GOALS), LENT(LIMITS));
+        soil_output();
+        a = answer(mode);
         fwrite(&a, sizeof a, 1, stdout);
         for (int i = 0; i < TABLES; i++) {
             fwrite(table(i), sizeof(uint32_t), lengths[i], stdout);
             elsewhere |= table(i)[-1] != OTHER;
         }
+        fwrite(output_end - output_length, 1, output_length, stdout);
+        elsewhere |= *(output_end - output_length - 1) != (OTHER & 0xFF);
         for (int i = 0; i < 2; i++) {
             elsewhere |= memcmp(text_ends[i] - text_lengths[i], given[i], given_lengths[i]) != 0;
             free(given[i]);

@@ -898,17 +898,8 @@ def write_coordinate(value):
     return "%s%d.%06d" % (sign, size // 1_000_000, size % 1_000_000)
 
 
-def house_rndf(network):
-    """"House writing: one tab between fields, LF after every line, no comment,
-    blank line or CR; options in the order listed above, repeats in file order
-    within their kind."""
-    out = []
-
-    def put(*fields):
-        out.append(TAB.join(f if isinstance(f, bytes) else str(f).encode()
-                            for f in fields) + b"\n")
-
-    # What each point is called.  Points stand in file order.
+def point_ids(network):
+    """What each point is called.  Points stand in file order."""
     called = [None] * len(network.points)
     for s, (first_lane, lanes, _) in enumerate(network.segments, 1):
         for l in range(1, lanes + 1):
@@ -923,6 +914,21 @@ def house_rndf(network):
             first = network.spots[first_spot + s - 1][0]
             called[first] = "%d.%d.1" % (z, s)
             called[first + 1] = "%d.%d.2" % (z, s)
+    return called
+
+
+def house_rndf(network):
+    """"House writing: one tab between fields, LF after every line, no comment,
+    blank line or CR; options in the order listed above, repeats in file order
+    within their kind."""
+    out = []
+
+    def put(*fields):
+        out.append(TAB.join(f if isinstance(f, bytes) else str(f).encode()
+                            for f in fields) + b"\n")
+
+    called = point_ids(network)
+    m = len(network.segments)
 
     # The options on a part's points, by the part's first point; in file order.
     owner = {}
@@ -1074,6 +1080,64 @@ def write_mdf(rndf, mdf, room, out_len):
     reply = read_pair(rndf, mdf, room)
     return write_out(reply, lambda: house_mdf(mission_of(reply, mdf)), 2,
                      room, TABLES, out_len)
+
+
+# ------------------------------------------------------------------ the map
+
+def geojson(network):
+    """L2: "Write an accepted network as one FeatureCollection: a LineString for
+    each lane, a Polygon for each perimeter, a Point for each checkpoint, with
+    identifiers and names as properties."  The bytes are those laid down by the
+    team: no byte between tokens, none behind."""
+
+    def position(row):
+        # "Longitude stands first."
+        latitude, longitude = network.points[row]
+        return "[%s,%s]" % (write_coordinate(longitude), write_coordinate(latitude))
+
+    def feature(shape, coordinates, kind, identifier, name=b"", number=None):
+        properties = '"kind":"%s","id":"%s"' % (kind, identifier)
+        if name:
+            # "A quotation mark may occur in a name and is escaped."
+            properties += ',"name":"%s"' % name.decode("latin-1").replace('"', '\\"')
+        if number is not None:
+            properties += ',"number":%d' % number
+        return ('{"type":"Feature","geometry":{"type":"%s","coordinates":%s},"properties":{%s}}'
+                % (shape, coordinates, properties))
+
+    def line(first, points):
+        # "A lane or perimeter of one point is a Point, a perimeter of two a
+        # LineString."
+        if points == 1:
+            return "Point", position(first)
+        return "LineString", "[%s]" % ",".join(position(first + p) for p in range(points))
+
+    def ring(first, points):
+        if points < 3:
+            return line(first, points)
+        # "so the order is reversed and the first position repeated"
+        rows = list(range(first + points - 1, first - 1, -1))
+        return "Polygon", "[[%s]]" % ",".join(position(row) for row in rows + rows[:1])
+
+    features = []
+    for s, (first_lane, lanes, name) in enumerate(network.segments, 1):
+        for l in range(1, lanes + 1):
+            shape = line(*network.lanes[first_lane + l - 1][:2])
+            features.append(feature(*shape, "lane", "%d.%d" % (s, l), name))
+    for z, (first, points, _, _, name) in enumerate(network.zones, len(network.segments) + 1):
+        features.append(feature(*ring(first, points), "perimeter", "%d.0" % z, name))
+    called = point_ids(network)
+    for number, point in network.checkpoints:
+        features.append(feature("Point", position(point), "checkpoint", called[point], number=number))
+    return ('{"type":"FeatureCollection","features":[%s]}' % ",".join(features)).encode("latin-1")
+
+
+def write_map(text, room, out_len):
+    # "19, with its zeros, where this or a later request's output is over
+    # 16,777,215 bytes or longer than the lent one."
+    reply = read_rndf(text, room)
+    return write_out(reply, lambda: geojson(network_of(reply, text)), 1,
+                     room, RNDF_TABLES, out_len)
 
 
 # ----------------------------------------------------------------- summary

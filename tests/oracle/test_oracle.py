@@ -14,10 +14,11 @@ import unittest
 import casefile
 import generate
 import lists
+import maps
 import oracle
 from oracle import (RNDF_TABLES, STRIDE, TABLES, house_mdf, house_rndf, lookup,
                     mission_of, name_of, network_of, points_of, read_pair,
-                    read_rndf, summary, write_mdf, write_rndf)
+                    read_rndf, summary, write_map, write_mdf, write_rndf)
 from yards import (MDF_STATEMENTS, MISSION_B, RNDF_STATEMENTS, ROUND_1, YARD_A,
                    YARD_B, YARD_C, ins, put, text)
 
@@ -235,6 +236,66 @@ class Parts(unittest.TestCase):
         self.assertEqual(got.output[:got.written], want)
         # the tables keep the file's order, per kind
         self.assertEqual(got.tables["stops"][:3], [1, 0, 1])
+
+
+class Maps(unittest.TestCase):
+    """L2."""
+
+    def test_by_hand(self):
+        self.assertEqual(len(maps.MAP_A), 338)
+        for label, r, want in maps.HAND:
+            room = {t: 40 * STRIDE[t] for t in TABLES}
+            reply = read_rndf(r, room)
+            if want is None:
+                got = write_map(r, room, 50)
+                self.assertEqual((got.refusal, got.output), (reply.refusal, bytes(50)), label)
+                continue
+            self.assertEqual(maps.differences(want, network_of(reply, r)), [], label)
+            size = len(want)
+            for out in (size, size + 1, 2 * size):
+                got = write_map(r, room, out)
+                self.assertEqual((got.written, got.output), (size, want + bytes(out - size)), label)
+                self.assertEqual(got.tables, reply.tables)
+            for out in (0, 1, size // 2, size - 1):
+                got = write_map(r, room, out)
+                self.assertEqual((got.refusal, got.output), ((1, 0, 19), bytes(out)), label)
+                self.assertEqual(got.tables, {t: [0] * room[t] for t in RNDF_TABLES})
+            # one point row short
+            less = dict(room, points=2 * reply.used["points"] - 1)
+            got = write_map(r, less, 2 * size)
+            self.assertEqual((got.refusal, got.output), ((1, 0, 11), bytes(2 * size)))
+
+    def test_random(self):
+        rng = random.Random(11)
+        for _ in range(400):
+            network = generate.make(rng, rng.choice([2, 4, 9])).network
+            self.assertEqual(maps.differences(oracle.geojson(network), network), [])
+
+    def test_differences_notices(self):
+        """Each of these mistakes is seen."""
+        r = text(maps.YARD_M)
+        network = network_of(read_rndf(r, {t: 40 * STRIDE[t] for t in TABLES}), r)
+        for old, new in ((b"[2.000000,1.000000]", b"[1.000000,2.000000]"), (b'"Lot/5"', b'"Lot"'), (b'"id":"1.2"', b'"id":1.2'),
+                         (b"],[10.000000,0.000000],[0.000000,10.000000],", b"],[0.000000,10.000000],[10.000000,0.000000],"),
+                         (b",[-10.000000,0.000000]]]", b"]]"), (b'"number":5', b'"number":6'), (b'"number":5', b'"number":"5"'),
+                         (b"4.000001,3.000001", b"4.000001,3.00001"), (b'"LineString"', b'"Point"'), (b',"name":"a', b', "name":"a'),
+                         (b'"kind":"lane","id":"2.1"', b'"id":"2.1","kind":"lane"'), (b'"id":"2.1"', b'"id":"2.1","name":null')):
+            self.assertEqual(maps.MAP_M.count(old) > 0, True, old)
+            self.assertNotEqual(maps.differences(maps.MAP_M.replace(old, new, 1), network), [], old)
+
+    def test_largest(self):
+        """A segment of 32,768 lanes of one point under a name of 128 marks."""
+        def yard(segments):
+            lanes = 32768
+            return oracle.Network(b"y", b"", b"", [(s * lanes, lanes, b'"' * 128) for s in range(segments)],
+                                  [(p, 1, 65535, 0, 0) for p in range(segments * lanes)], [], [],
+                                  [(0, 0)] * (segments * lanes), [], [], [])
+        self.assertEqual(len(oracle.geojson(yard(1))), 12_801_223)
+        self.assertGreater(len(oracle.geojson(yard(2))), oracle.LARGEST_TEXT)
+        reply = oracle.Reply()
+        reply.accepted = True
+        got = oracle.write_out(reply, lambda: oracle.geojson(yard(2)), 1, WIDE, RNDF_TABLES, 30_000_000)
+        self.assertEqual(got.refusal, (1, 0, 19))
 
 
 class Places(unittest.TestCase):
