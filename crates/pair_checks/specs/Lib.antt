@@ -1,0 +1,2 @@
+-- The contracts of the parts that judge an accepted pair.
+pub mod Checks
