@@ -1,0 +1,2 @@
+-- What a table's rows read as.
+pub mod Reads
