@@ -1,0 +1,74 @@
+-- THE LAW of the checker: what is ruled of what the reader replied and left is what the contract says. Assumes nothing.
+use mathlib.Core.Path.{_≡_, refl, sym, ap, subst, _∙_}
+use mathlib.Core.List.{List}
+use Prim.Native.Nat.{ℕ}
+use lib.ListN.{length}
+use Rattle.terms.specs.Words.{Bytes}
+use Rattle.line.specs.Line.{Field}
+use Rattle.law.specs.Network.{Network, Mission, present}
+use Rattle.law.specs.Tables.{Lent, MissionLent, filled, mission-filled, zeros, mission-zeros}
+use Rattle.rows.specs.declared.FileRow.{FileRow}
+use Rattle.rows.specs.declared.MissionFileRow.{MissionFileRow}
+use Rattle.counts.specs.declared.Counts.{Counts}
+use Rattle.counts.specs.declared.MissionCounts.{MissionCounts}
+use Rattle.refusal.specs.declared.Refusal.{Refusal}
+use Rattle.replies.specs.declared.PairReply.{PairReply}
+use Rattle.replies.specs.declared.PairReply.the-variants as Pair
+use Rattle.replies.specs.Replies.{AcceptsRndf, AcceptsMdf, refusal, rows-used, network-file, mission-file, ReadsPair, accepted, rndf-refused, mdf-refused}
+use Rattle.moves.specs.Moves.{is-move}
+use Rattle.move_tables.proofs.Theorem.{moves-are}
+use Rattle.route_law.specs.Moves.{Move, points}
+use Rattle.pair_checks.specs.Checks.{AcceptedPair, unread, wrong, right, ChecksRoute}
+use Rattle.route.specs.declared.Verdict.{Verdict}
+use Rattle.route.specs.declared.Verdict.the-variants as Verdict
+use Rattle.route.specs.Judged.{goal-point, verdict, replied, ruled}
+use Rattle.route.proofs.Found.{Says, verdict-says}
+use Rattle.route.proofs.Goals.{goals, goals-stand, goals-many, goals-some, points-are}
+
+module _ (start : ℕ) (route : List ℕ) (rndf mdf : Bytes) (t : Lent) (u : MissionLent) where
+  -- a reply that is an acceptance keeps what the reader left, a refusal goes with tables that are zero
+  abbrev pub Lawful : (left : Lent) → (mission-left : MissionLent) → PairReply → Type 0
+  Lawful left mission-left (Pair.Accepted c file m own) = ChecksRoute present start route rndf mdf t u (Pair.Accepted c file m own) left mission-left
+  Lawful left mission-left (Pair.Refused why) = ChecksRoute present start route rndf mdf t u (Pair.Refused why) (zeros t) (mission-zeros u)
+
+  abbrev ruled-of : Lent → MissionLent → PairReply → PairReply
+  ruled-of left mission-left = ruled (left .lanes) (left .zones) (left .checkpoints) (left .exits) (mission-left .goals) start route
+
+  module _ (n : Network Field) (m : Mission Field) (a : AcceptsRndf present rndf t n) (b : AcceptsMdf present n mdf u m) where
+    pair : AcceptedPair present rndf mdf t u
+    pair = record { net = n; mission = m; goals = goals rndf t n a mdf u m b; network-accepted = a; mission-accepted = b; goals-stand = goals-stand rndf t n a mdf u m b }
+
+    abbrev reply : PairReply
+    reply = Pair.Accepted (rows-used n) (network-file n) (record { goals = length (m .goals); limits = length (m .limits) }) (mission-file m)
+
+    judged : (v : Verdict) → Says (points n) (Move n) start route (goals rndf t n a mdf u m b) v → Lawful (filled n t) (mission-filled m u) (replied reply v)
+    unfolding pair
+    judged Verdict.Good s = right pair s (accepted n m a b refl refl refl)
+    judged (Verdict.Wrong line number) s = wrong pair (s .0) number (s .2) (ap (λ (l : ℕ). Pair.Refused (refusal 0 l number)) (s .1)) refl refl
+
+    accepted-ruled : Lawful (filled n t) (mission-filled m u) (ruled-of (filled n t) (mission-filled m u) reply)
+    unfolding ruled
+    accepted-ruled =
+        let move = is-move (filled n t .lanes) (filled n t .zones) (filled n t .exits) (rows-used n) in
+        let point = goal-point (filled n t .checkpoints) (mission-filled m u .goals) in
+        judged (verdict move point (points n) (length (m .goals)) start route)
+        (subst (λ (k : ℕ). Says (points n) (Move n) start route (goals rndf t n a mdf u m b) (verdict move point (points n) k start route)) (sym (goals-many rndf t n a mdf u m b))
+        (verdict-says (points n) (Move n) start route (goals rndf t n a mdf u m b) move (moves-are rndf t n a) point (points-are rndf t n a mdf u m b) (goals-some rndf t n a mdf u m b)))
+
+  -- THE LAW
+  pub lawful : (read : PairReply) (left : Lent) (mission-left : MissionLent) → ReadsPair present rndf mdf t u read left mission-left → Lawful left mission-left (ruled-of left mission-left read)
+  unfolding ruled
+  lawful read left mission-left (accepted n m a b e l k) = subst (λ (x : PairReply × Lent × MissionLent). Lawful (x .1) (x .2) (ruled-of (x .1) (x .2) (x .0))) (λ i. (sym e i, sym l i, sym k i)) (accepted-ruled n m a b)
+  lawful read left mission-left (rndf-refused line number h e l k) = subst (λ (x : PairReply). Lawful left mission-left (ruled-of left mission-left x)) (sym e) (unread (refusal 1 line number) (rndf-refused line number h refl refl refl) refl)
+  lawful read left mission-left (mdf-refused n line number a h e l k) = subst (λ (x : PairReply). Lawful left mission-left (ruled-of left mission-left x)) (sym e) (unread (refusal 2 line number) (mdf-refused n line number a h refl refl refl) refl)
+
+  -- ## As the function goes on: an acceptance is handed on, at a refusal all that was lent is cleared
+  pub accepted-so : (read reply : PairReply) (left : Lent) (mission-left : MissionLent) → ReadsPair present rndf mdf t u read left mission-left → reply ≡ ruled-of left mission-left read
+      → (c : Counts) (file : FileRow) (m : MissionCounts) (own : MissionFileRow) → reply ≡ Pair.Accepted c file m own → ChecksRoute present start route rndf mdf t u (Pair.Accepted c file m own) left mission-left
+  accepted-so read reply left mission-left h r c file m own e = subst (Lawful left mission-left) (sym r ∙ e) (lawful read left mission-left h)
+
+  pub refused-so : (read reply : PairReply) (left : Lent) (mission-left : MissionLent) → ReadsPair present rndf mdf t u read left mission-left → reply ≡ ruled-of left mission-left read
+      → (why : Refusal) → reply ≡ Pair.Refused why → (l : Lent) (k : MissionLent) → l ≡ zeros left → zeros left ≡ zeros t → k ≡ mission-zeros mission-left → mission-zeros mission-left ≡ mission-zeros u
+      → ChecksRoute present start route rndf mdf t u (Pair.Refused why) l k
+  refused-so read reply left mission-left h r why e l k cleared long mission-cleared mission-long = subst (λ (x : Lent × MissionLent). ChecksRoute present start route rndf mdf t u (Pair.Refused why) (x .0) (x .1))
+      (λ i. (sym (cleared ∙ long) i, sym (mission-cleared ∙ mission-long) i)) (subst (Lawful left mission-left) (sym r ∙ e) (lawful read left mission-left h))

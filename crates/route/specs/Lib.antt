@@ -1,0 +1,2 @@
+-- What a route gets, executable.
+pub mod Judged
