@@ -9,9 +9,9 @@
  *
  * What it does
  *   It reads the text of a route network (RNDF) and of a mission (MDF) in the format of March 14, 2007 as document 01 narrows it, and either fills the tables that you lend and
- *   accepts, or refuses with file, line and one number. It also puts the house writing of either file, or a map of the network, into an output that you lend. That it does so for
- *   all texts, all tables and all outputs is proved of its source (crates/yard, crates/replies/specs/Replies.antt, crates/writings/specs/Writes.antt); the compiler, the
- *   declarations below and your calls are not part of that proof.
+ *   accepts, or refuses with file, line and one number. It also puts the house writing of either file, or a map of the network, into an output that you lend, and tells whether a
+ *   route is drivable. That it does so for all texts, all tables, all outputs and all routes is proved of its source (crates/yard, crates/replies/specs/Replies.antt,
+ *   crates/writings/specs/Writes.antt, crates/pair_checks/specs/Checks.antt); the compiler, the declarations below and your calls are not part of that proof.
  *
  * What you hand over
  *   Every slice is a pointer and then its length: how many elements it has, not how many rows or bytes. Nothing is asked of what a slice holds, and no length is too short:
@@ -29,7 +29,7 @@
  *   kastepuhm_point_of takes a few words. Give a thread that calls them a stack to match.
  *
  * Time
- *   Linear in the length of the texts, of the lent tables and of the lent output; of kastepuhm_points_of, see there.
+ *   Linear in the length of the texts, of the lent tables and of the lent output; of kastepuhm_points_of and kastepuhm_check_route, see there.
  */
 #ifndef KASTEPUHM_H
 #define KASTEPUHM_H
@@ -157,8 +157,8 @@ typedef struct kastepuhm_name {
 /* What a reader answers. Of an RNDF alone the fields of the MDF are 0; of a refusal every field is 0 but for file, line and number. */
 typedef struct kastepuhm_answer {
     uint32_t accepted;             /* 1: accepted, 0: refused */
-    uint32_t file;                 /* of a refusal: 1 the RNDF, 2 the MDF; 0 where accepted */
-    uint32_t line;                 /* of a refusal: counted from 1; 0 where there is none, and where accepted */
+    uint32_t file;                 /* of a refusal: 1 the RNDF, 2 the MDF, 0 neither (from 20 on); 0 where accepted */
+    uint32_t line;                 /* of a refusal: counted from 1; 0 where there is none, and where accepted; of 22 and 23 see kastepuhm_check_route */
     uint32_t number;               /* of a refusal: see below; 0 where accepted */
     uint32_t segments;             /* from here on: the rows used of each table */
     uint32_t lanes;
@@ -203,7 +203,11 @@ enum {
     KASTEPUHM_LIMIT_AGAIN = 17,        /* the limit's id was already given */
     KASTEPUHM_LIMIT_MISSING = 18,      /* some segment or zone has no limit (line: that of end_speed_limits) */
     KASTEPUHM_OUTPUT_TOO_LONG = 19,    /* writers only, after all others: the writing is over 16,777,215 bytes, or longer than the lent output (file: the one written; line 0) */
-    KASTEPUHM_LISTS_DIFFER = 20        /* kastepuhm_points_of only: the two lists differ in length (file 0, line 0) */
+    KASTEPUHM_LISTS_DIFFER = 20,       /* kastepuhm_points_of only: the two lists differ in length (file 0, line 0) */
+    KASTEPUHM_NO_BEGINNING = 21,       /* 21 to 24: kastepuhm_check_route only, after all others, file 0: the route is empty, or does not begin at a declared start (line 0) */
+    KASTEPUHM_NO_MOVE = 22,            /* a step of the route is no move, the first (line: the place in the route that it leads to, from 0) */
+    KASTEPUHM_GOAL_NOT_MET = 23,       /* a goal is not met in order, the first (line: the goal's row, from 0) */
+    KASTEPUHM_WRONG_END = 24           /* the route does not end at the last goal's point (line 0) */
 };
 
 /* An RNDF alone. */
@@ -232,6 +236,35 @@ kastepuhm_answer kastepuhm_read_pair(
     uint32_t *exits, size_t exits_length,
     uint32_t *goals, size_t goals_length,
     uint32_t *limits, size_t limits_length);
+
+/*
+ * Is this route drivable? `route` is a list of rows of the point table, as the planner proposes it, and `start` the row where the tractor stands. A move goes from a waypoint to the next
+ * in its lane; along an exit, from its point to its entry; or, in one zone, between any two different points of its perimeter and spots. A route is good if it begins at the start, each
+ * step is a move, the mission's goals are met in order, each at a strictly later place than the one before, and it ends at the last goal's point. The start itself may meet the first goal.
+ * Good routes are all accepted and no others.
+ *
+ * The texts are read first, as kastepuhm_read_pair does, and refused as it refuses. Where the route is good, the answer and the tables are those of kastepuhm_read_pair; where it is not, the
+ * refusal is 21, 22, 23 or 24, tried in this order, and every number of every lent table is 0. In place of the line, 22 gives the place in the route that the step leads to and 23 the
+ * goal's row (each goal taken at the earliest place), both from 0, so a line 0 is a goal's row there; a place above 4,294,967,295 is given as 4,294,967,295.
+ *
+ * The route is only read: it may be any list, with points that the network has not, and may overlap the texts, but no table. Beside reading the texts it takes time in proportion to the
+ * goals times the checkpoints, and for each step to the logarithm of the lanes, zones and exits and to the exits of the part (lane or zone) that the step begins in.
+ */
+kastepuhm_answer kastepuhm_check_route(
+    const uint8_t *rndf, size_t rndf_length,
+    const uint8_t *mdf, size_t mdf_length,
+    uint32_t *segments, size_t segments_length,
+    uint32_t *lanes, size_t lanes_length,
+    uint32_t *zones, size_t zones_length,
+    uint32_t *spots, size_t spots_length,
+    int32_t *points, size_t points_length,
+    uint32_t *checkpoints, size_t checkpoints_length,
+    uint32_t *stops, size_t stops_length,
+    uint32_t *exits, size_t exits_length,
+    uint32_t *goals, size_t goals_length,
+    uint32_t *limits, size_t limits_length,
+    uint32_t start,
+    const uint32_t *route, size_t route_length);
 
 /*
  * The writers. Two put the house writing of a file into `out`: one tab between fields, a line feed after every line, no comment, blank line or carriage return, options in their

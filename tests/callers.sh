@@ -3,7 +3,7 @@
 # tests/callers.sh --built   the same with the library as it was last built
 #
 # Compared: yard A as a pair and alone, yard A written untidily and with spaces for tabs (its house writing is the same), yard B (every table; its answer was worked out by hand), two damaged texts and a
-# missing file; then document 01's cases and the edges of the summary program's rules (tests/summary_cases.py), and every reply and every lent number of the oracle's corpus and of
+# missing file; routes over yard A (request L5); then document 01's cases and the edges of the summary program's rules (tests/summary_cases.py), and every reply and every lent number of the oracle's corpus and of
 # 2,000 random pairs (tests/callers/corpus.c).
 # The last line is 'N passed, M failed, K skipped'; the status is 0 if none failed.
 #
@@ -88,6 +88,34 @@ compare 'yard A with an entry 1.1.3' "$work/entry" "$work/entry.rndf" "$a/missio
 compare 'the damaged RNDF alone' "$work/entry" "$work/entry.rndf"
 compare 'yard A with goal 8' "$work/goal" "$a/network.rndf" "$work/goal.mdf"
 compare 'no RNDF' "$work/missing" "$work/none.rndf" "$a/mission.mdf"
+
+# L5: routes over yard A: rows 0 and 1 in one lane, an exit from 1 back to 0, the goal at row 1
+# route MISSION ANSWER START [POINT ..]
+route() {
+    echo "$2" >"$work/answer"
+    mission=$1
+    shift 2
+    compare "yard A, start and route $*" "$work/answer" "$a/network.rndf" "$mission" "$@"
+}
+once='ok 1 0 1 2 0 1 0 1 1 1' twice='ok 1 0 1 2 0 1 0 1 2 1'
+route "$a/mission.mdf" "$once" 0 0 1
+route "$a/mission.mdf" "$once" 0 0 1 0 1
+route "$a/mission.mdf" "$once" 1 1
+route "$a/mission.mdf" 'refused 0 0 21' 0
+route "$a/mission.mdf" 'refused 0 0 21' 0 1
+route "$a/mission.mdf" 'refused 0 0 21' 2 2
+route "$a/mission.mdf" 'refused 0 1 22' 0 0 0
+route "$a/mission.mdf" 'refused 0 1 22' 0 0 2
+route "$a/mission.mdf" 'refused 0 2 22' 0 0 1 4294967295 1
+route "$a/mission.mdf" 'refused 0 0 23' 0 0
+route "$a/mission.mdf" 'refused 0 0 24' 0 0 1 0
+# with the goal twice: one place meets one goal
+awk '/^7$/ { print } { sub(/^num_checkpoints\t1$/, "num_checkpoints\t2"); print }' "$a/mission.mdf" >"$work/twice.mdf"
+route "$work/twice.mdf" 'refused 0 1 23' 1 1
+route "$work/twice.mdf" 'refused 0 1 23' 1 1 0
+route "$work/twice.mdf" "$twice" 1 1 0 1
+# a pair that the reader refuses is refused as it does
+route "$work/goal.mdf" 'refused 2 5 15' 0 0 1
 
 # document 01's cases, by the first line that a caller prints
 if command -v python3 >/dev/null; then

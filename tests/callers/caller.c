@@ -1,12 +1,13 @@
 /*
  * A worked caller in C: caller NETWORK [MISSION] reads an RNDF, alone or with its MDF, and prints the summary program's line, what stands in the tables, and then the
- * length and first line of the house writing, and the network's map.
+ * length and first line of the house writing, and the network's map; caller NETWORK MISSION START [POINT ..] prints whether the route of these points is drivable from there (request L5).
  * Texts up to 8,192 bytes, 256 points and 128 rows of every other table, as the summary program has them; all of it lies in this program's own memory.
  */
 #include "kastepuhm.h"
 
 #include <inttypes.h>
 #include <stdio.h>
+#include <stdlib.h>
 
 #if defined(__STDC_VERSION__) && __STDC_VERSION__ >= 201112L
 _Static_assert(sizeof(kastepuhm_answer) == 28 * sizeof(uint32_t), "the library's answer has 28 words");
@@ -17,7 +18,7 @@ _Static_assert(sizeof(kastepuhm_write_answer) == 29 * sizeof(uint32_t), "a write
 
 #define LENGTH(table) (sizeof(table) / sizeof((table)[0]))
 
-enum { MOST_BYTES = 8192, POINTS = 256, ROWS = 128 };
+enum { MOST_BYTES = 8192, POINTS = 256, ROWS = 128, STEPS = 256 };
 
 /* One byte more than a text may have: if it is filled, the file is too big. */
 static uint8_t rndf[MOST_BYTES + 1];
@@ -33,6 +34,7 @@ static uint32_t exits[ROWS * KASTEPUHM_EXIT_STRIDE];
 static uint32_t goals[ROWS * KASTEPUHM_GOAL_STRIDE];
 static uint32_t limits[ROWS * KASTEPUHM_LIMIT_STRIDE];
 static uint32_t goal_points[ROWS];
+static uint32_t route[STEPS];
 /* One byte more than a text may have: its last line may come without a line feed. */
 static uint8_t house[MOST_BYTES + 1];
 /* A map may have about seven times its text's bytes; if this is too short, refusal 19 says so. */
@@ -206,17 +208,46 @@ static void print_map(const kastepuhm_write_answer *w)
         printf("map of the network refused %" PRIu32 " %" PRIu32 " %" PRIu32 "\n", w->answer.file, w->answer.line, w->answer.number);
 }
 
+/* Where every number of the tables is 0, as after a refusal. */
+static int all_zero(const uint32_t *table, size_t length)
+{
+    while (length > 0 && table[length - 1] == 0)
+        length--;
+    return length == 0;
+}
+
+/* The words are the start and the points of the route. */
+static void print_route(size_t rndf_length, size_t mdf_length, char **words, int count)
+{
+    uint32_t start = (uint32_t)strtoul(words[0], NULL, 10);
+    kastepuhm_answer a;
+    for (int i = 1; i < count; i++)
+        route[i - 1] = (uint32_t)strtoul(words[i], NULL, 10);
+    a = kastepuhm_check_route(rndf, rndf_length, mdf, mdf_length, segments, LENGTH(segments), lanes, LENGTH(lanes), zones, LENGTH(zones), spots, LENGTH(spots), points, LENGTH(points),
+                              checkpoints, LENGTH(checkpoints), stops, LENGTH(stops), exits, LENGTH(exits), goals, LENGTH(goals), limits, LENGTH(limits), start, route, (size_t)count - 1);
+    if (a.accepted)
+        print_summary(&a);
+    else
+        printf("refused %" PRIu32 " %" PRIu32 " %" PRIu32 "\n", a.file, a.line, a.number);
+    if ((a.accepted != 0) == (all_zero(lanes, LENGTH(lanes)) && all_zero(goals, LENGTH(goals))))
+        printf("and the tables are not as they should be\n");
+}
+
 int main(int count, char **words)
 {
     size_t rndf_length, mdf_length;
     kastepuhm_answer a;
     kastepuhm_write_answer w;
-    if (count != 2 && count != 3) {
-        fputs("usage: caller NETWORK [MISSION]\n", stderr);
+    if (count < 2 || count > 4 + STEPS) {
+        fputs("usage: caller NETWORK [MISSION [START [POINT ..]]]\n", stderr);
         return 2;
     }
-    if (!load(words[1], rndf, &rndf_length) || (count == 3 && !load(words[2], mdf, &mdf_length)))
+    if (!load(words[1], rndf, &rndf_length) || (count >= 3 && !load(words[2], mdf, &mdf_length)))
         return 0;
+    if (count > 3) {
+        print_route(rndf_length, mdf_length, words + 3, count - 3);
+        return 0;
+    }
     if (count == 2)
         a = kastepuhm_read_rndf(rndf, rndf_length, segments, LENGTH(segments), lanes, LENGTH(lanes), zones, LENGTH(zones), spots, LENGTH(spots), points, LENGTH(points),
                                 checkpoints, LENGTH(checkpoints), stops, LENGTH(stops), exits, LENGTH(exits));

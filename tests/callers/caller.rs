@@ -1,5 +1,5 @@
 //! A worked caller in Rust, without crates: `caller NETWORK [MISSION]` reads an RNDF, alone or with its MDF, and prints the summary program's line, what stands in the tables, and
-//! then the length and first line of the house writing, and the network's map. The module `kastepuhm` is what to copy: the declarations and safe functions over them. include/kastepuhm.h says what every column and number means.
+//! then the length and first line of the house writing, and the network's map; `caller NETWORK MISSION START [POINT ..]` prints whether the route of these points is drivable from there (request L5). The module `kastepuhm` is what to copy: the declarations and safe functions over them. include/kastepuhm.h says what every column and number means.
 //! Texts up to 8,192 bytes, 256 points and 128 rows of every other table, as the summary program has them.
 use std::io::Read;
 
@@ -112,6 +112,23 @@ mod kastepuhm {
             limits: *mut u32, limits_length: usize,
         ) -> Answer;
 
+        fn kastepuhm_check_route(
+            rndf: *const u8, rndf_length: usize,
+            mdf: *const u8, mdf_length: usize,
+            segments: *mut u32, segments_length: usize,
+            lanes: *mut u32, lanes_length: usize,
+            zones: *mut u32, zones_length: usize,
+            spots: *mut u32, spots_length: usize,
+            points: *mut i32, points_length: usize,
+            checkpoints: *mut u32, checkpoints_length: usize,
+            stops: *mut u32, stops_length: usize,
+            exits: *mut u32, exits_length: usize,
+            goals: *mut u32, goals_length: usize,
+            limits: *mut u32, limits_length: usize,
+            start: u32,
+            route: *const u32, route_length: usize,
+        ) -> Answer;
+
         fn kastepuhm_write_rndf(
             text: *const u8, text_length: usize,
             segments: *mut u32, segments_length: usize,
@@ -198,6 +215,29 @@ mod kastepuhm {
                 t.exits.as_mut_ptr(), t.exits.len(),
                 t.goals.as_mut_ptr(), t.goals.len(),
                 t.limits.as_mut_ptr(), t.limits.len(),
+            )
+        }
+    }
+
+    /// Whether a route, by rows of the point table, is drivable from a start: as `read_pair`, or refused with 21 to 24.
+    pub fn check_route(rndf: &[u8], mdf: &[u8], t: &mut Tables, start: u32, route: &[u32]) -> Answer {
+        // Safe: as in `read_rndf`.
+        unsafe {
+            kastepuhm_check_route(
+                rndf.as_ptr(), rndf.len(),
+                mdf.as_ptr(), mdf.len(),
+                t.segments.as_mut_ptr(), t.segments.len(),
+                t.lanes.as_mut_ptr(), t.lanes.len(),
+                t.zones.as_mut_ptr(), t.zones.len(),
+                t.spots.as_mut_ptr(), t.spots.len(),
+                t.points.as_mut_ptr(), t.points.len(),
+                t.checkpoints.as_mut_ptr(), t.checkpoints.len(),
+                t.stops.as_mut_ptr(), t.stops.len(),
+                t.exits.as_mut_ptr(), t.exits.len(),
+                t.goals.as_mut_ptr(), t.goals.len(),
+                t.limits.as_mut_ptr(), t.limits.len(),
+                start,
+                route.as_ptr(), route.len(),
             )
         }
     }
@@ -368,14 +408,36 @@ fn print_map(w: &WriteAnswer, out: &[u8]) {
     println!("map of the network {} bytes: {}", w.length, String::from_utf8_lossy(&out[..w.length as usize]));
 }
 
+fn tables() -> Tables {
+    let rows = |stride: usize| vec![0u32; 128 * stride];
+    Tables {
+        segments: rows(4), lanes: rows(5), zones: rows(6), spots: rows(2), points: vec![0; 256 * 2],
+        checkpoints: rows(2), stops: rows(1), exits: rows(2), goals: rows(1), limits: rows(3),
+    }
+}
+
+fn print_summary(a: &Answer) {
+    println!("ok {} {} {} {} {} {} {} {} {} {}", a.segments, a.zones, a.lanes, a.points, a.spots, a.checkpoints, a.stops, a.exits, a.goals, a.limits);
+}
+
+fn run_route(network: &str, mission: &str, start: u32, route: &[u32]) -> Result<(), &'static str> {
+    let (rndf, mdf, mut t) = (load(network)?, load(mission)?, tables());
+    let a = kastepuhm::check_route(&rndf, &mdf, &mut t, start, route);
+    if a.accepted == 0 {
+        println!("refused {} {} {}", a.file, a.line, a.number);
+    } else {
+        print_summary(&a);
+    }
+    if (a.accepted != 0) == (t.lanes.iter().all(|&word| word == 0) && t.goals.iter().all(|&word| word == 0)) {
+        println!("and the tables are not as they should be");
+    }
+    Ok(())
+}
+
 fn run(network: &str, mission: Option<&str>) -> Result<(), &'static str> {
     let rndf = load(network)?;
     let mdf = mission.map(load).transpose()?;
-    let rows = |stride: usize| vec![0u32; 128 * stride];
-    let mut t = Tables {
-        segments: rows(4), lanes: rows(5), zones: rows(6), spots: rows(2), points: vec![0; 256 * 2],
-        checkpoints: rows(2), stops: rows(1), exits: rows(2), goals: rows(1), limits: rows(3),
-    };
+    let mut t = tables();
     let a = match &mdf {
         Some(mdf) => kastepuhm::read_pair(&rndf, mdf, &mut t),
         None => kastepuhm::read_rndf(&rndf, &mut t),
@@ -384,7 +446,7 @@ fn run(network: &str, mission: Option<&str>) -> Result<(), &'static str> {
         println!("refused {} {} {}", a.file, a.line, a.number);
         return Ok(());
     }
-    println!("ok {} {} {} {} {} {} {} {} {} {}", a.segments, a.zones, a.lanes, a.points, a.spots, a.checkpoints, a.stops, a.exits, a.goals, a.limits);
+    print_summary(&a);
     print_network(&a, &t, &rndf);
     if let Some(mdf) = &mdf {
         print_mission(&a, &t, mdf);
@@ -404,11 +466,16 @@ fn run(network: &str, mission: Option<&str>) -> Result<(), &'static str> {
 
 fn main() {
     let words: Vec<String> = std::env::args().collect();
-    if words.len() != 2 && words.len() != 3 {
-        eprintln!("usage: caller NETWORK [MISSION]");
+    let numbers: Vec<u32> = words.iter().skip(3).filter_map(|word| word.parse().ok()).collect();
+    if words.len() < 2 || (words.len() > 3 && numbers.len() + 3 != words.len()) {
+        eprintln!("usage: caller NETWORK [MISSION [START [POINT ..]]]");
         std::process::exit(2);
     }
-    if let Err(why) = run(&words[1], words.get(2).map(String::as_str)) {
+    let done = match numbers.split_first() {
+        Some((&start, route)) => run_route(&words[1], &words[2], start, route),
+        None => run(&words[1], words.get(2).map(String::as_str)),
+    };
+    if let Err(why) = done {
         println!("{why}");
     }
 }

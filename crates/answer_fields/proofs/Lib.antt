@@ -2,4 +2,5 @@
 pub mod Settled
 pub mod PointSettled
 pub mod ListSettled
+pub mod RouteSettled
 pub mod Whole

@@ -24,6 +24,7 @@ use Rattle.writings.specs.declared.WriteMdfReply.{WriteMdfReply}
 use Rattle.writings.specs.declared.WriteMdfReply.the-variants as WriteMdf
 use Rattle.house_text.specs.House.{HouseRndf}
 use Rattle.writings.specs.Writes.{Writes, MapOf, WritesMdf}
+use Rattle.pair_checks.specs.Checks.{ChecksRoute}
 use Rattle.answer_fields.specs.declared.Name.{Name}
 use Rattle.answer_fields.specs.declared.Answer.{Answer}
 use Rattle.look_up.specs.declared.ListReply.{ListReply}
@@ -109,6 +110,12 @@ pub record AnswersRndf (text : Bytes) (t : Lent) (given : Answer) (left : Lent) 
 pub record AnswersPair (rndf mdf : Bytes) (t : Lent) (u : MissionLent) (given : Answer) (left : Lent) (mission-left : MissionLent) : Type 0 where
   pub reply : PairReply
   pub reads : ReadsPair present rndf mdf t u reply left mission-left
+  pub told : given ≡ pair-answer reply
+
+-- ## A route, of an RNDF with its MDF. Request L5. start: the row of its first point; route: the rows of its points
+pub record AnswersRoute (start : ℕ) (route : List ℕ) (rndf mdf : Bytes) (t : Lent) (u : MissionLent) (given : Answer) (left : Lent) (mission-left : MissionLent) : Type 0 where
+  pub reply : PairReply
+  pub checks : ChecksRoute present start route rndf mdf t u reply left mission-left
   pub told : given ≡ pair-answer reply
 
 -- ## Any writing of an RNDF's network: the fields of the writer's reply, and the tables and the output as it promises. lent: the length of that output

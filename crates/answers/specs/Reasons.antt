@@ -8,7 +8,7 @@ use Rattle.terms.specs.Ascii.{Bytes, ascii}
 abbrev pub no-reason : Bytes
 no-reason = ascii "no such refusal"
 
--- 01, "Refusal numbers", and those that the requests add (L4: 20): from 0, which none has
+-- 01, "Refusal numbers", and those that the requests add (L4: 20; L5: 21 to 24): from 0, which none has
 unfoldable pub reasons : List Bytes
 reasons =
     no-reason
@@ -32,6 +32,10 @@ reasons =
     ∷ ascii "some segment or zone has no limit"
     ∷ ascii "the writing is over 16,777,215 bytes, or longer than the lent output"
     ∷ ascii "the two lists differ in length"
+    ∷ ascii "the route is empty, or does not begin at a declared start"
+    ∷ ascii "a step of the route is no move"
+    ∷ ascii "a goal is not met in order"
+    ∷ ascii "the route does not end at the last goal's point"
     ∷ []
 
 unfoldable pub reason : ℕ → Bytes

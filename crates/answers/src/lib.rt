@@ -106,6 +106,14 @@ fn put_reason_from_20(out: &mut [u8], at: usize, number: u8) -> usize
 {
     match number {
         20 => put_bytes(out, at, b"the two lists differ in length"),
+        21 => put_bytes(
+            out,
+            at,
+            b"the route is empty, or does not begin at a declared start",
+        ),
+        22 => put_bytes(out, at, b"a step of the route is no move"),
+        23 => put_bytes(out, at, b"a goal is not met in order"),
+        24 => put_bytes(out, at, b"the route does not end at the last goal's point"),
         _ => put_bytes(out, at, b"no such refusal"),
     }
 }

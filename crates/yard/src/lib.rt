@@ -1,11 +1,11 @@
 // The library for C and Rust engineers: `rt staticlib yard` writes target/staticlib/libyard.a, include/kastepuhm.h declares it for C, tests/callers/caller.rs for Rust.
 // Every function here takes plain slices (C hands over a pointer, then how many elements) and numbers, requires nothing of them, keeps nothing and allocates nothing.
 //
-// The answers and the contracts are `answer_fields`, with their laws; what a reader must believe beside them: replies/specs/Replies, writings/specs/Writes, look_up/specs/LookUp, Listed.
+// The answers and the contracts are `answer_fields`, with their laws; what a reader must believe beside them: replies/specs/Replies, writings/specs/Writes, pair_checks/specs/Checks, look_up/specs/LookUp, Listed.
 //
 // Left out: asking for a name (`rows::name_of`), since a part of a slice cannot be returned to C. There a name is `text + start` for `length` bytes.
 //
-// Rests on `answer_fields`, `reader`, `writer`, `map_writer`, `look_up` and what they rest on.
+// Rests on `answer_fields`, `reader`, `writer`, `map_writer`, `route`, `look_up` and what they rest on.
 use answer_fields::Answer;
 use answer_fields::ListAnswer;
 use answer_fields::Name;
@@ -21,6 +21,7 @@ use reader::read_rndf;
 use refusal::Refusal;
 use replies::PairReply;
 use replies::RndfReply;
+use route::check_route;
 use rows::FileRow;
 use rows::MissionFileRow;
 use rows::Stretch;
@@ -32,7 +33,7 @@ ghost use mathlib.Core.Path.{_≡_};
 ghost use lib.ListN.{length};
 ghost use Rattle.law.specs.Tables.{lent, mission-lent};
 ghost use Rattle.look_up.specs.LookUp.{PointOf};
-ghost use Rattle.answer_fields.specs.Answers.{named, laid-out, taken, refused, rndf-answer, pair-answer, write-answer, write-mdf-answer, list-answer, AnswersRndf, AnswersPair, AnswersWriteRndf, AnswersWriteMap, AnswersWriteMdf, AnswersList};
+ghost use Rattle.answer_fields.specs.Answers.{named, laid-out, taken, refused, rndf-answer, pair-answer, write-answer, write-mdf-answer, list-answer, AnswersRndf, AnswersPair, AnswersRoute, AnswersWriteRndf, AnswersWriteMap, AnswersWriteMdf, AnswersList};
 
 fn named(s: Stretch) -> Name
     ensures { λ r. ⌜ r ≡ named s ⌝ }
@@ -255,6 +256,45 @@ pub extern "C" fn kastepuhm_read_pair(
         exits,
         goals,
         limits,
+    );
+    pair_answer(reply)
+}
+
+// A route over an RNDF with its MDF, from a start: is it drivable?
+#[no_mangle]
+pub extern "C" fn kastepuhm_check_route(
+    rndf: &[u8],
+    mdf: &[u8],
+    segments: &mut [u32],
+    lanes: &mut [u32],
+    zones: &mut [u32],
+    spots: &mut [u32],
+    points: &mut [i32],
+    checkpoints: &mut [u32],
+    stops: &mut [u32],
+    exits: &mut [u32],
+    goals: &mut [u32],
+    limits: &mut [u32],
+    start: u32,
+    route: &[u32],
+) -> Answer
+    ensures { λ r. ⌜ AnswersRoute start (now (route .entry)) (now (rndf .entry)) (now (mdf .entry)) (lent (now (segments .entry)) (now (lanes .entry)) (now (zones .entry)) (now (spots .entry)) (now (points .entry)) (now (checkpoints .entry)) (now (stops .entry)) (now (exits .entry))) (mission-lent (now (goals .entry)) (now (limits .entry))) r (lent (now (segments .exit)) (now (lanes .exit)) (now (zones .exit)) (now (spots .exit)) (now (points .exit)) (now (checkpoints .exit)) (now (stops .exit)) (now (exits .exit))) (mission-lent (now (goals .exit)) (now (limits .exit))) ⌝ }
+{
+    let reply = check_route(
+        rndf,
+        mdf,
+        segments,
+        lanes,
+        zones,
+        spots,
+        points,
+        checkpoints,
+        stops,
+        exits,
+        goals,
+        limits,
+        start,
+        route,
     );
     pair_answer(reply)
 }
