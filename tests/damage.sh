@@ -4,13 +4,14 @@
 # Compares the library for C with the independent reader in tests/oracle on pairs of texts, well-formed and damaged: 4,000 of them, or COUNT, or 200,000 (`long`). The pairs come from
 # SEED (1 if not given) and are the same on every machine. Compared are the reply, the names, the row counts and every number of every lent table; the tables are lent full of other
 # numbers, and every text and table ends where the memory ends. As many maps (request L2) are compared byte by byte, and as JSON with what the network says; the output ends where the
-# memory ends too. Printed: how often each refusal number came, how often each kind of damage (tests/damage/pairs.py), what the maps showed, and each case that differs, which is kept
-# in target/damage. The last line is 'seed S: N pairs, M RNDFs alone and L maps (W written), K differ'; the status is 0 if none differs and every number from 1 to 19 came.
-# With a SORT, `pairs` or `maps`, only that one is compared.
+# memory ends too. Half as many routes (request L5) are judged, good ones and damaged ones. Printed: how often each refusal number came, how often each kind of damage
+# (tests/damage/pairs.py), what the maps showed, and each case that differs, which is kept in target/damage. The last line is 'seed S: N pairs, M RNDFs alone, R routes and L maps
+# (W written), K differ'; the status is 0 if none differs and every number from 1 to 19 and from 21 to 24 came.
+# With a SORT, `pairs`, `maps` or `routes`, only that one is compared: `tests/damage.sh 200000 1 routes` judges 100,000 routes in some 4 minutes.
 #
 # Builds the library first (`rt staticlib yard`), unless --built is given. Needs python3 and a C compiler (Debian: gcc; on Arm gcc-x86-64-linux-gnu, and the kit's emulator runs it);
 # what is missing it installs, where it may.
-# It runs on all cores that it may use: 4,000 pairs take some 15 seconds on two, 36,000, which write over 20,000 maps, some 2 minutes, 200,000 some 10. `python3 tests/damage/compare.py --mutants COUNT SEED` tells whether these
+# It runs on all cores that it may use: 4,000 pairs take some 15 seconds on two, 36,000, which write over 20,000 maps, some 3 minutes, 200,000 some 15. `python3 tests/damage/compare.py --mutants COUNT SEED` tells whether these
 # pairs notice each of the small mistakes of tests/oracle/mutate.py in a copy of the oracle (4,000 notice all but two or three, 20,000 all).
 set -eu
 root=$(cd "$(dirname "$0")/.." && pwd -P)

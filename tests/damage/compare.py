@@ -1,8 +1,8 @@
 #!/usr/bin/env python3
 """Compares the library with the oracle on pairs of texts, well-formed and damaged (tests/damage.sh builds everything and runs this).
 
-    compare.py PROGRAM COUNT SEED [SORT]    PROGRAM is tests/damage/reader.c, compiled; COUNT pairs, in blocks that each have their own generator; with a SORT (pairs, maps) only that one
-    compare.py --mutants COUNT SEED [SORT]  no library: do the cases notice each small mistake of tests/oracle/mutate.py (and maps.py) in a copy of the oracle?
+    compare.py PROGRAM COUNT SEED [SORT]    PROGRAM is tests/damage/reader.c, compiled; COUNT pairs, in blocks that each have their own generator; with a SORT (pairs, maps, routes) only that one
+    compare.py --mutants COUNT SEED [SORT]  no library: do the cases notice each small mistake of tests/oracle/mutate.py (and maps.py, routes.py) in a copy of the oracle?
 
 Of every pair the reply, every name, every row count and every number of every lent table have to be the oracle's; every fourth RNDF is read alone as well. Each reply is counted by
 file and number. A case that differs is printed and kept in target/damage. The status is 0 if none differs and every refusal number came.
@@ -11,8 +11,11 @@ The map is written too (request L2), of every second RNDF and of as many that ar
 be the oracle's. What was written is then read by Python's json and held to the network (tests/oracle/maps.py, which knows nothing of the oracle's writer): features and their order,
 properties, positions, the direction and the closing of rings. The cases worked out by hand there and the longest maps are among the first block's.
 
-A case for the program, little endian: 1 byte mode (1 RNDF alone, 2 pair, 3 map); both texts' lengths (8 bytes each) and how many bytes of each are given (4 each); the ten tables' lengths
-and the output's (4 each); the bytes. Its answer: kastepuhm_write_answer (29 words), the lent tables' words, the output's bytes, one word that is 0 if nothing else was written.
+Routes (request L5), half as many as pairs, are judged over pairs that are mostly whole: good by construction, then damaged in none, one or two ways (tests/oracle/routes.py); the
+cases worked out by hand there are in the first block. Reply, names, counts and tables have to be the oracle's.
+
+A case for the program, little endian: 1 byte mode (1 RNDF alone, 2 pair, 3 map, 4 route); both texts' lengths (8 bytes each) and how many bytes of each are given (4 each); the ten
+tables' lengths and the output's (4 each); the start and how many points the route has (4 each); both texts' bytes; the route's points (4 each). Its answer: kastepuhm_write_answer (29 words), the lent tables' words, the output's bytes, one word that is 0 if nothing else was written.
 """
 import array
 import multiprocessing
@@ -31,9 +34,10 @@ from pairs import g, oracle         # noqa: E402
 ROOT = os.path.dirname(os.path.dirname(os.path.dirname(os.path.abspath(__file__))))
 KEPT = os.path.join(ROOT, "target", "damage")
 BLOCK = 500
-NUMBERS = range(1, 20)
+NUMBERS = [*range(1, 20), 21, 22, 23, 24]
 MOST_KEPT = 20                      # cases that differ, of a block
-RNDF_ALONE, PAIR, MAP = 1, 2, 3
+RNDF_ALONE, PAIR, MAP, ROUTE = 1, 2, 3, 4
+LABELS = {PAIR: "pair", RNDF_ALONE: "RNDF alone", MAP: "map", ROUTE: "route"}
 HEAD = struct.Struct("<29I")        # kastepuhm_write_answer
 ROWS = ["segments", "lanes", "zones", "spots", "points", "checkpoints", "stops", "exits", "goals", "limits"]
 
@@ -51,7 +55,12 @@ def maps_of(rng, number, count):
     return [(MAP, case) for case in [pairs.map_case(rng) for _ in range(count // 2)] + (pairs.maps_by_hand() if number == 0 else [])]
 
 
-SORTS = {"pairs": pairs_of, "maps": maps_of}
+def routes_of(rng, number, count):
+    """Routes, half as many; in the first block also those worked out by hand."""
+    return [(ROUTE, case) for case in [pairs.route_case(rng) for _ in range(count // 2)] + (pairs.routes_by_hand() if number == 0 else [])]
+
+
+SORTS = {"pairs": pairs_of, "maps": maps_of, "routes": routes_of}
 
 
 def block_of(seed, number, count, sorts):
@@ -89,11 +98,17 @@ def judge(reader, mode, case):
     if mode == MAP:
         done = reader.write_map(rndf, case.room, case.out)
         return done.reply, done.written or 0, done.output
+    if mode == ROUTE:
+        return reader.drive(rndf, mdf, case.room, case.start, case.route), 0, b""
     return reader.read_rndf(rndf, case.room) if mode == RNDF_ALONE else reader.read_pair(rndf, mdf, case.room), 0, b""
 
 
+def has_mdf(mode):
+    return mode in (PAIR, ROUTE)
+
+
 def lent(mode, case):
-    return [case.room[t] if mode == PAIR or t not in oracle.MDF_TABLES else 0 for t in ROWS]
+    return [case.room[t] if has_mdf(mode) or t not in oracle.MDF_TABLES else 0 for t in ROWS]
 
 
 def lent_output(mode, case):
@@ -105,8 +120,10 @@ def answer_size(mode, case):
 
 
 def encode(mode, case):
-    mdf, mdf_length = (case.mdf, case.mdf_length) if mode == PAIR else (b"", 0)
-    return struct.pack("<B2Q2I11I", mode, case.rndf_length, mdf_length, len(case.rndf), len(mdf), *lent(mode, case), lent_output(mode, case)) + case.rndf + mdf
+    mdf, mdf_length = (case.mdf, case.mdf_length) if has_mdf(mode) else (b"", 0)
+    start, route = (case.start, case.route) if mode == ROUTE else (0, [])
+    head = struct.pack("<B2Q2I13I", mode, case.rndf_length, mdf_length, len(case.rndf), len(mdf), *lent(mode, case), lent_output(mode, case), start, len(route))
+    return head + case.rndf + mdf + struct.pack("<%dI" % len(route), *route)
 
 
 def words(judged, mode, case):
@@ -159,13 +176,15 @@ def keep(seed, number, k, mode, case, want, got):
     path = os.path.join(KEPT, "case-%d-%d-%d" % (seed, number, k))
     with open(path + ".rndf", "wb") as f:
         f.write(case.rndf)
-    if mode == PAIR:
+    if has_mdf(mode):
         with open(path + ".mdf", "wb") as f:
             f.write(case.mdf)
     oracles, ours = shown(want, mode, case), shown(got, mode, case)
     with open(path + ".txt", "w") as f:
-        f.write("%s; damage: %s; lengths %d %d; numbers lent %s; output of %d bytes\n" % ({PAIR: "pair", RNDF_ALONE: "RNDF alone", MAP: "map"}[mode], ", ".join(case.kinds),
+        f.write("%s; damage: %s; lengths %d %d; numbers lent %s; output of %d bytes\n" % (LABELS[mode], ", ".join(case.kinds),
                 case.rndf_length, case.mdf_length, dict(zip(ROWS, lent(mode, case))), lent_output(mode, case)))
+        if mode == ROUTE:
+            f.write("start %d, route %s\n" % (case.start, case.route))
         f.write("\nthe oracle:\n%s\n\nthe library:\n%s\n" % (oracles, ours))
     first = next(((a, b) for a, b in zip(oracles.splitlines(), ours.splitlines()) if a != b), ("the same", "the same, but it wrote elsewhere too"))
     return "DIFFERS %s (%s)\n  oracle:  %s\n  library: %s" % ((os.path.relpath(path, ROOT), ", ".join(case.kinds)) + tuple(x.strip()[:300] for x in first))
@@ -195,9 +214,9 @@ def run_block(job):
         want = words(judged, mode, case)
         key = "ok" if reply.accepted else (reply.refusal[0], reply.refusal[2])
         replies[mode, key] = replies.get((mode, key), 0) + 1
-        for kind in set(case.kinds) if mode == PAIR else ():
-            drawn, taken = kinds.get(kind, (0, 0))
-            kinds[kind] = (drawn + 1, taken + reply.accepted)
+        for kind in set(case.kinds) if has_mdf(mode) else ():
+            drawn, taken = kinds.get((mode, kind), (0, 0))
+            kinds[mode, kind] = (drawn + 1, taken + reply.accepted)
         by_json, more = map_said(judged, mode, case, got)
         for shape, n in more.items():
             shapes[shape] = shapes.get(shape, 0) + n
@@ -211,13 +230,15 @@ def run_block(job):
 def print_counts(replies, kinds, shapes):
     def of(mode, key):
         return replies.get((mode, key), 0)
-    print("\n%-12s %10s %10s %12s %8s" % ("reply", "pair: RNDF", "pair: MDF", "RNDF alone", "map"))
-    print("%-12s %21d %12d %8d" % ("accepted", of(PAIR, "ok"), of(RNDF_ALONE, "ok"), of(MAP, "ok")))
+    print("\n%-12s %10s %10s %12s %8s %8s" % ("reply", "pair: RNDF", "pair: MDF", "RNDF alone", "map", "route"))
+    print("%-12s %21d %12d %8d %8d" % ("accepted", of(PAIR, "ok"), of(RNDF_ALONE, "ok"), of(MAP, "ok"), of(ROUTE, "ok")))
     for number in NUMBERS:
-        print("%-12d %10d %10d %12d %8d" % (number, of(PAIR, (1, number)), of(PAIR, (2, number)), of(RNDF_ALONE, (1, number)), of(MAP, (1, number))))
-    print("\n%-28s %8s %8s" % ("damage (pairs)", "drawn", "accepted"))
-    for kind, (drawn, taken) in sorted(kinds.items()):
-        print("%-28s %8d %8d" % (kind, drawn, taken))
+        print("%-12d %10d %10d %12d %8d %8d" % (number, of(PAIR, (1, number)), of(PAIR, (2, number)), of(RNDF_ALONE, (1, number)), of(MAP, (1, number)),
+                                                sum(of(ROUTE, (file, number)) for file in (0, 1, 2))))
+    for mode in (PAIR, ROUTE):
+        print("\n%-28s %8s %8s" % ("damage (%ss)" % LABELS[mode], "drawn", "accepted"))
+        for (_, kind), (drawn, taken) in sorted(item for item in kinds.items() if item[0][0] == mode):
+            print("%-28s %8d %8d" % (kind[:28], drawn, taken))
     print("\n%-40s %8s" % ("on the maps", "came"))
     for shape, n in sorted(shapes.items()):
         print("%-40s %8d" % (shape, n))
@@ -244,8 +265,8 @@ def compare(program, count, seed, sorts):
     missing = [n for n in NUMBERS if sorts == list(SORTS) and not any(key != "ok" and key[1] == n for _, key in replies)]
     if missing:
         print("never came: " + ", ".join(map(str, missing)))
-    counts = [sum(n for (mode, _), n in replies.items() if mode == one) for one in (PAIR, RNDF_ALONE, MAP)]
-    print("\nseed %d: %d pairs, %d RNDFs alone and %d maps (%d written), %d differ" % (seed, *counts, replies.get((MAP, "ok"), 0), differing))
+    counts = [sum(n for (mode, _), n in replies.items() if mode == one) for one in (PAIR, RNDF_ALONE, ROUTE, MAP)]
+    print("\nseed %d: %d pairs, %d RNDFs alone, %d routes and %d maps (%d written), %d differ" % (seed, *counts, replies.get((MAP, "ok"), 0), differing))
     return 1 if differing or missing else 0
 
 
@@ -262,7 +283,7 @@ def mutants(count, seed, sorts):
     right = [told(oracle, *c) for c in cases]
     source = open(oracle.__file__).read()
     survive = 0
-    mistakes = [mistake for sort in sorts for mistake in {"pairs": mutate.MUTANTS, "maps": maps.MUTANTS}[sort]]
+    mistakes = [mistake for sort in sorts for mistake in {"pairs": mutate.MUTANTS, "maps": maps.MUTANTS, "routes": pairs.routes.MUTANTS}[sort]]
     for old, new in mistakes:
         assert old in source, old
         mutant = types.ModuleType("mutant")

@@ -11,6 +11,7 @@ sys.path.insert(0, os.path.join(os.path.dirname(os.path.dirname(os.path.abspath(
 import generate as g    # noqa: E402
 import maps             # noqa: E402
 import oracle           # noqa: E402
+import routes           # noqa: E402
 
 LARGEST = oracle.LARGEST_TEXT
 PARTS = {b"segment": b"end_segment", b"lane": b"end_lane", b"zone": b"end_zone", b"perimeter": b"end_perimeter", b"spot": b"end_spot",
@@ -308,8 +309,9 @@ def label(kind):
 # ---- cases
 
 class Case:
-    """Two texts, how long each is said to be, how many numbers each table has (`room`), what was done to the texts, and how many bytes are lent for the map (`out`)."""
-    __slots__ = ("rndf", "mdf", "rndf_length", "mdf_length", "room", "kinds", "out")
+    """Two texts, how long each is said to be, how many numbers each table has (`room`), what was done to the texts, how many bytes are lent for the map (`out`), and a
+    route with its start."""
+    __slots__ = ("rndf", "mdf", "rndf_length", "mdf_length", "room", "kinds", "out", "start", "route")
 
 
 class Long(bytes):
@@ -440,7 +442,42 @@ def maps_by_hand():
 
 
 def rndf_case(rndf, room, label):
+    return text_case(rndf, b"", room, [label])
+
+
+def text_case(rndf, mdf, room, kinds):
     case = Case()
-    case.rndf, case.mdf, case.room, case.kinds = rndf, b"", room, [label]
-    case.rndf_length, case.mdf_length = len(rndf), 0
+    case.rndf, case.mdf, case.room, case.kinds = rndf, mdf, room, kinds
+    case.rndf_length, case.mdf_length = len(rndf), len(mdf)
     return case
+
+
+# ---- routes (request L5)
+
+def route_case(rng):
+    """A route over a pair, one pair in twenty damaged."""
+    made, start, route, kinds = routes.random_case(rng)
+    lines = {1: made.rndf_lines, 2: made.mdf_lines}
+    if rng.random() < 0.05:
+        file = rng.choice([1, 2])
+        kind = rng.choice([k for k, _ in BY_FILE[file] if k not in OF_TEXT])
+        kind(rng, lines[file], file)
+        kinds = kinds + ["texts damaged"]
+    rows = {t: len(getattr(made.mission if t in oracle.MDF_TABLES else made.network, t)) for t in oracle.TABLES}
+    room = {t: oracle.STRIDE[t] * rows[t] + rng.choice([0, 0, 1, 9]) for t in rows}
+    if rng.random() < 0.02:
+        short = rng.choice([t for t in rows if rows[t]])
+        room[short] = oracle.STRIDE[short] * rows[short] - 1
+    rough = rng.choice([0, 0, 0.3])
+    case = text_case(g.render(rng, lines[1], rough), g.render(rng, lines[2], rough), room, kinds or ["none"])
+    case.start, case.route = start, route
+    return case
+
+
+def routes_by_hand():
+    cases = []
+    for _, rndf, mdf, start, route, _ in routes.HAND:
+        case = text_case(rndf, mdf, {t: 40 * oracle.STRIDE[t] for t in oracle.TABLES}, ["by hand"])
+        case.start, case.route = start, route
+        cases.append(case)
+    return cases

@@ -1,8 +1,9 @@
 /*
  * Runs pairs of texts through the library, as many as stand on standard input, and writes what it answered and left in the lent tables (tests/damage/compare.py has the formats).
  *
- * Each text, each table and the output is lent with nothing behind it: the memory ends there, so that a reader that goes one byte too far is stopped at once. Tables and output are
- * lent full of other numbers, with one before them that must stay; the texts must stay too. A text may be lent longer than it is given here, up to MOST_BYTES, which costs no memory.
+ * Each text, each table, the output and the route is lent with nothing behind it: the memory ends there, so that a reader that goes one byte too far is stopped at once. Tables and
+ * output are lent full of other numbers, with one before them that must stay; texts and route must stay too. A text may be lent longer than it is given here, up to MOST_BYTES, which
+ * costs no memory.
  */
 #define _GNU_SOURCE
 #include "kastepuhm.h"
@@ -12,16 +13,18 @@
 #include <string.h>
 #include <sys/mman.h>
 
-enum { RNDF_ALONE = 1, PAIR, MAP };
+enum { RNDF_ALONE = 1, PAIR, MAP, ROUTE };
 enum { SEGMENTS, LANES, ZONES, SPOTS, POINTS, CHECKPOINTS, STOPS, EXITS, GOALS, LIMITS, TABLES };
 
 #define MOST_BYTES ((size_t)1 << 33)
 #define MOST_NUMBERS ((size_t)1 << 20)
 #define MOST_OUTPUT ((size_t)1 << 25)
+#define MOST_STEPS ((size_t)1 << 20)
 #define OTHER 0x5A5A5A5Au
 
-static uint8_t *text_ends[2], *table_ends[TABLES], *output_end, *given[2];
-static size_t text_lengths[2], given_lengths[2], lengths[TABLES], output_length;
+static uint8_t *text_ends[2], *table_ends[TABLES], *output_end, *route_end, *given[2];
+static size_t text_lengths[2], given_lengths[2], lengths[TABLES], output_length, route_length;
+static uint32_t start, given_route[MOST_STEPS];
 
 /* Where `size` bytes of memory end; behind them nothing may be read or written. */
 static uint8_t *end_of_memory(size_t size)
@@ -49,6 +52,18 @@ static void take_text(int file)
         || fread(given[file], 1, given_lengths[file], stdin) != given_lengths[file])
         exit(2);
     memcpy(text_ends[file] - text_lengths[file], given[file], given_lengths[file]);
+}
+
+static uint32_t *route(void)
+{
+    return (uint32_t *)(void *)route_end - route_length;
+}
+
+static void take_route(void)
+{
+    if (route_length > MOST_STEPS || fread(given_route, sizeof *given_route, route_length, stdin) != route_length)
+        exit(2);
+    memcpy(route(), given_route, route_length * sizeof *given_route);
 }
 
 static uint32_t *table(int i)
@@ -87,6 +102,9 @@ static kastepuhm_write_answer answer(int mode)
         return read;
     case MAP:
         return kastepuhm_write_map(TEXT(0), NETWORK, output_end - output_length, output_length);
+    case ROUTE:
+        read.answer = kastepuhm_check_route(TEXT(0), TEXT(1), NETWORK, LENT(GOALS), LENT(LIMITS), start, route(), route_length);
+        return read;
     default:
         exit(2);
     }
@@ -100,6 +118,7 @@ int main(void)
     for (int i = 0; i < TABLES; i++)
         table_ends[i] = end_of_memory(MOST_NUMBERS * sizeof(uint32_t));
     output_end = end_of_memory(MOST_OUTPUT);
+    route_end = end_of_memory(MOST_STEPS * sizeof(uint32_t));
     while ((mode = getchar()) != EOF) {
         uint32_t elsewhere = 0;
         kastepuhm_write_answer a;
@@ -110,8 +129,11 @@ int main(void)
         for (int i = 0; i < TABLES; i++)
             lengths[i] = number(4);
         output_length = number(4);
+        start = (uint32_t)number(4);
+        route_length = number(4);
         for (int i = 0; i < 2; i++)
             take_text(i);
+        take_route();
         for (int i = 0; i < TABLES; i++)
             soil_table(i);
         soil_output();
@@ -123,6 +145,7 @@ int main(void)
         }
         fwrite(output_end - output_length, 1, output_length, stdout);
         elsewhere |= *(output_end - output_length - 1) != (OTHER & 0xFF);
+        elsewhere |= memcmp(route(), given_route, route_length * sizeof *given_route) != 0;
         for (int i = 0; i < 2; i++) {
             elsewhere |= memcmp(text_ends[i] - text_lengths[i], given[i], given_lengths[i]) != 0;
             free(given[i]);

@@ -1140,6 +1140,64 @@ def write_map(text, room, out_len):
                      room, RNDF_TABLES, out_len)
 
 
+# ------------------------------------------------------------------- routes
+
+def is_move(network, a, b):
+    """L5: "A move goes from a waypoint to the next in its lane; along an exit;
+    or, in one zone, between any two different points among perimeter and
+    spots."  a and b are rows of the point table; any other number has no move."""
+    for first, points, *_ in network.lanes:
+        if first <= a and b == a + 1 < first + points:
+            return True
+    for exit_point, entry in network.exits:
+        if (exit_point, entry) == (a, b):
+            return True
+    for first, points, _, spots, _ in network.zones:
+        # the spots' points stand behind their perimeter's
+        zone = range(first, first + points + 2 * spots)
+        if a in zone and b in zone and a != b:
+            return True
+    return False
+
+
+def check_route(network, mission, start, route):
+    """L5: None for a good route, else (file 0, place or goal's row, number)."""
+    # "21 empty or not beginning at a declared start"
+    if not route or start >= len(network.points) or route[0] != start:
+        return 0, 0, 21
+    # "22 a step that is no move (the first)"; "the place in the route that the
+    # step leads to .., from 0"
+    for place in range(1, len(route)):
+        if not is_move(network, route[place - 1], route[place]):
+            return 0, place, 22
+    # "23 a goal not met in order (the first, each goal taken at the earliest
+    # place)"; "each at a strictly later place than the one before"; "The start
+    # itself may meet the first goal."
+    points = dict(network.checkpoints)
+    place = 0                           # the first place that is still free
+    for row, (number,) in enumerate(mission.goals):
+        while place < len(route) and route[place] != points[number]:
+            place += 1
+        if place == len(route):
+            return 0, row, 23
+        place += 1
+    # "24 wrong end": "it ends at the last goal's point"
+    if route[-1] != points[mission.goals[-1][0]]:
+        return 0, 0, 24
+    return None
+
+
+def drive(rndf, mdf, room, start, route):
+    """The checker "over an accepted pair": the texts are read first and refused
+    as the reader does; a refusal leaves every lent table zero."""
+    reply = read_pair(rndf, mdf, room)
+    if reply.accepted:
+        fault = check_route(network_of(reply, rndf), mission_of(reply, mdf), start, route)
+        if fault is not None:
+            refuse(reply, Refused(*fault), room, TABLES)
+    return reply
+
+
 # ----------------------------------------------------------------- summary
 
 SUMMARY_LARGEST = 8192              # "each up to 8,192 bytes"

@@ -16,7 +16,8 @@ import generate
 import lists
 import maps
 import oracle
-from oracle import (RNDF_TABLES, STRIDE, TABLES, house_mdf, house_rndf, lookup,
+import routes
+from oracle import (RNDF_TABLES, STRIDE, TABLES, drive, house_mdf, house_rndf, lookup,
                     mission_of, name_of, network_of, points_of, read_pair,
                     read_rndf, summary, write_map, write_mdf, write_rndf)
 from yards import (MDF_STATEMENTS, MISSION_B, RNDF_STATEMENTS, ROUND_1, YARD_A,
@@ -296,6 +297,74 @@ class Maps(unittest.TestCase):
         reply.accepted = True
         got = oracle.write_out(reply, lambda: oracle.geojson(yard(2)), 1, WIDE, RNDF_TABLES, 30_000_000)
         self.assertEqual(got.refusal, (1, 0, 19))
+
+
+class Routes(unittest.TestCase):
+    """L5."""
+
+    def test_by_hand(self):
+        for label, r, m, start, route, want in routes.HAND:
+            reply = drive(r, m, WIDE, start, route)
+            got = "ok" if reply.accepted else "%d %d %d" % reply.refusal
+            self.assertEqual(got, want, label)
+            before = read_pair(r, m, WIDE)
+            if want == "ok":
+                self.assertEqual(vars(reply), vars(before))
+            else:
+                self.assertEqual(reply.tables, {t: [0] * WIDE[t] for t in TABLES})
+            if before.accepted:
+                network, mission = network_of(before, r), mission_of(before, m)
+                naive = routes.naive(network, mission.goals, start, route)
+                self.assertEqual(want if naive == "ok" else "0 %d %d" % naive, want, label)
+
+    def test_moves(self):
+        """Every pair of rows, and rows that are none."""
+        rng = random.Random(12)
+        for _ in range(120):
+            network = generate.make(rng).network
+            moves = routes.all_moves(network)
+            n = len(network.points)
+            for a in range(n + 2):
+                for b in list(range(n + 2)) + [oracle.NO_POINT]:
+                    self.assertEqual(oracle.is_move(network, a, b), (a, b) in moves)
+
+    def test_random(self):
+        """Routes that are good by construction are accepted, damaged ones are
+        judged as the naive reading judges them."""
+        rng = random.Random(13)
+        count = {}
+        for _ in range(2000):
+            made, start, route, kinds = routes.random_case(rng, 0)
+            got = oracle.check_route(made.network, made.mission, start, route)
+            naive = routes.naive(made.network, made.mission.goals, start, route)
+            self.assertEqual("ok" if got is None else got[1:], naive, (start, route, kinds))
+            if not kinds:
+                self.assertIsNone(got)
+            count[got and got[2]] = count.get(got and got[2], 0) + 1
+        for number in (None, 21, 22, 23, 24):
+            self.assertGreater(count[number], 60, count)
+
+    def test_large(self):
+        """Large yards, where trying everything out takes too long: the generator's
+        own moves, and routes that are left whole."""
+        rng = random.Random(15)
+        for _ in range(60):
+            made, start, route = routes.good(rng, 1)
+            self.assertIsNone(oracle.check_route(made.network, made.mission, start, route))
+            onward = routes.onward_of(made.network)
+            moves = routes.all_moves(made.network)
+            for a in rng.sample(range(len(made.network.points)), min(8, len(made.network.points))):
+                self.assertEqual(set(onward(a)), {b for c, b in moves if c == a})
+
+    def test_texts(self):
+        """The same from the texts."""
+        rng = random.Random(14)
+        room = {t: 40 * STRIDE[t] for t in TABLES}
+        for _ in range(200):
+            made, start, route, _ = routes.random_case(rng, 0)
+            r, m = generate.render(rng, made.rndf_lines, 1), generate.render(rng, made.mdf_lines, 1)
+            reply = drive(r, m, room, start, route)
+            self.assertEqual(reply.refusal, oracle.check_route(made.network, made.mission, start, route))
 
 
 class Places(unittest.TestCase):
