@@ -31,17 +31,24 @@ pub too-west : OnEarth (position (pos 0) (negsuc 180000000)) → ⊥
 too-west h = omega (arith, h .longitude)
 
 -- a checkpoint's number, an entry
-pub checkpoint-ends : GoodCheckpoint 2 (record { waypoint = 2; number = 32768 })
+pub checkpoint-ends : GoodCheckpoint 1 2 (record { waypoint = 2; number = 32768 })
 checkpoint-ends = record { waypoint = record { low = omega arith; high = omega arith }; number = record { low = omega arith; high = omega arith } }
 
-pub checkpoint-none : GoodCheckpoint 2 (record { waypoint = 2; number = 0 }) → ⊥
+pub checkpoint-none : GoodCheckpoint 1 2 (record { waypoint = 2; number = 0 }) → ⊥
 checkpoint-none h = omega (arith, h .number .low)
 
-pub checkpoint-large : GoodCheckpoint 2 (record { waypoint = 2; number = 32769 }) → ⊥
+pub checkpoint-large : GoodCheckpoint 1 2 (record { waypoint = 2; number = 32769 }) → ⊥
 checkpoint-large h = omega (arith, h .number .high)
 
-pub checkpoint-beyond : GoodCheckpoint 2 (record { waypoint = 3; number = 1 }) → ⊥
+pub checkpoint-beyond : GoodCheckpoint 1 2 (record { waypoint = 3; number = 1 }) → ⊥
 checkpoint-beyond h = omega (arith, h .waypoint .high)
+
+-- L8: a spot's is on waypoint 2
+pub spot-checkpoint : GoodCheckpoint 2 2 (record { waypoint = 2; number = 1 })
+spot-checkpoint = record { waypoint = record { low = omega arith; high = omega arith }; number = record { low = omega arith; high = omega arith } }
+
+pub spot-first : GoodCheckpoint 2 2 (record { waypoint = 1; number = 1 }) → ⊥
+spot-first h = omega (arith, h .waypoint .low)
 
 pub entry-ends : GoodEntry (point-id 32768 0 1)
 entry-ends = record { x = record { low = omega arith; high = omega arith }; y = omega arith; z = record { low = omega arith; high = omega arith } }

@@ -62,7 +62,7 @@ pub record Program {L : Lang} (M : Machine L) : Type 1 where
 
 module _ {L : Lang} {M : Machine L} (R : Program M) where
   open Lang L using (Kind, Pay, disc)
-  open Machine M using (Base, opts, due, apart)
+  open Machine M using (Base, opts, due, ready, apart)
   open Program R using (St, Pl, Ou, Next, Refused, seen, seen-next, seen-refused, meant, write, stepOf, settled, placeOf, absOf, flags, kindRow, sample, refusesOf, overOf)
 
   abbrev pub outOf : Out (Stand Base) → Ou
@@ -116,79 +116,83 @@ module _ {L : Lang} {M : Machine L} (R : Program M) where
     pub over-here : (q : Stand Base) → overOf (placeOf q) ≡ isOver M q
 
   -- ## The due statement
-  on-due : (b : Base) (g : List Bool) (w : Pay (due b .on)) → step M (inside b g) (say L (due b .on) w) ≡ guard (due b .test w) 9 (next (enter M (due b .then w)))
+  on-due : (b : Base) (g : List Bool) (w : Pay (due b .on)) → step M (inside b g) (say L (due b .on) w) ≡ guard (due b .test w) 9 (guard (ready b g) 25 (next (enter M (due b .then w))))
   unfolding step
   on-due b g w = rw (no-option M (opts b) g (due b .on) w (due-apart M b), as-same L (due b .on) w)
 
-  ends : (h : Bool) (x : Pl) (q : Stand Base) → (T h → x ≡ placeOf q) → pick h (Next x) (Refused 9) ≡ outOf (guard h 9 (next q))
+  ends : (h r : Bool) (x : Pl) (q : Stand Base) → (T h → x ≡ placeOf q) → pick h (pick r (Next x) (Refused 25)) (Refused 9) ≡ outOf (guard h 9 (guard r 25 (next q)))
   unfolding guard
-  ends true x q e = ap Next (e tt)
-  ends false x q e = refl
+  ends true true x q e = ap Next (e tt)
+  ends true false x q e = refl
+  ends false r x q e = refl
 
   module _ (cleared : (b : Base) → clear L (opts b) ≡ flags b false false false) where
     enter-fit : (n : Option Base) → Fit (enter M n)
     enter-fit none = tt
     enter-fit (some b) = (false, false, false, cleared b)
 
-    guard-fit : (h : Bool) (n : Option Base) → FitOut (guard h 9 (next (enter M n)))
+    guard-fit : (h r : Bool) (n : Option Base) → FitOut (guard h 9 (guard r 25 (next (enter M n))))
     unfolding guard
-    guard-fit true n = enter-fit n
-    guard-fit false n = tt
+    guard-fit true true n = enter-fit n
+    guard-fit true false n = tt
+    guard-fit false r n = tt
 
     pub line : (b : Base) (g : List Bool) (w : Pay (due b .on)) (x : Pl)
-        → stepOf (placeOf (inside b g)) (write (due b .on) w) ≡ pick (due b .test w) (Next x) (Refused 9)
+        → stepOf (placeOf (inside b g)) (write (due b .on) w) ≡ pick (due b .test w) (pick (ready b g) (Next x) (Refused 25)) (Refused 9)
         → (T (due b .test w) → x ≡ placeOf (enter M (due b .then w)))
         → Goal b g (due b .on) w
     line b g w x e f =
         let q = on-due b g w in
         record {
-          same = e ∙ ends (due b .test w) x (enter M (due b .then w)) f ∙ ap outOf (sym q);
-          keeps = rw q (guard-fit (due b .test w) (due b .then w));
+          same = e ∙ ends (due b .test w) (ready b g) x (enter M (due b .then w)) f ∙ ap outOf (sym q);
+          keeps = rw q (guard-fit (due b .test w) (ready b g) (due b .then w));
         }
 
   -- ## An option
-  judged : (f h : Bool) (b : Base) (g : List Bool) (s : S L) → pick f (Refused 6) (pick h (Next (placeOf (inside b g))) (Refused 9)) ≡ outOf (settle M b (judge f h g) s)
-  judged true h b g s = refl
-  judged false true b g s = refl
-  judged false false b g s = refl
+  judged : (f h : Bool) (b : Base) (was g : List Bool) (s : S L) → pick f (Refused 6) (pick h (Next (placeOf (inside b g))) (Refused 9)) ≡ outOf (settle M b was (judge f h g) s)
+  judged true h b was g s = refl
+  judged false true b was g s = refl
+  judged false false b was g s = refl
 
-  judge-fit : (f h : Bool) (b : Base) (g : List Bool) (s : S L) → Fit (inside b g) → FitOut (settle M b (judge f h g) s)
-  judge-fit true h b g s y = tt
-  judge-fit false true b g s y = y
-  judge-fit false false b g s y = tt
+  judge-fit : (f h : Bool) (b : Base) (was g : List Bool) (s : S L) → Fit (inside b g) → FitOut (settle M b was (judge f h g) s)
+  judge-fit true h b was g s y = tt
+  judge-fit false true b was g s y = y
+  judge-fit false false b was g s y = tt
 
   pub oline : (b : Base) (g : List Bool) (k : Kind) (v : Pay k) (f h : Bool) (g′ : List Bool)
       → stepOf (placeOf (inside b g)) (write k v) ≡ pick f (Refused 6) (pick h (Next (placeOf (inside b g′))) (Refused 9))
       → optAt L (opts b) g (say L k v) ≡ judge f h g′ → Fit (inside b g′) → Goal b g k v
   unfolding step
   oline b g k v f h g′ e q y = record {
-    same = e ∙ judged f h b g′ (say L k v) ∙ ap (λ (x : Verdict). outOf (settle M b x (say L k v))) (sym q);
-    keeps = rw q (judge-fit f h b g′ (say L k v) y);
+    same = e ∙ judged f h b g g′ (say L k v) ∙ ap (λ (x : Verdict). outOf (settle M b g x (say L k v))) (sym q);
+    keeps = rw q (judge-fit f h b g g′ (say L k v) y);
   }
 
-  -- ## By the kind alone: of the answers that a cell can lead to, those that the kind decides. It is the due statement (a), an option (b), was given (f), its values are permitted (h)
-  pub by-cell : (a b f h : Bool) (x y : Pl) → pick a 0 (pick b (pick f 6 0) 5)
-      ≡ early (seen (pick a (pick h (Next x) (Refused 9)) (pick b (pick f (Refused 6) (pick h (Next y) (Refused 9))) (Refused 5))))
-  by-cell true b f true x y = rw (seen-next x)
-  by-cell true b f false x y = rw (seen-refused 9)
-  by-cell false true true h x y = rw (seen-refused 6)
-  by-cell false true false true x y = rw (seen-next y)
-  by-cell false true false false x y = rw (seen-refused 9)
-  by-cell false false f h x y = rw (seen-refused 5)
+  -- ## By the kind alone: of the answers that a cell can lead to, those that the kind decides. It is the due statement (a), an option (b), was given (f), its values are permitted (h), the options given are enough (r)
+  pub by-cell : (a b f h r : Bool) (x y : Pl) → pick a 0 (pick b (pick f 6 0) 5)
+      ≡ early (seen (pick a (pick h (pick r (Next x) (Refused 25)) (Refused 9)) (pick b (pick f (Refused 6) (pick h (Next y) (Refused 9))) (Refused 5))))
+  by-cell true b f true true x y = rw (seen-next x)
+  by-cell true b f true false x y = rw (seen-refused 25)
+  by-cell true b f false r x y = rw (seen-refused 9)
+  by-cell false true true h r x y = rw (seen-refused 6)
+  by-cell false true false true r x y = rw (seen-next y)
+  by-cell false true false false r x y = rw (seen-refused 9)
+  by-cell false false f h r x y = rw (seen-refused 5)
 
-  -- and the answer by that number: it is the answer itself, or, where it is 0, the answer is the next place or 9
+  -- and the answer by that number: it is the answer itself, or, where it is 0, the answer is the next place, 9 or 25
   abbrev pub Answers : Ou → ℕ → Type 0
-  Answers o zero = ((q : Pl) × (o ≡ Next q)) ⊎ (o ≡ Refused 9)
+  Answers o zero = ((q : Pl) × (o ≡ Next q)) ⊎ ((o ≡ Refused 9) ⊎ (o ≡ Refused 25))
   Answers o (suc c) = o ≡ Refused (suc c)
 
-  pub by-number : (a b f h : Bool) (x y : Pl)
-      → Answers (pick a (pick h (Next x) (Refused 9)) (pick b (pick f (Refused 6) (pick h (Next y) (Refused 9))) (Refused 5))) (pick a 0 (pick b (pick f 6 0) 5))
-  by-number true b f true x y = inl (x, refl)
-  by-number true b f false x y = inr refl
-  by-number false true true h x y = refl
-  by-number false true false true x y = inl (y, refl)
-  by-number false true false false x y = inr refl
-  by-number false false f h x y = refl
+  pub by-number : (a b f h r : Bool) (x y : Pl)
+      → Answers (pick a (pick h (pick r (Next x) (Refused 25)) (Refused 9)) (pick b (pick f (Refused 6) (pick h (Next y) (Refused 9))) (Refused 5))) (pick a 0 (pick b (pick f 6 0) 5))
+  by-number true b f true true x y = inl (x, refl)
+  by-number true b f true false x y = inr (inr refl)
+  by-number true b f false r x y = inr (inl refl)
+  by-number false true true h r x y = refl
+  by-number false true false true r x y = inl (y, refl)
+  by-number false true false false r x y = inr (inl refl)
+  by-number false false f h r x y = refl
 
   -- ## Any other statement
   on-none : (b : Base) (g : List Bool) (s : S L) → T (lacks L (s .kind) (opts b)) → (s .kind ≡ due b .on → ⊥) → step M (inside b g) s ≡ refuse 5

@@ -3,13 +3,14 @@ use mathlib.Core.Path.{_≡_, subst}
 use mathlib.Core.List.{List, [], _∷_}
 use mathlib.Core.Option.{Option, none, some}
 use mathlib.Core.Bool.{Bool, true, false}
+use Prim.Native.Nat.{ℕ}
 use lib.Dec.{T}
 use Rattle.grammar.specs.Language.{Lang, S, asKind}
 use Rattle.grammar.specs.Machine.{Out, next, refuse, Verdict, other, bad, good, optAt, Machine, over, inside, guard, andThen, Place, enter, hit, settle, step, run}
 
 module _ {L : Lang} (A : Machine L) where
   open Lang L using (Kind, Pay)
-  open Machine A using (Base, opts, due)
+  open Machine A using (Base, opts, due, ready)
 
   -- ## What good bases keep
   module _ (Good : Base → Type 0) where
@@ -30,21 +31,21 @@ module _ {L : Lang} (A : Machine L) where
       enter-good none y = y
       enter-good (some b) y = y
 
-      guard-good : (t : Bool) (p : Place A) → (T t → GoodPlace p) → GoodOut (guard t 9 (next p))
+      guard-good : (t : Bool) (c : ℕ) (o : Out (Place A)) → (T t → GoodOut o) → GoodOut (guard t c o)
       unfolding guard
-      guard-good true p y = y tt
-      guard-good false p y = tt
+      guard-good true c o y = y tt
+      guard-good false c o y = tt
 
       step-good : (p : Place A) (s : S L) → GoodPlace p → GoodOut (step A p s)
       unfolding step
       step-good over s y = tt
       step-good (inside b g) s y = go (optAt L (opts b) g s)
         where
-          hit-good : (o : Option (Pay (due b .on))) → GoodOut (hit A b o)
+          hit-good : (o : Option (Pay (due b .on))) → GoodOut (hit A b g o)
           hit-good none = tt
-          hit-good (some v) = guard-good (due b .test v) (enter A (due b .then v)) λ t. enter-good (due b .then v) (keeps b y v t)
+          hit-good (some v) = guard-good (due b .test v) 9 (guard (ready b g) 25 (next (enter A (due b .then v)))) λ t. guard-good (ready b g) 25 (next (enter A (due b .then v))) λ r. enter-good (due b .then v) (keeps b y v t)
 
-          go : (x : Verdict) → GoodOut (settle A b x s)
+          go : (x : Verdict) → GoodOut (settle A b g x s)
           go other = hit-good (asKind L (due b .on) s)
           go (bad c) = tt
           go (good g′) = y

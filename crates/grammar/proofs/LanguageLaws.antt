@@ -34,6 +34,11 @@ module _ (L : Lang) where
   memb k [] = false
   memb k (j ∷ js) = elim (disc j k) [ yes e ↦ true | no n ↦ memb k js ]
 
+  -- the kinds of statements behind others, the last first
+  abbrev pub kinds-on : List (S L) → List Kind → List Kind
+  kinds-on [] ks = ks
+  kinds-on (s ∷ l) ks = kinds-on l (s .kind ∷ ks)
+
   -- a statement is an option of the row with a permitted value; if it may come once, none of its kind was before
   abbrev pub Allowed : List (Opt Kind Pay) → List Kind → S L → Type 0
   Allowed [] before s = ⊥

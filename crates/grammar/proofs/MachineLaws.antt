@@ -12,7 +12,7 @@ use lib.Ieee.Bits.{is-true}
 use Rattle.grammar.specs.Language.{Lang, S, say, as-dec, asKind}
 use Rattle.grammar.specs.Machine.{Out, next, refuse, Opt, Verdict, other, bad, good, judge, onto, lacks, distinct, take, optAt, clear, Machine, over, inside, guard, andThen, Place, at, enter, hit, settle, step, run, Accepts}
 use Rattle.grammar.proofs.Keeping.{GoodNext, GoodOut, run-good}
-use Rattle.grammar.proofs.LanguageLaws.{as-same, as-inv, memb, Allowed, Fine}
+use Rattle.grammar.proofs.LanguageLaws.{as-same, as-inv, memb, kinds-on, Allowed, Fine}
 
 module _ (L : Lang) where
   open Lang L using (Kind, Pay, disc)
@@ -127,10 +127,10 @@ module _ {P : Type 0} where
   guard-true true c o t = refl
   guard-true false c o t = absurd t
 
-  pub passed : (b : Bool) (c : ℕ) (p q : P) (f : P → Out P) → andThen (guard b c (next p)) f ≡ next q → T b × (f p ≡ next q)
+  pub passed : (b : Bool) (c : ℕ) (o : Out P) (q : P) (f : P → Out P) → andThen (guard b c o) f ≡ next q → T b × (andThen o f ≡ next q)
   unfolding guard
-  passed true c p q f e = (tt, e)
-  passed false c p q f e = refused e
+  passed true c o q f e = (tt, e)
+  passed false c o q f e = refused e
 
 -- a base that costs less than c; or the end
 abbrev pub Cheaper : {Base : Type 0} → (Base → ℕ) → ℕ → Option Base → Type 0
@@ -139,7 +139,7 @@ Cheaper cost c (some b) = cost b < c
 
 module _ {L : Lang} (M : Machine L) where
   open Lang L using (Kind, Pay, disc)
-  open Machine M using (Base, opts, due, apart)
+  open Machine M using (Base, opts, due, ready, apart)
 
   pub run-nil : (p : Place M) → run M p [] ≡ next p
   unfolding run
@@ -170,38 +170,46 @@ module _ {L : Lang} (M : Machine L) where
       go (yes e) t ih = absurd t
       go (no n) t ih = rw (ih t)
 
-  pub goes-due : (b : Base) (v : Pay (due b .on)) → T (due b .test v) → (r : List (S L)) (g : List Bool) → run M (inside b g) (say L (due b .on) v ∷ r) ≡ run M (enter M (due b .then v)) r
+  pub goes-due : (b : Base) (v : Pay (due b .on)) → T (due b .test v) → (r : List (S L)) (g : List Bool) → T (ready b g) → run M (inside b g) (say L (due b .on) v ∷ r) ≡ run M (enter M (due b .then v)) r
   unfolding step run
-  goes-due b v t r g = rw (no-option (opts b) g (due b .on) v (due-apart b), as-same L (due b .on) v, guard-true (due b .test v) 9 (next (enter M (due b .then v))) t) refl
+  goes-due b v t r g e =
+      let q = next (enter M (due b .then v)) in
+      rw (no-option (opts b) g (due b .on) v (due-apart b), as-same L (due b .on) v, guard-true (due b .test v) 9 (guard (ready b g) 25 q) t, guard-true (ready b g) 25 q e) refl
 
-  -- a base is left by options that are fine together, and its due statement
-  pub goes : (b : Base) (v : Pay (due b .on)) → T (due b .test v) → (os r : List (S L)) (before : List Kind) (g : List Bool) → Agrees L (opts b) before g → Fine L (opts b) before os
+  -- the flags behind options are enough for the due statement
+  abbrev pub Enough : (b : Base) (before : List Kind) (os : List (S L)) → Type 0
+  Enough b before os = (g : List Bool) → Agrees L (opts b) (kinds-on L os before) g → T (ready b g)
+
+  -- a base is left by options that are fine together and enough, and its due statement
+  pub goes : (b : Base) (v : Pay (due b .on)) → T (due b .test v) → (os r : List (S L)) (before : List Kind) (g : List Bool) → Agrees L (opts b) before g → Fine L (opts b) before os → Enough b before os
       → run M (inside b g) (os ++ (say L (due b .on) v ∷ r)) ≡ run M (enter M (due b .then v)) r
   unfolding step run
-  goes b v t [] r before g y f = goes-due b v t r g
-  goes b v t (s ∷ os) r before g y f =
+  goes b v t [] r before g y f e = goes-due b v t r g (e g y)
+  goes b v t (s ∷ os) r before g y f e =
       let x = takes L (opts b) before g s (differ b) y (f .0) in
-      rw (x .1) (goes b v t os r (s .kind ∷ before) (x .0) (x .2) (f .1))
+      rw (x .1) (goes b v t os r (s .kind ∷ before) (x .0) (x .2) (f .1) e)
 
   -- and by nothing else: its parts are handed on (a chain of `let`s would write each part out in every goal)
   pub from : (b : Base) (before : List Kind) (g : List Bool) → Agrees L (opts b) before g → (l : List (S L)) → Accepts M (inside b g) l → {R : Type 0}
-      → ((os : List (S L)) (v : Pay (due b .on)) (r : List (S L)) → Fine L (opts b) before os → T (due b .test v) → l ≡ os ++ (say L (due b .on) v ∷ r) → Accepts M (enter M (due b .then v)) r → R) → R
+      → ((os : List (S L)) (v : Pay (due b .on)) (r : List (S L)) → Fine L (opts b) before os → (g : List Bool) → Agrees L (opts b) (kinds-on L os before) g → T (ready b g) → T (due b .test v) → l ≡ os ++ (say L (due b .on) v ∷ r) → Accepts M (enter M (due b .then v)) r → R) → R
   unfolding step run
   from b before g y [] h k = absurd (let z : _≡_ {A = Bool} true false = cc in subst T z tt)
   from b before g y (s ∷ l) h {R} k = go (optAt L (opts b) g s) refl h (λ g′ y′ h′. from b (s .kind ∷ before) g′ y′ l h′)
     where
-      due-case : (o : Option (Pay (due b .on))) → asKind L (due b .on) s ≡ o → andThen (hit M b o) (λ q. run M q l) ≡ next over → R
+      due-case : (o : Option (Pay (due b .on))) → asKind L (due b .on) s ≡ o → andThen (hit M b g o) (λ q. run M q l) ≡ next over → R
       due-case (some v) q h′ =
-          let p = passed (due b .test v) 9 (enter M (due b .then v)) over (λ q. run M q l) h′ in
-          k [] v l tt (p .0) (ap (λ (x : S L). x ∷ l) (as-inv L (due b .on) s v q)) (p .1)
+          let q′ = next (enter M (due b .then v)) in
+          let p = passed (due b .test v) 9 (guard (ready b g) 25 q′) over (λ q. run M q l) h′ in
+          let e = passed (ready b g) 25 q′ over (λ q. run M q l) (p .1) in
+          k [] v l tt g y (e .0) (p .0) (ap (λ (x : S L). x ∷ l) (as-inv L (due b .on) s v q)) (e .1)
       due-case none q h′ = refused h′
 
-      go : (x : Verdict) → optAt L (opts b) g s ≡ x → andThen (settle M b x s) (λ q. run M q l) ≡ next over
-          → ((g′ : List Bool) → Agrees L (opts b) (s .kind ∷ before) g′ → Accepts M (inside b g′) l → ((os : List (S L)) (v : Pay (due b .on)) (r : List (S L)) → Fine L (opts b) (s .kind ∷ before) os → T (due b .test v) → l ≡ os ++ (say L (due b .on) v ∷ r) → Accepts M (enter M (due b .then v)) r → R) → R) → R
+      go : (x : Verdict) → optAt L (opts b) g s ≡ x → andThen (settle M b g x s) (λ q. run M q l) ≡ next over
+          → ((g′ : List Bool) → Agrees L (opts b) (s .kind ∷ before) g′ → Accepts M (inside b g′) l → ((os : List (S L)) (v : Pay (due b .on)) (r : List (S L)) → Fine L (opts b) (s .kind ∷ before) os → (g : List Bool) → Agrees L (opts b) (kinds-on L os (s .kind ∷ before)) g → T (ready b g) → T (due b .test v) → l ≡ os ++ (say L (due b .on) v ∷ r) → Accepts M (enter M (due b .then v)) r → R) → R) → R
       go other q h′ ih = due-case (asKind L (due b .on) s) refl h′
       go (bad c) q h′ ih = refused h′
       go (good g′) q h′ ih = let x = told L (opts b) before g g′ s (differ b) y q in
-          ih g′ (x .1) h′ λ os v r f t is rest. k (s ∷ os) v r (x .0, f) t (ap (_∷_ s) is) rest
+          ih g′ (x .1) h′ λ os v r f g″ y″ e t is rest. k (s ∷ os) v r (x .0, f) g″ y″ e t (ap (_∷_ s) is) rest
 
   -- nothing follows the end
   pub stays : (l : List (S L)) → Accepts M over l → l ≡ []
@@ -219,13 +227,23 @@ module _ {L : Lang} (M : Machine L) where
   unfolding Live
   live-over = tt
 
-  pub live-by : (b : Base) (v : Pay (due b .on)) → T (due b .test v) → Live (due b .then v) → Live (some b)
+  -- options by which a base is made ready for its due statement: none where it is
+  pub record Readied (b : Base) (g : List Bool) : Type 0 where
+    pub os : List (S L)
+    pub flags : List Bool
+    pub goes : run M (inside b g) os ≡ next (inside b flags)
+    pub now : T (ready b flags)
+
+  pub at-once : (b : Base) (g : List Bool) → ready b g ≡ true → Readied b g
+  at-once b g e = record { os = []; flags = g; goes = run-nil (inside b g); now = subst T (sym e) tt }
+
+  pub live-by : (b : Base) (v : Pay (due b .on)) → T (due b .test v) → ((g : List Bool) → Readied b g) → Live (due b .then v) → Live (some b)
   unfolding Live
-  live-by b v t x g = go (due b .then v) x (λ r. goes-due b v t r g)
+  live-by b v t w x g = go (due b .then v) x (λ r. rw (run-append (inside b g) (w g .os) (say L (due b .on) v ∷ r), w g .goes) (goes-due b v t r (w g .flags) (w g .now)))
     where
-      go : (n : Option Base) → Live n → ((r : List (S L)) → run M (inside b g) (say L (due b .on) v ∷ r) ≡ run M (enter M n) r) → (l : List (S L)) × Accepts M (inside b g) l
-      go none x e = (say L (due b .on) v ∷ [], e [] ∙ run-nil over)
-      go (some c) x e = let y = x (clear L (opts c)) in (say L (due b .on) v ∷ y .0, e (y .0) ∙ y .1)
+      go : (n : Option Base) → Live n → ((r : List (S L)) → run M (inside b g) (w g .os ++ (say L (due b .on) v ∷ r)) ≡ run M (enter M n) r) → (l : List (S L)) × Accepts M (inside b g) l
+      go none x e = (w g .os ++ (say L (due b .on) v ∷ []), e [] ∙ run-nil over)
+      go (some c) x e = let y = x (clear L (opts c)) in (w g .os ++ (say L (due b .on) v ∷ y .0), e (y .0) ∙ y .1)
 
   -- what is refused begins nothing
   pub ends : (p q : Place M) (l r : List (S L)) (s : (S L)) (c : ℕ) → run M p l ≡ next q → step M q s ≡ refuse c → Accepts M p (l ++ (s ∷ r)) → ⊥
@@ -253,17 +271,18 @@ module _ {L : Lang} (M : Machine L) where
 
   -- ## Every good base is live, where each has a sample that leads to a cheaper one
   module _ (Good : Base → Type 0) (cost : Base → ℕ) where
-    -- what a good base has: every permitted statement leads to a good one, and one of them to a cheaper one
+    -- what a good base has: it can be made ready, every permitted statement leads to a good one, and one of them to a cheaper one
     pub record Goes-on (b : Base) : Type 0 where
       pub keeps : (v : Pay (due b .on)) → T (due b .test v) → GoodNext M Good (due b .then v)
       pub v : Pay (due b .on)
       pub ok : T (due b .test v)
       pub less : Cheaper cost (cost b) (due b .then v)
+      pub readied : (g : List Bool) → Readied b g
 
     module _ (all : (b : Base) → Good b → Goes-on b) where
       live-within : (n : ℕ) (b : Base) → Good b → cost b < n → Live (some b)
       live-within zero b y h = absurd (omega arith)
-      live-within (suc n) b y h = let x = all b y in live-by b (x .v) (x .ok) (go (due b .then (x .v)) (x .keeps (x .v) (x .ok)) (x .less) (live-within n))
+      live-within (suc n) b y h = let x = all b y in live-by b (x .v) (x .ok) (x .readied) (go (due b .then (x .v)) (x .keeps (x .v) (x .ok)) (x .less) (live-within n))
         where
           go : (x : Option Base) → GoodNext M Good x → Cheaper cost (cost b) x → ((c : Base) → Good c → cost c < n → Live (some c)) → Live x
           go none w y ih = live-over

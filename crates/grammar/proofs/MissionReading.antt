@@ -14,7 +14,7 @@ use Rattle.grammar.specs.MissionStatements.{Limit, Statement, orders, sa
 use Rattle.grammar.specs.Mission.{Mission, SpellsMission}
 use Rattle.grammar.specs.MissionPlaces.{limited, fileRow, Base, name-due, RNDF-due, checkpoints-due, num-checkpoints-due, goal-due, speed-limits-due, num-speed-limits-due, limit-due, end-file-due, mdf}
 use Rattle.grammar.proofs.FormLaws.{pass}
-use Rattle.grammar.proofs.MachineLaws.{Goes-on}
+use Rattle.grammar.proofs.MachineLaws.{Goes-on, at-once}
 use Rattle.grammar.proofs.Options.{Holds}
 use Rattle.grammar.proofs.Reading.{Reads, Line, After, Seq, Many, reads-line, reads-after, reads-seq, reads-as, reads-many, lines-in-turn, in-turn-lines}
 
@@ -38,17 +38,17 @@ module _ (N : Type 0) where
 
   parts : Reads (mdf N) Parts (some name-due) (λ x. none)
   parts =
-      reads-seq (mdf N) (reads-line (mdf N) name-due (free N) refl (λ v. refl)) λ x.
-      reads-seq (mdf N) (reads-line (mdf N) RNDF-due (free N) refl (λ v. refl)) λ x.
-      reads-seq (mdf N) (reads-after (mdf N) checkpoints-due (fileRow N) nothing refl (λ v. refl)) λ x.
-      reads-seq (mdf N) (reads-line (mdf N) num-checkpoints-due counted refl (λ v. refl)) λ n.
+      reads-seq (mdf N) (reads-line (mdf N) name-due (free N) refl (λ v. refl) (λ g. refl)) λ x.
+      reads-seq (mdf N) (reads-line (mdf N) RNDF-due (free N) refl (λ v. refl) (λ g. refl)) λ x.
+      reads-seq (mdf N) (reads-after (mdf N) checkpoints-due (fileRow N) nothing refl (λ v. refl) (λ g. refl)) λ x.
+      reads-seq (mdf N) (reads-line (mdf N) num-checkpoints-due counted refl (λ v. refl) (λ g. refl)) λ n.
       reads-seq (mdf N) (reads-many (mdf N) (λ i. Line (mdf N) goal counted) (λ i. Line (mdf N) end-checkpoints nothing) (λ i n. some (goal-due n)) (some speed-limits-due)
-      (λ i n. reads-line (mdf N) (goal-due (suc n)) counted refl (λ v. refl)) (λ i. reads-line (mdf N) (goal-due zero) nothing refl (λ v. refl)) 0 n) λ x.
-      reads-seq (mdf N) (reads-line (mdf N) speed-limits-due nothing refl (λ v. refl)) λ x.
-      reads-seq (mdf N) (reads-line (mdf N) num-speed-limits-due counted refl (λ v. refl)) λ n.
+      (λ i n. reads-line (mdf N) (goal-due (suc n)) counted refl (λ v. refl) (λ g. refl)) (λ i. reads-line (mdf N) (goal-due zero) nothing refl (λ v. refl) (λ g. refl)) 0 n) λ x.
+      reads-seq (mdf N) (reads-line (mdf N) speed-limits-due nothing refl (λ v. refl) (λ g. refl)) λ x.
+      reads-seq (mdf N) (reads-line (mdf N) num-speed-limits-due counted refl (λ v. refl) (λ g. refl)) λ n.
       reads-seq (mdf N) (reads-many (mdf N) (λ i. Line (mdf N) limit limited) (λ i. Line (mdf N) end-speed-limits nothing) (λ i n. some (limit-due n)) (some end-file-due)
-      (λ i n. reads-line (mdf N) (limit-due (suc n)) limited refl (λ v. refl)) (λ i. reads-line (mdf N) (limit-due zero) nothing refl (λ v. refl)) 0 n) λ x.
-      reads-line (mdf N) end-file-due nothing refl (λ v. refl)
+      (λ i n. reads-line (mdf N) (limit-due (suc n)) limited refl (λ v. refl) (λ g. refl)) (λ i. reads-line (mdf N) (limit-due zero) nothing refl (λ v. refl) (λ g. refl)) 0 n) λ x.
+      reads-line (mdf N) end-file-due nothing refl (λ v. refl) (λ g. refl)
 
   missionOf : Files → (Mission N)
   missionOf x =
@@ -175,14 +175,14 @@ module _ (N : Type 0) where
   -- N has some name
   module _ (some-name : N) where
     unfoldable pub goes-on : (b : Base) → Good b → Goes-on (mdf N) Good cost b
-    goes-on name-due y = record { keeps = λ v t. tt; v = some-name; ok = tt; less = omega arith }
-    goes-on RNDF-due y = record { keeps = λ v t. tt; v = some-name; ok = tt; less = omega arith }
-    goes-on checkpoints-due y = record { keeps = λ v t. tt; v = tt; ok = tt; less = omega arith }
-    goes-on num-checkpoints-due y = record { keeps = λ v t. tt; v = 1; ok = one-is; less = omega arith }
-    goes-on (goal-due zero) y = record { keeps = λ v t. tt; v = tt; ok = tt; less = omega arith }
-    goes-on (goal-due (suc g)) y = record { keeps = λ v t. tt; v = 1; ok = one-is; less = omega arith }
-    goes-on speed-limits-due y = record { keeps = λ v t. tt; v = tt; ok = tt; less = omega arith }
-    goes-on num-speed-limits-due y = record { keeps = λ v t. tt; v = 1; ok = one-is; less = omega arith }
-    goes-on (limit-due zero) y = record { keeps = λ v t. tt; v = tt; ok = tt; less = omega arith }
-    goes-on (limit-due (suc l)) y = record { keeps = λ v t. tt; v = slow; ok = slow-is; less = omega arith }
-    goes-on end-file-due y = record { keeps = λ v t. tt; v = tt; ok = tt; less = tt }
+    goes-on name-due y = record { keeps = λ v t. tt; v = some-name; ok = tt; less = omega arith; readied = λ g. at-once (mdf N) name-due g refl }
+    goes-on RNDF-due y = record { keeps = λ v t. tt; v = some-name; ok = tt; less = omega arith; readied = λ g. at-once (mdf N) RNDF-due g refl }
+    goes-on checkpoints-due y = record { keeps = λ v t. tt; v = tt; ok = tt; less = omega arith; readied = λ g. at-once (mdf N) checkpoints-due g refl }
+    goes-on num-checkpoints-due y = record { keeps = λ v t. tt; v = 1; ok = one-is; less = omega arith; readied = λ g. at-once (mdf N) num-checkpoints-due g refl }
+    goes-on (goal-due zero) y = record { keeps = λ v t. tt; v = tt; ok = tt; less = omega arith; readied = λ g. at-once (mdf N) (goal-due zero) g refl }
+    goes-on (goal-due (suc g)) y = record { keeps = λ v t. tt; v = 1; ok = one-is; less = omega arith; readied = λ f. at-once (mdf N) (goal-due (suc g)) f refl }
+    goes-on speed-limits-due y = record { keeps = λ v t. tt; v = tt; ok = tt; less = omega arith; readied = λ g. at-once (mdf N) speed-limits-due g refl }
+    goes-on num-speed-limits-due y = record { keeps = λ v t. tt; v = 1; ok = one-is; less = omega arith; readied = λ g. at-once (mdf N) num-speed-limits-due g refl }
+    goes-on (limit-due zero) y = record { keeps = λ v t. tt; v = tt; ok = tt; less = omega arith; readied = λ g. at-once (mdf N) (limit-due zero) g refl }
+    goes-on (limit-due (suc l)) y = record { keeps = λ v t. tt; v = slow; ok = slow-is; less = omega arith; readied = λ g. at-once (mdf N) (limit-due (suc l)) g refl }
+    goes-on end-file-due y = record { keeps = λ v t. tt; v = tt; ok = tt; less = tt; readied = λ g. at-once (mdf N) end-file-due g refl }

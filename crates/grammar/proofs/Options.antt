@@ -3,7 +3,7 @@ use mathlib.Core.Path.{_≡_, refl, sym, ap, ap₂, subst, _∙_}
 use mathlib.Core.List.{List, [], _∷_, map}
 use mathlib.Core.Option.{Option, none, some, Option·some-injective}
 use mathlib.Core.Bool.{Bool, true, false, _&&_}
-use mathlib.Core.Logic.{inl, inr}
+use mathlib.Core.Logic.{_⊎_, inl, inr}
 use Prim.Native.Nat.{ℕ, suc, _+_, _≤_}
 use native.Mathlib.Omega.{arith}
 use lib.Dec.{T}
@@ -14,7 +14,7 @@ use Rattle.grammar.specs.Language.{Lang, S, as-dec, asKind, allOf}
 use Rattle.grammar.specs.Machine.{Opt, lacks, distinct}
 use Rattle.grammar.specs.Forms.{Form, tested}
 use Rattle.grammar.specs.Choices.{Choice, opts}
-use Rattle.grammar.proofs.LanguageLaws.{as-same, as-inv, memb, Allowed, Fine, all-some, all-none}
+use Rattle.grammar.proofs.LanguageLaws.{as-same, as-inv, memb, kinds-on, Allowed, Fine, all-some, all-none}
 use Rattle.grammar.proofs.MachineLaws.{none-of, elsewhere, passes-by, same-kind}
 use Rattle.grammar.proofs.FormLaws.{pass, pick}
 
@@ -186,6 +186,32 @@ module _ (L : Lang) where
   kept-fine : (row : List Ch) (before : List Kind) (os : List (S L)) → Every (λ o. Kept o before os) (opts L row) → Each (λ s. Among (s .kind) (kinds row)) os → Fine L (opts L row) before os
   kept-fine row before [] k a = tt
   kept-fine row before (s ∷ os) k a = (kept-allowed row before s os k (a .0), kept-fine row (s .kind ∷ before) os (each (fore-one before s os) (opts L row) k) (a .1))
+
+  -- ## A kind came if and only if something of it was said
+  memb-on : (k : Kind) (os : List (S L)) (before : List Kind) → memb L k before ≡ true → memb L k (kinds-on L os before) ≡ true
+  memb-on k [] before e = e
+  memb-on k (s ∷ os) before e = memb-on k os (s .kind ∷ before) (go (disc (s .kind) k))
+    where
+      go : (d : Dec (s .kind ≡ k)) → elim d as (λ x. Bool) [ yes e ↦ true | no n ↦ memb L k before ] ≡ true
+      go (yes q) = refl
+      go (no n) = e
+
+  pub all-memb : (k : Kind) (os : List (S L)) (before : List Kind) → 1 ≤ length (allOf L k os) → memb L k (kinds-on L os before) ≡ true
+  all-memb k [] before h = absurd (omega arith)
+  all-memb k (s ∷ os) before h = go (asKind L k s) refl (all-memb k os (s .kind ∷ before))
+    where
+      go : (x : Option (Pay k)) → asKind L k s ≡ x → (1 ≤ length (allOf L k os) → memb L k (kinds-on L os (s .kind ∷ before)) ≡ true) → memb L k (kinds-on L os (s .kind ∷ before)) ≡ true
+      go (some v) q ih = memb-on k os (s .kind ∷ before) (rw (ap (λ (s : S L). s .kind) (as-inv L k s v q)) (same-kind L k before))
+      go none q ih = ih (rw (all-none L k s os q) at h)
+
+  pub memb-all : (k : Kind) (os : List (S L)) (before : List Kind) → memb L k (kinds-on L os before) ≡ true → (memb L k before ≡ true) ⊎ (1 ≤ length (allOf L k os))
+  memb-all k [] before e = inl e
+  memb-all k (s ∷ os) before e = go (asKind L k s) refl (memb-all k os (s .kind ∷ before) e)
+    where
+      go : (x : Option (Pay k)) → asKind L k s ≡ x → (memb L k (s .kind ∷ before) ≡ true) ⊎ (1 ≤ length (allOf L k os)) → (memb L k before ≡ true) ⊎ (1 ≤ length (allOf L k (s ∷ os)))
+      go (some v) q h = inr (rw (all-some L k s os v q) (omega arith))
+      go none q (inl h) = inl (sym (passes-by L k s before q) ∙ h)
+      go none q (inr h) = inr (rw (all-none L k s os q) h)
 
   -- ## What is held
   module _ {P : Type 0} (F : Form P) where

@@ -9,12 +9,12 @@ use lib.Dec.{T}
 use lib.ListN.{length}
 use Rattle.terms.specs.Words.{Each, InTurn, nothing, then}
 use Rattle.grammar.specs.Language.{Lang, S, say}
-use Rattle.grammar.specs.Machine.{Machine, distinct, next, refuse, over, inside, guard, clear, Place, at, enter, step, run, Accepts}
+use Rattle.grammar.specs.Machine.{Machine, distinct, next, refuse, over, clear, Place, at, enter, step, run, Accepts}
 use Rattle.grammar.specs.Forms.{Form, tested}
 use Rattle.grammar.specs.Forms.{only as due-only}
 use Rattle.grammar.specs.Choices.{Choice, opts}
-use Rattle.grammar.proofs.LanguageLaws.{as-same, Fine}
-use Rattle.grammar.proofs.MachineLaws.{clear-agrees, guard-true, no-option, due-apart, goes-due, goes, from, cut, run-nil, stays, differ, ends, begins, Goes-on}
+use Rattle.grammar.proofs.LanguageLaws.{kinds-on, Fine}
+use Rattle.grammar.proofs.MachineLaws.{Agrees, clear-agrees, goes-due, Enough, goes, from, cut, run-nil, stays, differ, ends, begins, Goes-on}
 use Rattle.grammar.proofs.FormLaws.{pass, pick, inj}
 use Rattle.grammar.proofs.Options.{Holds, Given, given-fine, fine-given, given-same}
 
@@ -39,11 +39,11 @@ module _ {L : Lang} (M : Machine L) where
   abbrev pub Line : (k : Kind) (F : Form (Pay k)) → F .C → List (S L) → Type 0
   Line k F c w = F .Good c × (w ≡ say L k (F .line c) ∷ [])
 
-  pub reads-line : (b : Base) (F : Form (Pay (due b .on))) → M .opts b ≡ [] → ((v : Pay (due b .on)) → due b .test v ≡ tested F v)
+  pub reads-line : (b : Base) (F : Form (Pay (due b .on))) → M .opts b ≡ [] → ((v : Pay (due b .on)) → due b .test v ≡ tested F v) → ((g : List Bool) → M .ready b g ≡ true)
       → Reads (Line (due b .on) F) (some b) (λ c. due b .then (F .line c))
-  reads-line b F n t = record {
-    does = λ c w x r. rw (x .1) (goes-due M b (F .line c) (rw t (pass F c (x .0))) r (clear L (M .opts b)));
-    only = λ l h k. from M b [] (clear L (M .opts b)) (clear-agrees L (M .opts b)) l h λ os v r f ok is rest.
+  reads-line b F n t a = record {
+    does = λ c w x r. rw (x .1) (goes-due M b (F .line c) (rw t (pass F c (x .0))) r (clear L (M .opts b)) (subst T (sym (a (clear L (M .opts b)))) tt));
+    only = λ l h k. from M b [] (clear L (M .opts b)) (clear-agrees L (M .opts b)) l h λ os v r f g yes now ok is rest.
         let y = pick F v (rw t at ok) in
         let e : os ≡ [] = bare os (subst (λ row. Fine L row [] os) n f) in
         k (F .back v) (say L (due b .on) (F .line (F .back v)) ∷ []) r (y .1, refl) (rw (y .0) (rw e at is)) (rw (y .0) rest);
@@ -55,32 +55,25 @@ module _ {L : Lang} (M : Machine L) where
       bare [] f = refl
       bare (s ∷ os) f = absurd (f .0)
 
-  -- the step at a due line, for the code: taken where it is good, refused with 9 where it is not
-  pub taken : (b : Base) (g : List Bool) (F : Form (Pay (due b .on))) → ((v : Pay (due b .on)) → due b .test v ≡ tested F v) → (c : F .C) → F .Good c
-      → step M (inside b g) (say L (due b .on) (F .line c)) ≡ next (enter M (due b .then (F .line c)))
-  unfolding step
-  taken b g F t c x = rw (no-option M (M .opts b) g (due b .on) (F .line c) (due-apart M b), as-same L (due b .on) (F .line c)) (guard-true (due b .test (F .line c)) 9 (next (enter M (due b .then (F .line c)))) (rw t (pass F c x)))
-
-  pub not-good : (b : Base) (g : List Bool) (F : Form (Pay (due b .on))) → ((v : Pay (due b .on)) → due b .test v ≡ tested F v) → (v : Pay (due b .on)) → ((F .line (F .back v) ≡ v) × F .Good (F .back v) → ⊥)
-      → step M (inside b g) (say L (due b .on) v) ≡ refuse 9
-  unfolding step guard
-  not-good b g F t v n = rw (no-option M (M .opts b) g (due b .on) v (due-apart M b), as-same L (due b .on) v) (shut (due b .test v) (λ x. n (pick F v (rw t at x))))
-    where
-      shut : (d : Bool) → (T d → ⊥) → guard d 9 (next (enter M (due b .then v))) ≡ refuse 9
-      shut true n = absurd (n tt)
-      shut false n = refl
+  -- options, and the due line: `Ok` of what they hold and say
+  abbrev pub AfterBy : (row : List (Choice Kind Pay)) (k : Kind) (F : Form (Pay k)) → (Holds L row × F .C → Type 0) → Holds L row × F .C → List (S L) → Type 0
+  AfterBy row k F Ok x w = (os : List (S L)) × Given L row (x .0) os × Ok x × (w ≡ os ++ (say L k (F .line (x .1)) ∷ []))
 
   abbrev pub After : (row : List (Choice Kind Pay)) (k : Kind) (F : Form (Pay k)) → Holds L row × F .C → List (S L) → Type 0
-  After row k F x w = (os : List (S L)) × Given L row (x .0) os × F .Good (x .1) × (w ≡ os ++ (say L k (F .line (x .1)) ∷ []))
+  After row k F = AfterBy row k F (λ x. F .Good (x .1))
 
-  pub reads-after : (b : Base) (row : List (Choice Kind Pay)) (F : Form (Pay (due b .on))) → M .opts b ≡ opts L row → ((v : Pay (due b .on)) → due b .test v ≡ tested F v)
-      → Reads (After row (due b .on) F) (some b) (λ x. due b .then (F .line (x .1)))
-  reads-after b row F n t = record {
-    does = λ x w y r. rw (y .3, append-assoc) (goes M b (F .line (x .1)) (rw t (pass F (x .1) (y .2))) (y .0) r [] (clear L (M .opts b)) (clear-agrees L (M .opts b)) (fine (x .0) (y .0) (y .1)));
-    only = λ l h k. from M b [] (clear L (M .opts b)) (clear-agrees L (M .opts b)) l h λ os v r f ok is rest.
-        let y = pick F v (rw t at ok) in
-        let g = fine-given L row os (subst (λ row. T (distinct L row)) n (differ M b)) (subst (λ row. Fine L row [] os) n f) in
-        k (g .0, F .back v) (os ++ (say L (due b .on) (F .line (F .back v)) ∷ [])) r (os, g .1, y .1, refl) (rw (append-assoc, y .0) is) (rw (y .0) rest);
+  -- Ok: the line's value is good, and the options given are enough for it
+  pub reads-after-by : (b : Base) (row : List (Choice Kind Pay)) (F : Form (Pay (due b .on))) → M .opts b ≡ opts L row → ((v : Pay (due b .on)) → due b .test v ≡ tested F v)
+      → (Ok : Holds L row × F .C → Type 0) → ((x : Holds L row × F .C) → Ok x → F .Good (x .1))
+      → ((x : Holds L row × F .C) (os : List (S L)) → Given L row (x .0) os → Ok x → Enough M b [] os)
+      → ((x : Holds L row × F .C) (os : List (S L)) → Given L row (x .0) os → F .Good (x .1) → (g : List Bool) → Agrees L (M .opts b) (kinds-on L os []) g → T (M .ready b g) → Ok x)
+      → Reads (AfterBy row (due b .on) F Ok) (some b) (λ x. due b .then (F .line (x .1)))
+  reads-after-by b row F n t Ok good enough ok = record {
+    does = λ x w y r. rw (y .3, append-assoc) (goes M b (F .line (x .1)) (rw t (pass F (x .1) (good x (y .2)))) (y .0) r [] (clear L (M .opts b)) (clear-agrees L (M .opts b)) (fine (x .0) (y .0) (y .1)) (enough x (y .0) (y .1) (y .2)));
+    only = λ l h k. from M b [] (clear L (M .opts b)) (clear-agrees L (M .opts b)) l h λ os v r f g agrees now test is rest.
+        let y = pick F v (rw t at test) in
+        let h = fine-given L row os (subst (λ row. T (distinct L row)) n (differ M b)) (subst (λ row. Fine L row [] os) n f) in
+        k (h .0, F .back v) (os ++ (say L (due b .on) (F .line (F .back v)) ∷ [])) r (os, h .1, ok (h .0, F .back v) os (h .1) (y .1) g agrees now, refl) (rw (append-assoc, y .0) is) (rw (y .0) rest);
     same = λ x y v w r s p q e.
         let z = cut M b (F .line (x .1)) (F .line (y .1)) (p .0) (q .0) r s [] (fine (x .0) (p .0) (p .1)) (fine (y .0) (q .0) (q .1)) (sym (append-assoc (p .0) _ r) ∙ rw (p .3, q .3) at e ∙ append-assoc (q .0) _ s) in
         let h = given-same L row (x .0) (y .0) (q .0) (rw (z .0) at (p .1)) (q .1) in
@@ -90,6 +83,11 @@ module _ {L : Lang} (M : Machine L) where
     where
       fine : (h : Holds L row) (os : St) → Given L row h os → Fine L (M .opts b) [] os
       fine h os g = subst (λ row. Fine L row [] os) (sym n) (given-fine L row h os g)
+
+  -- where no option has to be given
+  pub reads-after : (b : Base) (row : List (Choice Kind Pay)) (F : Form (Pay (due b .on))) → M .opts b ≡ opts L row → ((v : Pay (due b .on)) → due b .test v ≡ tested F v) → ((g : List Bool) → M .ready b g ≡ true)
+      → Reads (After row (due b .on) F) (some b) (λ x. due b .then (F .line (x .1)))
+  reads-after b row F n t a = reads-after-by b row F n t (λ x. F .Good (x .1)) (λ x y. y) (λ x os h y g e. subst T (sym (a g)) tt) (λ x os h y g e now. y)
 
   -- ## One after the other
   abbrev pub Seq : {A B : Type 0} → (A → List (S L) → Type 0) → (A → B → List (S L) → Type 0) → A × B → List (S L) → Type 0

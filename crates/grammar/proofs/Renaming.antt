@@ -3,6 +3,7 @@ use mathlib.Core.Path.{_≡_, refl, sym, ap, ap₂, subst, subst-refl, _∙_, pa
 use mathlib.Core.List.{List, [], _∷_, map}
 use mathlib.Core.Option.{Option, none, some}
 use mathlib.Core.Bool.{Bool, true, false, _&&_}
+use Rattle.terms.specs.Words.{pick}
 use Prim.Native.Nat.{ℕ, zero, suc}
 use lib.Dec.{T}
 use Rattle.terms.specs.Words.{Among}
@@ -13,7 +14,7 @@ use Rattle.grammar.specs.Network.{GoodExit, GoodPerimeterExit}
 use Rattle.grammar.specs.Permitted.{counted, atMost, ownCheckpoint, ownStop, ownExit, exit?, perimeter-exit?}
 use Rattle.grammar.specs.Statements.{Kind, Kind-discrete, Says, Statement, RNDF-name, num-segments, num-zones, format-version, creation-date, segment, num-lanes, segment-name, end-segment, lane, num-waypoints, lane-width, left-boundary, right-boundary, checkpoint, stop, exit, end-lane, zone, num-spots, zone-name, end-zone, perimeter, num-perimeterpoints, end-perimeter, spot, spot-width, end-spot, end-file, point}
 use Rattle.grammar.specs.MissionStatements as M
-use Rattle.grammar.specs.Places.{rndf, Base, opts, due, apart, name-due, num-segments-due, num-zones-due, first-segment-due, part-due, num-lanes-due, first-lane-due, lane-due, num-waypoints-due, first-waypoint-due, waypoint-due, num-spots-due, perimeter-due, num-perimeterpoints-due, first-perimeterpoint-due, perimeterpoint-due, spot-due, first-of-spot-due, second-of-spot-due, end-spot-due}
+use Rattle.grammar.specs.Places.{rndf-by, rndf, marked, Base, opts, due, apart, name-due, num-segments-due, num-zones-due, first-segment-due, part-due, num-lanes-due, first-lane-due, lane-due, num-waypoints-due, first-waypoint-due, waypoint-due, num-spots-due, perimeter-due, num-perimeterpoints-due, first-perimeterpoint-due, perimeterpoint-due, spot-due, first-of-spot-due, second-of-spot-due, end-spot-due}
 use Rattle.grammar.specs.MissionPlaces as Ma
 use Rattle.grammar.specs.Stands.{asDue, ofRow, stands}
 use Rattle.grammar.specs.Stands as Stands
@@ -101,14 +102,14 @@ module _ {K : Type 0} (d : Discrete K) (P Q : K → Type 0) (m : (k : K) → P k
     enter-by LR os none = over
     enter-by LR os (some b) = inside b (clear LR (os b))
 
-    abbrev hit-by : (LR : Lang) → (B → List (Opt (LR .Kind) (LR .Pay))) → (u : Due (LR .Kind) (LR .Pay) B) → Option (LR .Pay (u .on)) → Out (Stand B)
-    hit-by LR os u (some v) = guard (u .test v) 9 (next (enter-by LR os (u .then v)))
-    hit-by LR os u none = refuse 5
+    abbrev hit-by : (LR : Lang) → (B → List (Opt (LR .Kind) (LR .Pay))) → (u : Due (LR .Kind) (LR .Pay) B) → Bool → Option (LR .Pay (u .on)) → Out (Stand B)
+    hit-by LR os u r (some v) = guard (u .test v) 9 (guard r 25 (next (enter-by LR os (u .then v))))
+    hit-by LR os u r none = refuse 5
 
-    abbrev settle-by : (LR : Lang) → (B → List (Opt (LR .Kind) (LR .Pay))) → Due (LR .Kind) (LR .Pay) B → B → Verdict → S LR → Out (Stand B)
-    settle-by LR os u b other s = hit-by LR os u (asKind LR (u .on) s)
-    settle-by LR os u b (bad c) s = refuse c
-    settle-by LR os u b (good g) s = next (inside b g)
+    abbrev settle-by : (LR : Lang) → (B → List (Opt (LR .Kind) (LR .Pay))) → Due (LR .Kind) (LR .Pay) B → B → Bool → Verdict → S LR → Out (Stand B)
+    settle-by LR os u b r other s = hit-by LR os u r (asKind LR (u .on) s)
+    settle-by LR os u b r (bad c) s = refuse c
+    settle-by LR os u b r (good g) s = next (inside b g)
 
     abbrev left-due : B → Due K P B
     left-due b = record { on = dues b .on; test = dues b .test; then = dues b .then }
@@ -120,36 +121,36 @@ module _ {K : Type 0} (d : Discrete K) (P Q : K → Type 0) (m : (k : K) → P k
     enter-moved none = refl
     enter-moved (some b) = ap (inside b) (clear-moved (rows b))
 
-    settled : (b : B) (v : Verdict) (s : S L) → settle-by L′ (λ b. map right (rows b)) (right-due b) b v (moved s) ≡ settle-by L (λ b. map left (rows b)) (left-due b) b v s
-    settled b (bad c) s = refl
-    settled b (good g) s = refl
-    settled b other s = ap (hit-by L′ (λ b. map right (rows b)) (right-due b)) (as-moved (dues b .on) s) ∙ go (asKind L (dues b .on) s)
+    settled : (b : B) (r : Bool) (v : Verdict) (s : S L) → settle-by L′ (λ b. map right (rows b)) (right-due b) b r v (moved s) ≡ settle-by L (λ b. map left (rows b)) (left-due b) b r v s
+    settled b r (bad c) s = refl
+    settled b r (good g) s = refl
+    settled b r other s = ap (hit-by L′ (λ b. map right (rows b)) (right-due b) r) (as-moved (dues b .on) s) ∙ go (asKind L (dues b .on) s)
       where
-        go : (x : Option (P (dues b .on))) → hit-by L′ (λ b. map right (rows b)) (right-due b) (given (dues b .on) x) ≡ hit-by L (λ b. map left (rows b)) (left-due b) x
+        go : (x : Option (P (dues b .on))) → hit-by L′ (λ b. map right (rows b)) (right-due b) r (given (dues b .on) x) ≡ hit-by L (λ b. map left (rows b)) (left-due b) r x
         go none = refl
-        go (some v) = ap₂ (λ (t : Bool) (p : Stand B). guard t 9 (next p)) (dues b .agree v) (ap (enter-by L′ (λ b. map right (rows b))) (dues b .after v) ∙ enter-moved (dues b .then v))
+        go (some v) = ap₂ (λ (t : Bool) (p : Stand B). guard t 9 (guard r 25 (next p))) (dues b .agree v) (ap (enter-by L′ (λ b. map right (rows b))) (dues b .after v) ∙ enter-moved (dues b .then v))
 
-    -- two machines with these rows and due statements
-    module _ (o : B → List (Opt K P)) (u : B → Due K P B) (a : (b : B) → T (lacks L (u b .on) (o b) && distinct L (o b))) (o′ : B → List (Opt K Q)) (u′ : B → Due K Q B) (a′ : (b : B) → T (lacks L′ (u′ b .on) (o′ b) && distinct L′ (o′ b)))
+    -- two machines with these rows and due statements, which are ready alike
+    module _ (e : B → List Bool → Bool) (o : B → List (Opt K P)) (u : B → Due K P B) (a : (b : B) → T (lacks L (u b .on) (o b) && distinct L (o b))) (o′ : B → List (Opt K Q)) (u′ : B → Due K Q B) (a′ : (b : B) → T (lacks L′ (u′ b .on) (o′ b) && distinct L′ (o′ b)))
         (is-o : (b : B) → o b ≡ map left (rows b)) (is-u : (b : B) → u b ≡ left-due b) (is-o′ : (b : B) → o′ b ≡ map right (rows b)) (is-u′ : (b : B) → u′ b ≡ right-due b) where
       abbrev A : Machine L
-      A = record { Base = B; opts = o; due = u; apart = a }
+      A = record { Base = B; opts = o; due = u; ready = e; apart = a }
 
       abbrev A′ : Machine L′
-      A′ = record { Base = B; opts = o′; due = u′; apart = a′ }
+      A′ = record { Base = B; opts = o′; due = u′; ready = e; apart = a′ }
 
       enter-is : (LR : Lang) (os : B → List (Opt (LR .Kind) (LR .Pay))) (qs : B → List (Opt (LR .Kind) (LR .Pay))) → ((b : B) → os b ≡ qs b) → (x : Option B) → enter-by LR os x ≡ enter-by LR qs x
       enter-is LR os qs e none = refl
       enter-is LR os qs e (some b) = ap (λ (r : List (Opt (LR .Kind) (LR .Pay))). inside b (clear LR r)) (e b)
 
-      settle-is : (LR : Lang) (os qs : B → List (Opt (LR .Kind) (LR .Pay))) → ((b : B) → os b ≡ qs b) → (w w′ : Due (LR .Kind) (LR .Pay) B) → w ≡ w′ → (b : B) (v : Verdict) (s : S LR) → settle-by LR os w b v s ≡ settle-by LR qs w′ b v s
-      settle-is LR os qs e w w′ f b (bad c) s = refl
-      settle-is LR os qs e w w′ f b (good g) s = refl
-      settle-is LR os qs e w w′ f b other s = go (asKind LR (w .on) s) ∙ ap (λ (w : Due (LR .Kind) (LR .Pay) B). hit-by LR qs w (asKind LR (w .on) s)) f
+      settle-is : (LR : Lang) (os qs : B → List (Opt (LR .Kind) (LR .Pay))) → ((b : B) → os b ≡ qs b) → (w w′ : Due (LR .Kind) (LR .Pay) B) → w ≡ w′ → (b : B) (r : Bool) (v : Verdict) (s : S LR) → settle-by LR os w b r v s ≡ settle-by LR qs w′ b r v s
+      settle-is LR os qs e w w′ f b r (bad c) s = refl
+      settle-is LR os qs e w w′ f b r (good g) s = refl
+      settle-is LR os qs e w w′ f b r other s = go (asKind LR (w .on) s) ∙ ap (λ (w : Due (LR .Kind) (LR .Pay) B). hit-by LR qs w r (asKind LR (w .on) s)) f
         where
-          go : (x : Option (LR .Pay (w .on))) → hit-by LR os w x ≡ hit-by LR qs w x
+          go : (x : Option (LR .Pay (w .on))) → hit-by LR os w r x ≡ hit-by LR qs w r x
           go none = refl
-          go (some v) = ap (λ (p : Stand B). guard (w .test v) 9 (next p)) (enter-is LR os qs e (w .then v))
+          go (some v) = ap (λ (p : Stand B). guard (w .test v) 9 (guard r 25 (next p))) (enter-is LR os qs e (w .then v))
 
       enter-own : (x : Option B) → enter A x ≡ enter-by L o x
       enter-own none = refl
@@ -159,34 +160,34 @@ module _ {K : Type 0} (d : Discrete K) (P Q : K → Type 0) (m : (k : K) → P k
       enter-own′ none = refl
       enter-own′ (some b) = refl
 
-      settle-own : (b : B) (v : Verdict) (s : S L) → settle A b v s ≡ settle-by L o (u b) b v s
-      settle-own b (bad c) s = refl
-      settle-own b (good g) s = refl
-      settle-own b other s = go (asKind L (u b .on) s)
+      settle-own : (b : B) (g : List Bool) (v : Verdict) (s : S L) → settle A b g v s ≡ settle-by L o (u b) b (e b g) v s
+      settle-own b g (bad c) s = refl
+      settle-own b g (good g′) s = refl
+      settle-own b g other s = go (asKind L (u b .on) s)
         where
-          go : (x : Option (P (u b .on))) → hit A b x ≡ hit-by L o (u b) x
+          go : (x : Option (P (u b .on))) → hit A b g x ≡ hit-by L o (u b) (e b g) x
           go none = refl
-          go (some v) = ap (λ (p : Stand B). guard (u b .test v) 9 (next p)) (enter-own (u b .then v))
+          go (some v) = ap (λ (p : Stand B). guard (u b .test v) 9 (guard (e b g) 25 (next p))) (enter-own (u b .then v))
 
-      settle-own′ : (b : B) (v : Verdict) (s : S L′) → settle A′ b v s ≡ settle-by L′ o′ (u′ b) b v s
-      settle-own′ b (bad c) s = refl
-      settle-own′ b (good g) s = refl
-      settle-own′ b other s = go (asKind L′ (u′ b .on) s)
+      settle-own′ : (b : B) (g : List Bool) (v : Verdict) (s : S L′) → settle A′ b g v s ≡ settle-by L′ o′ (u′ b) b (e b g) v s
+      settle-own′ b g (bad c) s = refl
+      settle-own′ b g (good g′) s = refl
+      settle-own′ b g other s = go (asKind L′ (u′ b .on) s)
         where
-          go : (x : Option (Q (u′ b .on))) → hit A′ b x ≡ hit-by L′ o′ (u′ b) x
+          go : (x : Option (Q (u′ b .on))) → hit A′ b g x ≡ hit-by L′ o′ (u′ b) (e b g) x
           go none = refl
-          go (some v) = ap (λ (p : Stand B). guard (u′ b .test v) 9 (next p)) (enter-own′ (u′ b .then v))
+          go (some v) = ap (λ (p : Stand B). guard (u′ b .test v) 9 (guard (e b g) 25 (next p))) (enter-own′ (u′ b .then v))
 
       pub step-moved : (p : Stand B) (s : S L) → step A′ p (moved s) ≡ step A p s
       unfolding step
       step-moved over s = refl
       step-moved (inside b g) s =
-          settle-own′ b (optAt L′ (o′ b) g (moved s)) (moved s)
-          ∙ settle-is L′ o′ (λ b. map right (rows b)) is-o′ (u′ b) (right-due b) (is-u′ b) b (optAt L′ (o′ b) g (moved s)) (moved s)
-          ∙ ap (λ (v : Verdict). settle-by L′ (λ b. map right (rows b)) (right-due b) b v (moved s)) (ap (λ (r : List (Opt K Q)). optAt L′ r g (moved s)) (is-o′ b) ∙ opt-moved (rows b) g s ∙ sym (ap (λ (r : List (Opt K P)). optAt L r g s) (is-o b)))
-          ∙ settled b (optAt L (o b) g s) s
-          ∙ sym (settle-is L o (λ b. map left (rows b)) is-o (u b) (left-due b) (is-u b) b (optAt L (o b) g s) s)
-          ∙ sym (settle-own b (optAt L (o b) g s) s)
+          settle-own′ b g (optAt L′ (o′ b) g (moved s)) (moved s)
+          ∙ settle-is L′ o′ (λ b. map right (rows b)) is-o′ (u′ b) (right-due b) (is-u′ b) b (e b g) (optAt L′ (o′ b) g (moved s)) (moved s)
+          ∙ ap (λ (v : Verdict). settle-by L′ (λ b. map right (rows b)) (right-due b) b (e b g) v (moved s)) (ap (λ (r : List (Opt K Q)). optAt L′ r g (moved s)) (is-o′ b) ∙ opt-moved (rows b) g s ∙ sym (ap (λ (r : List (Opt K P)). optAt L r g s) (is-o b)))
+          ∙ settled b (e b g) (optAt L (o b) g s) s
+          ∙ sym (settle-is L o (λ b. map left (rows b)) is-o (u b) (left-due b) (is-u b) b (e b g) (optAt L (o b) g s) s)
+          ∙ sym (settle-own b g (optAt L (o b) g s) s)
 
       -- what may stand by its kind alone
       given-moved : (r : List (Both P Q m)) (g : List Bool) (k : K) → Stands.given L′ (map right r) g k ≡ Stands.given L (map left r) g k
@@ -236,7 +237,7 @@ module _ {N N′ : Type 0} (f : N → N′) where
   rows (first-lane-due m o z l) = any segment-name ∷ []
   rows (lane-due m o z n l) = []
   rows (num-waypoints-due m o z n l) = []
-  rows (first-waypoint-due m o z n l w) = both lane-width true (tested atMost) (tested atMost) (λ v. refl) ∷ any left-boundary ∷ any right-boundary ∷ both checkpoint false (tested (ownCheckpoint m n w)) (tested (ownCheckpoint m n w)) (λ v. refl) ∷ both stop false (tested (ownStop m n w)) (tested (ownStop m n w)) (λ v. refl) ∷ both exit false (tested (ownExit m n (GoodExit w) (exit? w))) (tested (ownExit m n (GoodExit w) (exit? w))) (λ v. refl) ∷ []
+  rows (first-waypoint-due m o z n l w) = both lane-width true (tested atMost) (tested atMost) (λ v. refl) ∷ any left-boundary ∷ any right-boundary ∷ both checkpoint false (tested (ownCheckpoint m n 1 w)) (tested (ownCheckpoint m n 1 w)) (λ v. refl) ∷ both stop false (tested (ownStop m n w)) (tested (ownStop m n w)) (λ v. refl) ∷ both exit false (tested (ownExit m n (GoodExit w) (exit? w))) (tested (ownExit m n (GoodExit w) (exit? w))) (λ v. refl) ∷ []
   rows (waypoint-due m o z n l k w) = []
   rows (num-spots-due m z) = []
   rows (perimeter-due m z s) = any zone-name ∷ []
@@ -244,7 +245,7 @@ module _ {N N′ : Type 0} (f : N → N′) where
   rows (first-perimeterpoint-due m z s p) = both exit false (tested (ownExit m 0 (GoodPerimeterExit p) (perimeter-exit? p))) (tested (ownExit m 0 (GoodPerimeterExit p) (perimeter-exit? p))) (λ v. refl) ∷ []
   rows (perimeterpoint-due m z s k p) = []
   rows (spot-due m z n s) = []
-  rows (first-of-spot-due m z n s) = both spot-width true (tested counted) (tested counted) (λ v. refl) ∷ both checkpoint true (tested (ownCheckpoint m n 2)) (tested (ownCheckpoint m n 2)) (λ v. refl) ∷ []
+  rows (first-of-spot-due m z n s) = both spot-width true (tested counted) (tested counted) (λ v. refl) ∷ both checkpoint true (tested (ownCheckpoint m n 2 2)) (tested (ownCheckpoint m n 2 2)) (λ v. refl) ∷ []
   rows (second-of-spot-due m z n s) = []
   rows (end-spot-due m z n s) = []
 
@@ -381,11 +382,14 @@ module _ {N N′ : Type 0} (f : N → N′) where
   is-u′ (end-spot-due m z n s) = refl
 
   -- the step of an RNDF is the same whatever names are
+  pub rndf-renamed-by : (strict : Bool) (p : Stand Base) (s : Statement N) → step (rndf-by N′ strict) p (statement-named f s) ≡ step (rndf-by N strict) p s
+  rndf-renamed-by strict = step-moved Kind-discrete (Says N) (Says N′) (says-named f) rows dues (λ b g. pick strict (marked b g) true) (opts N) (due N) (apart N) (opts N′) (due N′) (apart N′) is-o is-u is-o′ is-u′
+
   pub rndf-renamed : (p : Stand Base) (s : Statement N) → step (rndf N′) p (statement-named f s) ≡ step (rndf N) p s
-  rndf-renamed = step-moved Kind-discrete (Says N) (Says N′) (says-named f) rows dues (opts N) (due N) (apart N) (opts N′) (due N′) (apart N′) is-o is-u is-o′ is-u′
+  rndf-renamed = rndf-renamed-by true
 
   pub rndf-stands : (p : Stand Base) (k : Kind) → stands (rndf N′) p k ≡ stands (rndf N) p k
-  rndf-stands = stands-moved Kind-discrete (Says N) (Says N′) (says-named f) rows dues (opts N) (due N) (apart N) (opts N′) (due N′) (apart N′) is-o is-u is-o′ is-u′
+  rndf-stands = stands-moved Kind-discrete (Says N) (Says N′) (says-named f) rows dues (λ b g. pick true (marked b g) true) (opts N) (due N) (apart N) (opts N′) (due N′) (apart N′) is-o is-u is-o′ is-u′
 
   abbrev R-m : Type 0
   R-m = Both (M.Says N) (M.Says N′) (orders-named f)
@@ -475,7 +479,7 @@ module _ {N N′ : Type 0} (f : N → N′) where
 
   -- the step of an MDF is the same whatever names are
   pub mdf-renamed : (p : Stand Ma.Base) (s : M.Statement N) → step (Ma.mdf N′) p (order-named f s) ≡ step (Ma.mdf N) p s
-  mdf-renamed = step-moved M.Kind-discrete (M.Says N) (M.Says N′) (orders-named f) rows-m dues-m (Ma.opts N) (Ma.due N) (Ma.apart N) (Ma.opts N′) (Ma.due N′) (Ma.apart N′) is-o-m is-u-m is-o-m′ is-u-m′
+  mdf-renamed = step-moved M.Kind-discrete (M.Says N) (M.Says N′) (orders-named f) rows-m dues-m (λ b g. true) (Ma.opts N) (Ma.due N) (Ma.apart N) (Ma.opts N′) (Ma.due N′) (Ma.apart N′) is-o-m is-u-m is-o-m′ is-u-m′
 
   pub mdf-stands : (p : Stand Ma.Base) (k : M.Kind) → stands (Ma.mdf N′) p k ≡ stands (Ma.mdf N) p k
-  mdf-stands = stands-moved M.Kind-discrete (M.Says N) (M.Says N′) (orders-named f) rows-m dues-m (Ma.opts N) (Ma.due N) (Ma.apart N) (Ma.opts N′) (Ma.due N′) (Ma.apart N′) is-o-m is-u-m is-o-m′ is-u-m′
+  mdf-stands = stands-moved M.Kind-discrete (M.Says N) (M.Says N′) (orders-named f) rows-m dues-m (λ b g. true) (Ma.opts N) (Ma.due N) (Ma.apart N) (Ma.opts N′) (Ma.due N′) (Ma.apart N′) is-o-m is-u-m is-o-m′ is-u-m′

@@ -54,11 +54,11 @@ module _ {N : Type 0} where
 
   pub names-own-points : (n : Network N) → GoodNetwork n → NamesOwn n
   names-own-points n g = record {
-    lane-checkpoints = each-map GoodLane (Names lane-size (λ c. c .waypoint) (λ a. a .checkpoints)) (λ a g. each-map (GoodCheckpoint (lane-size a)) (λ c. Between 1 (lane-size a) (c .waypoint)) (λ c k. k .waypoint) (a .checkpoints) (g .checkpoints)) (all-lanes n) (good-lanes n g);
+    lane-checkpoints = each-map GoodLane (Names lane-size (λ c. c .waypoint) (λ a. a .checkpoints)) (λ a g. each-map (GoodCheckpoint 1 (lane-size a)) (λ c. Between 1 (lane-size a) (c .waypoint)) (λ c k. k .waypoint) (a .checkpoints) (g .checkpoints)) (all-lanes n) (good-lanes n g);
     lane-stops = each-map GoodLane (Names lane-size (λ i. i) (λ a. a .stops)) (λ a g. g .stops) (all-lanes n) (good-lanes n g);
     lane-exits = each-map GoodLane (Names lane-size (λ e. e .waypoint) (λ a. a .exits)) (λ a g. each-map (GoodExit (lane-size a)) (λ c. Between 1 (lane-size a) (c .waypoint)) (λ c k. k .waypoint) (a .exits) (g .exits)) (all-lanes n) (good-lanes n g);
     border-exits = each-map GoodZone (Names zone-size (λ e. e .waypoint) (λ z. z .border .exits)) border-exits (n .zones) (g .zones);
-    spot-checkpoints = each-map GoodZone (λ z. Each OnSpot (z .spots)) (λ z g. each-map GoodSpot OnSpot (λ s k. each-map (GoodCheckpoint 2) (λ c. Between 1 2 (c .waypoint)) (λ c k. k .waypoint) (perhaps (s .checkpoint)) (k .checkpoint)) (z .spots) (g .spots)) (n .zones) (g .zones);
+    spot-checkpoints = each-map GoodZone (λ z. Each OnSpot (z .spots)) (λ z g. each-map GoodSpot OnSpot (λ s k. each-map (GoodCheckpoint 2 2) (λ c. Between 1 2 (c .waypoint)) (λ c k. let b = k .waypoint in omega (arith, b)) (perhaps (s .checkpoint)) (k .checkpoint)) (z .spots) (g .spots)) (n .zones) (g .zones);
   }
     where
       border-exits : (z : Zone N) → GoodZone z → Names zone-size (λ e. e .waypoint) (λ z. z .border .exits) z

@@ -100,7 +100,7 @@ module _ {L : Lang} (M : Machine L) where
     unfolding step
     refused-5 b g s e = go (disc (s .kind) (due b .on))
       where
-        go : Dec (s .kind ≡ due b .on) → settle M b (optAt L (opts b) g s) s ≡ refuse 5
+        go : Dec (s .kind ≡ due b .on) → settle M b g (optAt L (opts b) g s) s ≡ refuse 5
         go (yes q) = absurd (let v = subst Pay q (s .val) in let h = due-cell b v in let e′ : cell table (row b) (code (due b .on)) ≡ 255 = rw q at e in omega arith)
         go (no n) = rw (no-option M (opts b) g (s .kind) (s .val) (lacking (opts b) 1 (s .kind) (let h = ltb→lt (length (opts b)) 99 (Tb .few b) in omega arith) (sym (cell-beside b (s .kind) n) ∙ e)), none-of L (due b .on) s n)
 

@@ -1,11 +1,12 @@
 -- THE THEOREMS of the grammar, for the RNDF and for the MDF, from one development (Reading). N: what a name is. Assumes nothing.
 use mathlib.Core.Path.{_≡_}
 use mathlib.Core.List.{List, _∷_, _++_}
+use mathlib.Core.Bool.{Bool, true}
 use Prim.Native.Nat.{ℕ}
 use Rattle.grammar.specs.Statements.{Statement}
-use Rattle.grammar.specs.Network.{Network, SpellsNetwork}
+use Rattle.grammar.specs.Network.{Network, SpellsNetworkBy, SpellsNetwork}
 use Rattle.grammar.specs.Machine.{Accepts, at, run, step, next, refuse, Place}
-use Rattle.grammar.specs.Places.{rndf, name-due}
+use Rattle.grammar.specs.Places.{rndf-by, rndf, name-due}
 use Rattle.grammar.specs.Mission.{Mission, GoodMission, SpellsMission}
 use Rattle.grammar.specs.HouseOrder.{GoodNetwork, house-network, house-mission}
 use Rattle.grammar.specs.MissionStatements as M
@@ -17,28 +18,47 @@ use Rattle.grammar.proofs.MissionReading as Mission
 use Rattle.grammar.proofs.NetworkReading as Network
 
 module _ {N : Type 0} where
-  -- ## RNDF
-  -- complete: what spells a network is accepted
+  -- ## RNDF, with L8's rule and without
+  module _ (strict : Bool) where
+    -- complete: what spells a network is accepted
+    pub network-complete-by : (n : Network N) (l : List (Statement N)) → SpellsNetworkBy strict n l → Accepts (rndf-by N strict) (at (rndf-by N strict) name-due) l
+    network-complete-by = R.complete (rndf-by N strict) (SpellsNetworkBy strict) name-due (Network.reads strict N)
+
+    -- sound: what is accepted spells a network
+    pub network-sound-by : (l : List (Statement N)) → Accepts (rndf-by N strict) (at (rndf-by N strict) name-due) l → (n : Network N) × SpellsNetworkBy strict n l
+    network-sound-by = R.sound (rndf-by N strict) (SpellsNetworkBy strict) name-due (Network.reads strict N)
+
+    -- unique: equal statements come from one network
+    pub network-unique-by : (n n′ : Network N) (l l′ : List (Statement N)) → SpellsNetworkBy strict n l → SpellsNetworkBy strict n′ l′ → l ≡ l′ → n ≡ n′
+    network-unique-by = R.unique (rndf-by N strict) (SpellsNetworkBy strict) name-due (Network.reads strict N)
+
+    -- viable prefix: what is not refused begins some spelling
+    pub network-viable-by : (some-name : N) (l : List (Statement N)) (p : Place (rndf-by N strict)) → run (rndf-by N strict) (at (rndf-by N strict) name-due) l ≡ next p
+        → (r : List (Statement N)) × (n : Network N) × SpellsNetworkBy strict n (l ++ r)
+    network-viable-by a = R.viable (rndf-by N strict) (SpellsNetworkBy strict) name-due (Network.reads strict N) (Network.Good N) (Network.cost N) (Network.goes-on strict N a) tt
+
+    -- refusal: no spelling begins with what came before and the refused statement
+    pub network-refusal-by : (l r : List (Statement N)) (p : Place (rndf-by N strict)) (s : Statement N) (c : ℕ) (n : Network N) → run (rndf-by N strict) (at (rndf-by N strict) name-due) l ≡ next p → step (rndf-by N strict) p s ≡ refuse c
+        → SpellsNetworkBy strict n (l ++ (s ∷ r)) → ⊥
+    network-refusal-by = R.refusal (rndf-by N strict) (SpellsNetworkBy strict) name-due (Network.reads strict N)
+
+  -- with it
   pub network-complete : (n : Network N) (l : List (Statement N)) → SpellsNetwork n l → Accepts (rndf N) (at (rndf N) name-due) l
-  network-complete = R.complete (rndf N) SpellsNetwork name-due (Network.reads N)
+  network-complete = network-complete-by true
 
-  -- sound: what is accepted spells a network
   pub network-sound : (l : List (Statement N)) → Accepts (rndf N) (at (rndf N) name-due) l → (n : Network N) × SpellsNetwork n l
-  network-sound = R.sound (rndf N) SpellsNetwork name-due (Network.reads N)
+  network-sound = network-sound-by true
 
-  -- unique: equal statements come from one network
   pub network-unique : (n n′ : Network N) (l l′ : List (Statement N)) → SpellsNetwork n l → SpellsNetwork n′ l′ → l ≡ l′ → n ≡ n′
-  network-unique = R.unique (rndf N) SpellsNetwork name-due (Network.reads N)
+  network-unique = network-unique-by true
 
-  -- viable prefix: what is not refused begins some spelling
   pub network-viable : (some-name : N) (l : List (Statement N)) (p : Place (rndf N)) → run (rndf N) (at (rndf N) name-due) l ≡ next p
       → (r : List (Statement N)) × (n : Network N) × SpellsNetwork n (l ++ r)
-  network-viable a = R.viable (rndf N) SpellsNetwork name-due (Network.reads N) (Network.Good N) (Network.cost N) (Network.goes-on N a) tt
+  network-viable = network-viable-by true
 
-  -- refusal: no spelling begins with what came before and the refused statement
   pub network-refusal : (l r : List (Statement N)) (p : Place (rndf N)) (s : Statement N) (c : ℕ) (n : Network N) → run (rndf N) (at (rndf N) name-due) l ≡ next p → step (rndf N) p s ≡ refuse c
       → SpellsNetwork n (l ++ (s ∷ r)) → ⊥
-  network-refusal = R.refusal (rndf N) SpellsNetwork name-due (Network.reads N)
+  network-refusal = network-refusal-by true
 
   -- ## MDF
   -- complete: what spells a mission is accepted

@@ -32,10 +32,10 @@ abbrev spot1 : Spot
 spot1 = record { width = some 9; checkpoint = some (record { waypoint = 2; number = 8 }); first = at 8; second = at 9 }
 
 abbrev spot2 : Spot
-spot2 = record { width = none; checkpoint = none; first = at 10; second = at 11 }
+spot2 = record { width = none; checkpoint = some (record { waypoint = 2; number = 6 }); first = at 10; second = at 11 }
 
 abbrev spot3 : Spot
-spot3 = record { width = none; checkpoint = some (record { waypoint = 1; number = 3 }); first = at 16; second = at 17 }
+spot3 = record { width = none; checkpoint = some (record { waypoint = 2; number = 3 }); first = at 16; second = at 17 }
 
 module _ {N : Type 0} (a s z d : N) where
   abbrev yard-b : Network N
@@ -58,14 +58,14 @@ module _ {N : Type 0} (a s z d : N) where
         zones = record { first-point = 6; points = 2; first-spot = 0; spots = 2; name = some z } ∷ record { first-point = 12; points = 2; first-spot = 0; spots = 0; name = none } ∷ record { first-point = 14; points = 2; first-spot = 2; spots = 1; name = none } ∷ [];
         spots = record { first-point = 8; width = 9 } ∷ record { first-point = 10; width = 65535 } ∷ record { first-point = 16; width = 65535 } ∷ [];
         points = at 0 ∷ at 1 ∷ at 2 ∷ at 3 ∷ at 4 ∷ at 5 ∷ at 6 ∷ at 7 ∷ at 8 ∷ at 9 ∷ at 10 ∷ at 11 ∷ at 12 ∷ at 13 ∷ at 14 ∷ at 15 ∷ at 16 ∷ at 17 ∷ [];
-        checkpoints = record { number = 7; point = 1 } ∷ record { number = 9; point = 0 } ∷ record { number = 8; point = 9 } ∷ record { number = 3; point = 16 } ∷ [];
+        checkpoints = record { number = 7; point = 1 } ∷ record { number = 9; point = 0 } ∷ record { number = 8; point = 9 } ∷ record { number = 6; point = 11 } ∷ record { number = 3; point = 17 } ∷ [];
         stops = 1 ∷ 1 ∷ 2 ∷ [];
         exits = record { point = 1; entry = 5 } ∷ record { point = 0; entry = 13 } ∷ record { point = 4; entry = 14 } ∷ record { point = 4; entry = 7 } ∷ record { point = 7; entry = 4 } ∷ record { point = 14; entry = 5 } ∷ [];
       }
   unfolding tables-with
   its-tables = refl
 
-  pub its-numbers : all-numbers yard-b ≡ 7 ∷ 9 ∷ 8 ∷ 3 ∷ []
+  pub its-numbers : all-numbers yard-b ≡ 7 ∷ 9 ∷ 8 ∷ 6 ∷ 3 ∷ []
   its-numbers = refl
 
   pub its-parts : parts yard-b ≡ 5

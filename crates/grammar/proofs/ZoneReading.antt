@@ -2,43 +2,77 @@
 use mathlib.Core.Path.{_≡_, refl, sym, ap, ap₂, subst, _∙_}
 use mathlib.Core.List.{List, [], _∷_, _++_, map, append-assoc, tail-eq-of-cons-eq}
 use mathlib.Core.Option.{Option, none, some}
+use mathlib.Core.Bool.{Bool, true, false}
 use Prim.Native.Nat.{ℕ, zero, suc, pred, _+_, _*_, _≤_, _<_}
 use native.Mathlib.Omega.{arith}
+use mathlib.Core.Logic.{_⊎_, inl, inr}
+use lib.Dec.{T}
+use lib.Ieee.Bits.{is-true}
+use Rattle.terms.proofs.Tests.{clash}
 use lib.ListN.{length}
-use Rattle.terms.specs.Words.{Each, Among, perhaps, Between, InTurn, nothing, then}
+use Rattle.terms.specs.Words.{pick, Each, Among, perhaps, Between, InTurn, nothing, then}
 use Rattle.terms.proofs.Lists.{map-id, each-any}
 use Rattle.grammar.specs.Forms.{eq?, Form, free}
-use Rattle.grammar.specs.Statements.{Kind, Position, Statement, lines, say, part-id, point-id, point-line, numbered, zone, num-spots, end-zone, perimeter, num-perimeterpoints, end-perimeter, spot, end-spot, point}
-use Rattle.grammar.specs.Network.{largest, Checkpoint, Exit, Perimeter, Spot, Zone, OnEarth, SpellsPerimeter, SpellsSpot, SpellsZone}
+use Rattle.grammar.specs.Statements.{Kind, Position, Statement, lines, say, ofKind, part-id, point-id, point-line, numbered, zone, num-spots, end-zone, perimeter, num-perimeterpoints, end-perimeter, spot, end-spot, checkpoint, point}
+use Rattle.grammar.specs.Network.{largest, Checkpoint, Exit, Perimeter, Spot, Zone, OnEarth, checkpoint-of, SpellsPerimeter, least, SpellsSpotBy, SpellsZoneBy}
 use Rattle.grammar.specs.Permitted.{part?, counted, atMost, theNumber, thePart, thePoint, perimeterRow, spotRow, zoneRow}
-use Rattle.grammar.specs.Places.{rndf, Base, part-due, num-spots-due, perimeter-due, num-perimeterpoints-due, first-perimeterpoint-due, perimeterpoint-due, spot-due, first-of-spot-due, second-of-spot-due, end-spot-due}
-use Rattle.grammar.proofs.Options.{Holds, Given}
-use Rattle.grammar.proofs.Reading.{Reads, Line, After, Seq, Many, reads-line, reads-after, reads-seq, reads-as, reads-open, reads-many}
-use Rattle.grammar.proofs.LaneReading.{Lines, To, PointAt, points-in-turn, in-turn-points}
+use Rattle.grammar.specs.Places.{rndf-by, Base, part-due, num-spots-due, perimeter-due, num-perimeterpoints-due, first-perimeterpoint-due, perimeterpoint-due, spot-due, first-of-spot-due, second-of-spot-due, end-spot-due, second}
+use Rattle.grammar.specs.Choices.{opts as row}
+use Rattle.grammar.proofs.LanguageLaws.{kinds-on}
+use Rattle.grammar.proofs.MachineLaws.{Agrees}
+use Rattle.grammar.proofs.Options.{Holds, Given, all-memb, memb-all}
+use Rattle.grammar.proofs.Reading.{Reads, Line, After, AfterBy, Seq, Many, reads-line, reads-after, reads-after-by, reads-seq, reads-as, reads-open, reads-many}
+use Rattle.grammar.proofs.LaneReading.{always, Lines, To, PointAt, points-in-turn, in-turn-points}
 
+-- a spot's flags tell of its checkpoint
 module _ (N : Type 0) where
+  abbrev SpotFlags : (m n : ℕ) → List (Statement N) → List Bool → Type 0
+  SpotFlags m n os g = Agrees (lines N) (row (lines N) (spotRow N m n)) (kinds-on (lines N) os []) g
+
+  abbrev Checkpoints : (m n : ℕ) → Option Checkpoint → List (Statement N) → Type 0
+  Checkpoints m n c os = ofKind checkpoint os ≡ map (checkpoint-of m n) (perhaps c)
+
+  spot-enough : (strict : Bool) (m n : ℕ) (c : Option Checkpoint) (os : List (Statement N)) (g : List Bool) → Checkpoints m n c os → least strict ≤ length (perhaps c) → SpotFlags m n os g → T (pick strict (second g) true)
+  spot-enough false m n c os g e h a = tt
+  spot-enough true m n none os g e h a = absurd (omega arith)
+  spot-enough true m n (some c) os [] e h a = absurd a
+  spot-enough true m n (some c) os (x ∷ []) e h a = absurd (a .1)
+  spot-enough true m n (some c) os (x ∷ y ∷ g) e h a = subst T (sym (a .1 .0 ∙ all-memb (lines N) checkpoint os [] (rw e (omega arith)))) tt
+
+  spot-kept : (strict : Bool) (m n : ℕ) (c : Option Checkpoint) (os : List (Statement N)) (g : List Bool) → Checkpoints m n c os → SpotFlags m n os g → T (pick strict (second g) true) → least strict ≤ length (perhaps c)
+  spot-kept false m n c os g e a now = omega arith
+  spot-kept true m n (some c) os g e a now = omega arith
+  spot-kept true m n none os [] e a now = absurd a
+  spot-kept true m n none os (x ∷ []) e a now = absurd (a .1)
+  spot-kept true m n none os (x ∷ y ∷ g) e a now = go (memb-all (lines N) checkpoint os [] (sym (a .1 .0) ∙ is-true y now))
+    where
+      go : (_≡_ {A = Bool} false true) ⊎ (1 ≤ length (ofKind checkpoint os)) → 1 ≤ 0
+      go (inl z) = clash (sym z)
+      go (inr h) = rw e at h
+
+module _ (strict : Bool) (N : Type 0) where
   -- ## What follows `perimeter m.0`
   abbrev Borders : Type 0
   Borders = ℕ × ((Holds (lines N) (perimeterRow N 0 0) × Position) × (List Position × Unit {0}))
 
   abbrev PerimeterParts : (m : ℕ) → Borders → List (Statement N) → Type 0
-  PerimeterParts m = Seq (rndf N) (Line (rndf N) num-perimeterpoints counted) λ w. Seq (rndf N) (After (rndf N) (perimeterRow N m w) point (thePoint m 0 1)) λ x. Many (rndf N) ((PointAt N) m 0) (λ i. Line (rndf N) end-perimeter (free (Unit {0}))) 2 (pred w)
+  PerimeterParts m = Seq (rndf-by N strict) (Line (rndf-by N strict) num-perimeterpoints counted) λ w. Seq (rndf-by N strict) (After (rndf-by N strict) (perimeterRow N m w) point (thePoint m 0 1)) λ x. Many (rndf-by N strict) ((PointAt strict N) m 0) (λ i. Line (rndf-by N strict) end-perimeter (free (Unit {0}))) 2 (pred w)
 
   abbrev PerimeterBody : (m : ℕ) → Perimeter → List (Statement N) → Type 0
   PerimeterBody m a l = SpellsPerimeter m a (say perimeter (part-id m 0) ∷ l)
 
-  parts-perimeter : (m z s : ℕ) → (To N) (PerimeterParts m) (num-perimeterpoints-due m z s) (spot-due m z 1 s)
+  parts-perimeter : (m z s : ℕ) → (To strict N) (PerimeterParts m) (num-perimeterpoints-due m z s) (spot-due m z 1 s)
   parts-perimeter m z s =
-      reads-seq (rndf N) (reads-line (rndf N) (num-perimeterpoints-due m z s) counted refl (λ v. refl)) λ w.
-      reads-seq (rndf N) (reads-after (rndf N) (first-perimeterpoint-due m z s w) (perimeterRow N m w) (thePoint m 0 1) refl (λ v. refl)) λ x.
-      reads-many (rndf N) ((PointAt N) m 0) (λ i. Line (rndf N) end-perimeter (free (Unit {0}))) (λ i w. some (perimeterpoint-due m z s i w)) (some (spot-due m z 1 s))
-      (λ i w. reads-line (rndf N) (perimeterpoint-due m z s i (suc w)) (thePoint m 0 i) refl (λ v. refl))
-      (λ i. reads-line (rndf N) (perimeterpoint-due m z s i zero) (free (Unit {0})) refl (λ v. refl)) 2 (pred w)
+      reads-seq (rndf-by N strict) (reads-line (rndf-by N strict) (num-perimeterpoints-due m z s) counted refl (λ v. refl) (λ g. always strict)) λ w.
+      reads-seq (rndf-by N strict) (reads-after (rndf-by N strict) (first-perimeterpoint-due m z s w) (perimeterRow N m w) (thePoint m 0 1) refl (λ v. refl) (λ g. always strict)) λ x.
+      reads-many (rndf-by N strict) ((PointAt strict N) m 0) (λ i. Line (rndf-by N strict) end-perimeter (free (Unit {0}))) (λ i w. some (perimeterpoint-due m z s i w)) (some (spot-due m z 1 s))
+      (λ i w. reads-line (rndf-by N strict) (perimeterpoint-due m z s i (suc w)) (thePoint m 0 i) refl (λ v. refl) (λ g. always strict))
+      (λ i. reads-line (rndf-by N strict) (perimeterpoint-due m z s i zero) (free (Unit {0})) refl (λ v. refl) (λ g. always strict)) 2 (pred w)
 
   perimeterOf : Borders → Perimeter
   perimeterOf x = record { exits = x .1 .0 .0 .0; points = x .1 .0 .1 ∷ x .1 .1 .0 }
 
-  to-perimeter : (m : ℕ) (exits : List Exit) (ps : List Position) (l : (Lines N)) → PerimeterBody m (record { exits = exits; points = ps }) l → (x : Borders) × (perimeterOf x ≡ record { exits = exits; points = ps }) × PerimeterParts m x l
+  to-perimeter : (m : ℕ) (exits : List Exit) (ps : List Position) (l : (Lines strict N)) → PerimeterBody m (record { exits = exits; points = ps }) l → (x : Borders) × (perimeterOf x ≡ record { exits = exits; points = ps }) × PerimeterParts m x l
   unfolding perimeterOf numbered
   to-perimeter m exits [] l s = absurd (omega arith)
   to-perimeter m exits (p ∷ ps) l s =
@@ -54,21 +88,21 @@ module _ (N : Type 0) where
             os ++ (point-line (point-id m 0 1) p ∷ []),
             rest,
             (os, ((s .given .exits, s .good .exits, tt), s .given .no-other), s .good .points .0, refl),
-            (numbered m 0 2 ps, say end-perimeter tt ∷ [], refl, (points-in-turn N) m 0 2 ps (s .good .points .1), (tt, refl), refl),
+            (numbered m 0 2 ps, say end-perimeter tt ∷ [], refl, (points-in-turn strict N) m 0 2 ps (s .good .points .1), (tt, refl), refl),
             sym (append-assoc os (point-line (point-id m 0 1) p ∷ []) rest),
           ),
           tail-eq-of-cons-eq (s .spelled),
         ),
       )
 
-  from-perimeter : (m : ℕ) (x : Borders) (l : (Lines N)) → PerimeterParts m x l → PerimeterBody m (perimeterOf x) l
+  from-perimeter : (m : ℕ) (x : Borders) (l : (Lines strict N)) → PerimeterParts m x l → PerimeterBody m (perimeterOf x) l
   unfolding perimeterOf numbered
   from-perimeter m x l y =
       let ps = x .1 .1 .0 in
       let b = y .3 in
       let o = b .2 in
       let e = b .3 in
-      let t = (in-turn-points N) m 0 2 ps (e .0) (e .3) in
+      let t = (in-turn-points strict N) m 0 2 ps (e .0) (e .3) in
       let len = e .2 in
       let c = y .2 .0 in
       let w : x .0 ≡ suc (length ps) = omega arith in
@@ -80,26 +114,31 @@ module _ (N : Type 0) where
         spelled = rw (y .4, y .2 .1, b .4, o .3, e .5, t .1, e .4 .1, append-assoc, w);
       }
 
-  reads-perimeter-body : (m z s : ℕ) → (To N) (PerimeterBody m) (num-perimeterpoints-due m z s) (spot-due m z 1 s)
-  reads-perimeter-body m z s = reads-as (rndf N) perimeterOf (λ a l s. to-perimeter m (a .exits) (a .points) l s) (from-perimeter m) (parts-perimeter m z s)
+  reads-perimeter-body : (m z s : ℕ) → (To strict N) (PerimeterBody m) (num-perimeterpoints-due m z s) (spot-due m z 1 s)
+  reads-perimeter-body m z s = reads-as (rndf-by N strict) perimeterOf (λ a l s. to-perimeter m (a .exits) (a .points) l s) (from-perimeter m) (parts-perimeter m z s)
 
   -- ## What follows `spot m.n`
   abbrev Stalls : Type 0
   Stalls = (Holds (lines N) (spotRow N 0 0) × Position) × (Position × Unit {0})
 
-  abbrev SpotParts : (m n : ℕ) → Stalls → List (Statement N) → Type 0
-  SpotParts m n = Seq (rndf N) (After (rndf N) (spotRow N m n) point (thePoint m n 1)) λ x. Seq (rndf N) ((PointAt N) m n 2) λ y. Line (rndf N) end-spot (free (Unit {0}))
+  -- the first waypoint is good, and L8's rule is kept
+  abbrev SpotOk : Holds (lines N) (spotRow N 0 0) × Position → Type 0
+  SpotOk x = OnEarth (x .1) × (least strict ≤ length (perhaps (x .0 .1 .0)))
 
-  parts-spot : (m z n s : ℕ) → (To N) (SpotParts m n) (first-of-spot-due m z n s) (spot-due m z (suc n) s)
+  abbrev SpotParts : (m n : ℕ) → Stalls → List (Statement N) → Type 0
+  SpotParts m n = Seq (rndf-by N strict) (AfterBy (rndf-by N strict) (spotRow N m n) point (thePoint m n 1) SpotOk) λ x. Seq (rndf-by N strict) ((PointAt strict N) m n 2) λ y. Line (rndf-by N strict) end-spot (free (Unit {0}))
+
+  parts-spot : (m z n s : ℕ) → (To strict N) (SpotParts m n) (first-of-spot-due m z n s) (spot-due m z (suc n) s)
   parts-spot m z n s =
-      reads-seq (rndf N) (reads-after (rndf N) (first-of-spot-due m z n s) (spotRow N m n) (thePoint m n 1) refl (λ v. refl)) λ x.
-      reads-seq (rndf N) (reads-line (rndf N) (second-of-spot-due m z n s) (thePoint m n 2) refl (λ v. refl)) λ y.
-      reads-line (rndf N) (end-spot-due m z n s) (free (Unit {0})) refl (λ v. refl)
+      reads-seq (rndf-by N strict) (reads-after-by (rndf-by N strict) (first-of-spot-due m z n s) (spotRow N m n) (thePoint m n 1) refl (λ v. refl) SpotOk (λ x o. o .0)
+      (λ x os h o g a. spot-enough N strict m n (x .0 .1 .0) os g (h .0 .2 .0) (o .1) a) (λ x os h good g a now. (good, spot-kept N strict m n (x .0 .1 .0) os g (h .0 .2 .0) a now))) λ x.
+      reads-seq (rndf-by N strict) (reads-line (rndf-by N strict) (second-of-spot-due m z n s) (thePoint m n 2) refl (λ v. refl) (λ g. always strict)) λ y.
+      reads-line (rndf-by N strict) (end-spot-due m z n s) (free (Unit {0})) refl (λ v. refl) (λ g. always strict)
 
   spotOf : Stalls → Spot
   spotOf x = record { width = x .0 .0 .0; checkpoint = x .0 .0 .1 .0; first = x .0 .1; second = x .1 .0 }
 
-  to-spot : (m n : ℕ) (a : Spot) (l : (Lines N)) → SpellsSpot m n a (say spot (part-id m n) ∷ l) → (x : Stalls) × (spotOf x ≡ a) × SpotParts m n x l
+  to-spot : (m n : ℕ) (a : Spot) (l : (Lines strict N)) → SpellsSpotBy strict m n a (say spot (part-id m n) ∷ l) → (x : Stalls) × (spotOf x ≡ a) × SpotParts m n x l
   unfolding spotOf
   to-spot m n a l s =
       let os = s .options in
@@ -109,13 +148,13 @@ module _ (N : Type 0) where
         (
           os ++ (point-line (point-id m n 1) (a .first) ∷ []),
           rest,
-          (os, ((s .given .width ∙ sym (map-id (perhaps (a .width))), s .good .width, (s .given .checkpoints, s .good .checkpoint, tt)), s .given .no-other), s .good .first, refl),
+          (os, ((s .given .width ∙ sym (map-id (perhaps (a .width))), s .good .width, (s .given .checkpoints, s .good .checkpoint, tt)), s .given .no-other), (s .good .first, s .marked), refl),
           (point-line (point-id m n 2) (a .second) ∷ [], say end-spot tt ∷ [], (s .good .second, refl), (tt, refl), refl),
           tail-eq-of-cons-eq (s .spelled) ∙ sym (append-assoc os (point-line (point-id m n 1) (a .first) ∷ []) rest),
         ),
       )
 
-  from-spot : (m n : ℕ) (x : Stalls) (l : (Lines N)) → SpotParts m n x l → SpellsSpot m n (spotOf x) (say spot (part-id m n) ∷ l)
+  from-spot : (m n : ℕ) (x : Stalls) (l : (Lines strict N)) → SpotParts m n x l → SpellsSpotBy strict m n (spotOf x) (say spot (part-id m n) ∷ l)
   unfolding spotOf
   from-spot m n x l y =
       let o = y .2 in
@@ -124,33 +163,34 @@ module _ (N : Type 0) where
       record {
         options = o .0;
         given = record { width = h .0 ∙ map-id (perhaps (x .0 .0 .0)); checkpoints = h .2 .0; no-other = o .1 .1 };
-        good = record { width = h .1; checkpoint = h .2 .1; first = o .2; second = e .2 .0 };
+        good = record { width = h .1; checkpoint = h .2 .1; first = o .2 .0; second = e .2 .0 };
+        marked = o .2 .1;
         spelled = rw (y .4, o .3, e .4, e .2 .1, e .3 .1, append-assoc);
       }
 
-  reads-spot : (m z n s : ℕ) → (To N) (SpellsSpot m n) (spot-due m z n (suc s)) (spot-due m z (suc n) s)
-  reads-spot m z n s = reads-open (rndf N) (SpellsSpot m n) spot part? (part-id m n) (λ a w s. (_, s .spelled)) (reads-line (rndf N) (spot-due m z n (suc s)) (thePart m n) refl (λ v. refl))
-      (reads-as (rndf N) spotOf (to-spot m n) (from-spot m n) (parts-spot m z n s))
+  reads-spot : (m z n s : ℕ) → (To strict N) (SpellsSpotBy strict m n) (spot-due m z n (suc s)) (spot-due m z (suc n) s)
+  reads-spot m z n s = reads-open (rndf-by N strict) (SpellsSpotBy strict m n) spot part? (part-id m n) (λ a w s. (_, s .spelled)) (reads-line (rndf-by N strict) (spot-due m z n (suc s)) (thePart m n) refl (λ v. refl) (λ g. always strict))
+      (reads-as (rndf-by N strict) spotOf (to-spot m n) (from-spot m n) (parts-spot m z n s))
 
   -- ## What follows `zone m`
   abbrev Yards : Type 0
   Yards = ℕ × ((Holds (lines N) (zoneRow N) × Unit {0}) × (Perimeter × (List Spot × Unit {0})))
 
   abbrev ZoneParts : (m : ℕ) → Yards → List (Statement N) → Type 0
-  ZoneParts m = Seq (rndf N) (Line (rndf N) num-spots atMost) λ s. Seq (rndf N) (After (rndf N) (zoneRow N) perimeter (thePart m 0)) λ x. Seq (rndf N) (PerimeterBody m) λ p. Many (rndf N) (SpellsSpot m) (λ i. Line (rndf N) end-zone (free (Unit {0}))) 1 s
+  ZoneParts m = Seq (rndf-by N strict) (Line (rndf-by N strict) num-spots atMost) λ s. Seq (rndf-by N strict) (After (rndf-by N strict) (zoneRow N) perimeter (thePart m 0)) λ x. Seq (rndf-by N strict) (PerimeterBody m) λ p. Many (rndf-by N strict) (SpellsSpotBy strict m) (λ i. Line (rndf-by N strict) end-zone (free (Unit {0}))) 1 s
 
-  parts-zone : (m z : ℕ) → (To N) (ZoneParts m) (num-spots-due m z) (part-due (suc m) zero z)
+  parts-zone : (m z : ℕ) → (To strict N) (ZoneParts m) (num-spots-due m z) (part-due (suc m) zero z)
   parts-zone m z =
-      reads-seq (rndf N) (reads-line (rndf N) (num-spots-due m z) atMost refl (λ v. refl)) λ s.
-      reads-seq (rndf N) (reads-after (rndf N) (perimeter-due m z s) (zoneRow N) (thePart m 0) refl (λ v. refl)) λ x.
-      reads-seq (rndf N) (reads-perimeter-body m z s) λ p.
-      reads-many (rndf N) (SpellsSpot m) (λ i. Line (rndf N) end-zone (free (Unit {0}))) (λ i s. some (spot-due m z i s)) (some (part-due (suc m) zero z))
-      (λ i s. reads-spot m z i s) (λ i. reads-line (rndf N) (spot-due m z i zero) (free (Unit {0})) refl (λ v. refl)) 1 s
+      reads-seq (rndf-by N strict) (reads-line (rndf-by N strict) (num-spots-due m z) atMost refl (λ v. refl) (λ g. always strict)) λ s.
+      reads-seq (rndf-by N strict) (reads-after (rndf-by N strict) (perimeter-due m z s) (zoneRow N) (thePart m 0) refl (λ v. refl) (λ g. always strict)) λ x.
+      reads-seq (rndf-by N strict) (reads-perimeter-body m z s) λ p.
+      reads-many (rndf-by N strict) (SpellsSpotBy strict m) (λ i. Line (rndf-by N strict) end-zone (free (Unit {0}))) (λ i s. some (spot-due m z i s)) (some (part-due (suc m) zero z))
+      (λ i s. reads-spot m z i s) (λ i. reads-line (rndf-by N strict) (spot-due m z i zero) (free (Unit {0})) refl (λ v. refl) (λ g. always strict)) 1 s
 
   zoneOf : Yards → (Zone N)
   zoneOf x = record { name = x .1 .0 .0 .0; border = x .1 .1 .0; spots = x .1 .1 .1 .0 }
 
-  to-zone : (m : ℕ) (a : (Zone N)) (l : (Lines N)) → SpellsZone m a (say zone m ∷ l) → (x : Yards) × (zoneOf x ≡ a) × ZoneParts m x l
+  to-zone : (m : ℕ) (a : (Zone N)) (l : (Lines strict N)) → SpellsZoneBy strict m a (say zone m ∷ l) → (x : Yards) × (zoneOf x ≡ a) × ZoneParts m x l
   unfolding zoneOf
   to-zone m a l s =
       let os = s .options in
@@ -174,7 +214,7 @@ module _ (N : Type 0) where
         ),
       )
 
-  from-zone : (m : ℕ) (x : Yards) (l : (Lines N)) → ZoneParts m x l → SpellsZone m (zoneOf x) (say zone m ∷ l)
+  from-zone : (m : ℕ) (x : Yards) (l : (Lines strict N)) → ZoneParts m x l → SpellsZoneBy strict m (zoneOf x) (say zone m ∷ l)
   unfolding zoneOf
   from-zone m x l y =
       let b = y .3 in
@@ -193,6 +233,6 @@ module _ (N : Type 0) where
         spelled = rw (y .4, y .2 .1, b .4, o .3, d .4, e .5, e .4 .1, w) (simp append-assoc);
       }
 
-  pub reads-zone : (m z : ℕ) → (To N) (SpellsZone m) (part-due m zero (suc z)) (part-due (suc m) zero z)
-  reads-zone m z = reads-open (rndf N) (SpellsZone m) zone eq? m (λ a w s. (_, s .spelled)) (reads-line (rndf N) (part-due m zero (suc z)) (theNumber m) refl (λ v. refl))
-      (reads-as (rndf N) zoneOf (to-zone m) (from-zone m) (parts-zone m z))
+  pub reads-zone : (m z : ℕ) → (To strict N) (SpellsZoneBy strict m) (part-due m zero (suc z)) (part-due (suc m) zero z)
+  reads-zone m z = reads-open (rndf-by N strict) (SpellsZoneBy strict m) zone eq? m (λ a w s. (_, s .spelled)) (reads-line (rndf-by N strict) (part-due m zero (suc z)) (theNumber m) refl (λ v. refl) (λ g. always strict))
+      (reads-as (rndf-by N strict) zoneOf (to-zone m) (from-zone m) (parts-zone m z))

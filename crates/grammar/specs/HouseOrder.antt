@@ -17,6 +17,8 @@ pub record GoodZone {N : Type 0} (a : Zone N) : Type 0 where
   pub count : length (a .spots) ≤ largest
   pub border : GoodPerimeter (a .border)
   pub spots : Each GoodSpot (a .spots)
+  -- L8: "A spot must have its checkpoint"
+  pub marked : Each (λ s. 1 ≤ length (perhaps (s .checkpoint))) (a .spots)
 
 pub record GoodNetwork {N : Type 0} (a : Network N) : Type 0 where
   pub some-segment : 1 ≤ length (a .segments)

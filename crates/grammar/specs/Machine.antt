@@ -68,12 +68,17 @@ module _ (L : Lang) where
   clear [] = []
   clear (o ∷ row) = false ∷ clear row
 
--- the places of a file: at each base its options, which differ in kind, and its due statement, which is none of them
+-- the places of a file: at each base its options, which differ in kind, its due statement, which is none of them, and whether the single options given there are enough for it
 pub record Machine (L : Lang) : Type 1 where
   pub Base : Type 0
   pub opts : Base → List (Opt (L .Kind) (L .Pay))
   pub due : Base → Due (L .Kind) (L .Pay) Base
+  pub ready : Base → List Bool → Bool
   pub apart : (b : Base) → T (lacks L (due b .on) (opts b) && distinct L (opts b))
+
+-- the same places where no option has to be given
+abbrev pub lenient : {L : Lang} → Machine L → Machine L
+lenient M = record { Base = M .Base; opts = M .opts; due = M .due; ready = λ b g. true; apart = M .apart }
 
 -- a place: the end, or a base with the single options given there
 pub data Stand (Base : Type 0) : Type 0 where
@@ -91,7 +96,7 @@ module _ {P : Type 0} where
 
 module _ {L : Lang} (M : Machine L) where
   open Lang L using (Kind, Pay, disc)
-  open Machine M using (Base, opts, due)
+  open Machine M using (Base, opts, due, ready)
 
   abbrev pub Place : Type 0
   Place = Stand Base
@@ -104,20 +109,20 @@ module _ {L : Lang} (M : Machine L) where
   enter none = over
   enter (some b) = at b
 
-  -- 01: 5 "statement unknown, or not at this place"; 9 "value not permitted here"
-  abbrev pub hit : (b : Base) → Option (Pay (due b .on)) → Out Place
-  hit b (some v) = guard (due b .test v) 9 (next (enter (due b .then v)))
-  hit b none = refuse 5
+  -- 01: 5 "statement unknown, or not at this place"; 9 "value not permitted here"; L8: 25 where it has no other fault
+  abbrev pub hit : (b : Base) → List Bool → Option (Pay (due b .on)) → Out Place
+  hit b g (some v) = guard (due b .test v) 9 (guard (ready b g) 25 (next (enter (due b .then v))))
+  hit b g none = refuse 5
 
-  abbrev pub settle : Base → Verdict → S L → Out Place
-  settle b other s = hit b (asKind L (due b .on) s)
-  settle b (bad c) s = refuse c
-  settle b (good g) s = next (inside b g)
+  abbrev pub settle : Base → List Bool → Verdict → S L → Out Place
+  settle b g other s = hit b g (asKind L (due b .on) s)
+  settle b g (bad c) s = refuse c
+  settle b g (good g′) s = next (inside b g′)
 
   -- one statement at a place
   unfoldable pub step : Place → S L → Out Place
   step over s = refuse 5
-  step (inside b g) s = settle b (optAt L (opts b) g s) s
+  step (inside b g) s = settle b g (optAt L (opts b) g s) s
 
   -- statements one by one
   unfoldable pub run : Place → List (S L) → Out Place

@@ -76,4 +76,4 @@ module _ (N : Type 0) where
   apart end-file-due = tt
 
   abbrev pub mdf : Machine (orders N)
-  mdf = record { Base = Base; opts = opts; due = due; apart = apart }
+  mdf = record { Base = Base; opts = opts; due = due; ready = λ b g. true; apart = apart }

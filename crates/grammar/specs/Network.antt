@@ -2,6 +2,7 @@
 use mathlib.Core.Path.{_≡_}
 use mathlib.Core.List.{List, [], _∷_, _++_, map}
 use mathlib.Core.Option.{Option}
+use mathlib.Core.Bool.{Bool, true, false}
 use Prim.Native.Nat.{ℕ, suc, _+_, _≤_}
 use lib.ListN.{length}
 use lib.IntN.{natAbs}
@@ -29,7 +30,7 @@ pub record GoodLane (a : Lane) : Type 0 where
   pub count : Between 1 largest (length (a .points))
   pub points : Each OnEarth (a .points)
   pub width : Each (λ w. w ≤ largest) (perhaps (a .width))
-  pub checkpoints : Each (GoodCheckpoint (length (a .points))) (a .checkpoints)
+  pub checkpoints : Each (GoodCheckpoint 1 (length (a .points))) (a .checkpoints)
   pub stops : Each (Between 1 (length (a .points))) (a .stops)
   pub exits : Each (GoodExit (length (a .points))) (a .exits)
 
@@ -44,6 +45,11 @@ checkpoint-of m n c = record { waypoint = point-id m n (c .waypoint); number = c
 
 abbrev pub exit-of : ℕ → ℕ → Exit → ExitLine
 exit-of m n e = record { waypoint = point-id m n (e .waypoint); entry = e .entry }
+
+-- L8: "A spot must have its checkpoint": how many it has at least, by the rule and without it
+abbrev pub least : Bool → ℕ
+least true = 1
+least false = 0
 
 -- ## How each part is spelled. `options`, `lanes`, ..: the statements of that part of it.
 module _ {N : Type 0} where
@@ -96,11 +102,12 @@ module _ {N : Type 0} where
     pub checkpoints : ofKind checkpoint os ≡ map (checkpoint-of m n) (perhaps (a .checkpoint))
     pub no-other : Only (spot-width ∷ checkpoint ∷ []) os
 
-  -- 01: "Spot: `spot` m.n; options ..; two waypoints; `end_spot`"
-  pub record SpellsSpot (m n : ℕ) (a : Spot) (l : List (Statement N)) : Type 0 where
+  -- 01: "Spot: `spot` m.n; options ..; two waypoints; `end_spot`"; with L8's rule, or without
+  pub record SpellsSpotBy (strict : Bool) (m n : ℕ) (a : Spot) (l : List (Statement N)) : Type 0 where
     pub options : List (Statement N)
     pub given : SpotOptions m n a options
     pub good : GoodSpot a
+    pub marked : least strict ≤ length (perhaps (a .checkpoint))
     pub spelled : l ≡ say spot (part-id m n) ∷ options ++ (point-line (point-id m n 1) (a .first) ∷ point-line (point-id m n 2) (a .second) ∷ say end-spot tt ∷ [])
 
   -- 01: "option `zone_name`"
@@ -109,14 +116,14 @@ module _ {N : Type 0} where
     pub no-other : Only (zone-name ∷ []) os
 
   -- 01: "Zone: `zone` id; `num_spots` ≥ 0; option `zone_name`; the perimeter; spots 1, 2, ..; `end_zone`"
-  pub record SpellsZone (m : ℕ) (a : Zone N) (l : List (Statement N)) : Type 0 where
+  pub record SpellsZoneBy (strict : Bool) (m : ℕ) (a : Zone N) (l : List (Statement N)) : Type 0 where
     pub options : List (Statement N)
     pub border : List (Statement N)
     pub spots : List (Statement N)
     pub given : ZoneOptions a options
     pub count : length (a .spots) ≤ largest
     pub bordered : SpellsPerimeter m (a .border) border
-    pub each : InTurn (SpellsSpot m) 1 (a .spots) spots
+    pub each : InTurn (SpellsSpotBy strict m) 1 (a .spots) spots
     pub spelled : l ≡ say zone m ∷ say num-spots (length (a .spots)) ∷ options ++ (border ++ (spots ++ (say end-zone tt ∷ [])))
 
   -- 01: "options `format_version` and `creation_date` (names)"
@@ -126,7 +133,7 @@ module _ {N : Type 0} where
     pub no-other : Only (format-version ∷ creation-date ∷ []) os
 
   -- 01: "`RNDF_name` name; `num_segments` M > 0; `num_zones` N ≥ 0, with M + N ≤ 32,768; options ..; segments 1 to M; zones M+1 to M+N; `end_file`"
-  pub record SpellsNetwork (a : Network N) (l : List (Statement N)) : Type 0 where
+  pub record SpellsNetworkBy (strict : Bool) (a : Network N) (l : List (Statement N)) : Type 0 where
     pub options : List (Statement N)
     pub segments : List (Statement N)
     pub zones : List (Statement N)
@@ -134,5 +141,15 @@ module _ {N : Type 0} where
     pub some-segment : 1 ≤ length (a .segments)
     pub count : length (a .segments) + length (a .zones) ≤ largest
     pub each-segment : InTurn SpellsSegment 1 (a .segments) segments
-    pub each-zone : InTurn SpellsZone (suc (length (a .segments))) (a .zones) zones
+    pub each-zone : InTurn (SpellsZoneBy strict) (suc (length (a .segments))) (a .zones) zones
     pub spelled : l ≡ say RNDF-name (a .name) ∷ say num-segments (length (a .segments)) ∷ say num-zones (length (a .zones)) ∷ options ++ (segments ++ (zones ++ (say end-file tt ∷ [])))
+
+  -- L8: "From now on it is a rule"
+  abbrev pub SpellsSpot : (m n : ℕ) → Spot → List (Statement N) → Type 0
+  SpellsSpot = SpellsSpotBy true
+
+  abbrev pub SpellsZone : (m : ℕ) → Zone N → List (Statement N) → Type 0
+  SpellsZone = SpellsZoneBy true
+
+  abbrev pub SpellsNetwork : Network N → List (Statement N) → Type 0
+  SpellsNetwork = SpellsNetworkBy true

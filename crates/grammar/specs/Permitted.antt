@@ -24,8 +24,8 @@ point? a b = via (λ x i. record { x = x .0 i; y = x .1 .0 i; z = x .1 .1 i }) (
 abbrev pub on-earth? : (p : Position) → Dec (OnEarth p)
 on-earth? p = via (λ x. record { latitude = x .0; longitude = x .1 }) (λ x. (x .latitude, x .longitude)) (and? (le? (natAbs (p .latitude)) 90000000) (le? (natAbs (p .longitude)) 180000000))
 
-abbrev pub checkpoint? : (w : ℕ) (c : Checkpoint) → Dec (GoodCheckpoint w c)
-checkpoint? w c = via (λ x. record { waypoint = x .0; number = x .1 }) (λ x. (x .waypoint, x .number)) (and? (between? 1 w (c .waypoint)) (between? 1 largest (c .number)))
+abbrev pub checkpoint? : (first last : ℕ) (c : Checkpoint) → Dec (GoodCheckpoint first last c)
+checkpoint? first last c = via (λ x. record { waypoint = x .0; number = x .1 }) (λ x. (x .waypoint, x .number)) (and? (between? first last (c .waypoint)) (between? 1 largest (c .number)))
 
 abbrev pub entry? : (e : PointId) → Dec (GoodEntry e)
 entry? e = via (λ x. record { x = x .0; y = x .1 .0; z = x .1 .1 }) (λ x. (x .x, (x .y, x .z))) (and? (between? 1 largest (e .x)) (and? (le? (e .y) largest) (between? 1 largest (e .z))))
@@ -67,14 +67,14 @@ thePoint m n i = record {
 abbrev pub ownStop : ℕ → ℕ → ℕ → Form PointId
 ownStop m n w = record { C = ℕ; line = point-id m n; back = λ v. v .z; same = λ i. refl; Good = Between 1 w; fits = λ v. and? (point? (point-id m n (v .z)) v) (between? 1 w (v .z)) }
 
-abbrev pub ownCheckpoint : ℕ → ℕ → ℕ → Form CheckpointLine
-ownCheckpoint m n w = record {
+abbrev pub ownCheckpoint : ℕ → ℕ → ℕ → ℕ → Form CheckpointLine
+ownCheckpoint m n first last = record {
   C = Checkpoint;
   line = checkpoint-of m n;
   back = λ v. record { waypoint = v .waypoint .z; number = v .number };
   same = λ c. refl;
-  Good = GoodCheckpoint w;
-  fits = λ v. and? (via (λ e j. record { waypoint = e j; number = v .number }) (λ e. ap (λ (l : CheckpointLine). l .waypoint) e) (point? (point-id m n (v .waypoint .z)) (v .waypoint))) (checkpoint? w (record { waypoint = v .waypoint .z; number = v .number }));
+  Good = GoodCheckpoint first last;
+  fits = λ v. and? (via (λ e j. record { waypoint = e j; number = v .number }) (λ e. ap (λ (l : CheckpointLine). l .waypoint) e) (point? (point-id m n (v .waypoint .z)) (v .waypoint))) (checkpoint? first last (record { waypoint = v .waypoint .z; number = v .number }));
 }
 
 abbrev pub ownExit : (ℕ → ℕ → (Good : Exit → Type 0) → ((e : Exit) → Dec (Good e)) → Form ExitLine)
@@ -111,10 +111,10 @@ module _ (N : Type 0) where
   abbrev pub laneRow : ℕ → ℕ → ℕ → Row
   laneRow m n w =
       single lane-width atMost ∷ single left-boundary (free Boundary) ∷ single right-boundary (free Boundary)
-      ∷ repeated checkpoint (ownCheckpoint m n w) ∷ repeated stop (ownStop m n w) ∷ repeated exit (ownExit m n (GoodExit w) (exit? w)) ∷ []
+      ∷ repeated checkpoint (ownCheckpoint m n 1 w) ∷ repeated stop (ownStop m n w) ∷ repeated exit (ownExit m n (GoodExit w) (exit? w)) ∷ []
 
   abbrev pub perimeterRow : ℕ → ℕ → Row
   perimeterRow m p = repeated exit (ownExit m 0 (GoodPerimeterExit p) (perimeter-exit? p)) ∷ []
 
   abbrev pub spotRow : ℕ → ℕ → Row
-  spotRow m n = single spot-width counted ∷ single checkpoint (ownCheckpoint m n 2) ∷ []
+  spotRow m n = single spot-width counted ∷ single checkpoint (ownCheckpoint m n 2 2) ∷ []

@@ -1,9 +1,10 @@
 -- Executable: the places of an RNDF: what may stand at each, and the place after it. Document 01, "The order of an RNDF". Assumes nothing.
 use mathlib.Core.List.{List, [], _∷_}
 use mathlib.Core.Option.{Option, none, some}
-use mathlib.Core.Bool.{_&&_}
+use mathlib.Core.Bool.{Bool, true, false, _&&_}
 use Prim.Native.Nat.{ℕ, zero, suc, pred}
 use lib.Dec.{T}
+use Rattle.terms.specs.Words.{pick}
 use Rattle.grammar.specs.Machine.{Opt, Due, Machine, lacks, distinct}
 use Rattle.grammar.specs.Forms.{Form, tested, free}
 use Rattle.grammar.specs.Choices.{opts as row}
@@ -26,6 +27,35 @@ pub data Base : Type 0 where
   first-perimeterpoint-due : (m z s p : ℕ) → Base
   perimeterpoint-due : (m z s k p : ℕ) → Base
   spot-due first-of-spot-due second-of-spot-due end-spot-due : (m z n s : ℕ) → Base
+
+-- the second flag of a row
+abbrev pub second : List Bool → Bool
+second [] = true
+second (w ∷ []) = true
+second (w ∷ c ∷ g) = c
+
+-- L8: "A spot must have its checkpoint": it is the second option of a spot
+abbrev pub marked : Base → List Bool → Bool
+marked name-due g = true
+marked num-segments-due g = true
+marked (num-zones-due o) g = true
+marked (first-segment-due o z) g = true
+marked (part-due m o z) g = true
+marked (num-lanes-due m o z) g = true
+marked (first-lane-due m o z l) g = true
+marked (lane-due m o z n l) g = true
+marked (num-waypoints-due m o z n l) g = true
+marked (first-waypoint-due m o z n l w) g = true
+marked (waypoint-due m o z n l k w) g = true
+marked (num-spots-due m z) g = true
+marked (perimeter-due m z s) g = true
+marked (num-perimeterpoints-due m z s) g = true
+marked (first-perimeterpoint-due m z s p) g = true
+marked (perimeterpoint-due m z s k p) g = true
+marked (spot-due m z n s) g = true
+marked (first-of-spot-due m z n s) g = second g
+marked (second-of-spot-due m z n s) g = true
+marked (end-spot-due m z n s) g = true
 
 module _ (N : Type 0) where
   abbrev pub opts : Base → List (Opt Kind (Says N))
@@ -116,5 +146,9 @@ module _ (N : Type 0) where
   apart (second-of-spot-due m z n s) = tt
   apart (end-spot-due m z n s) = tt
 
+  -- the places where a spot must have its checkpoint, and where it may be without
+  abbrev pub rndf-by : Bool → Machine (lines N)
+  rndf-by strict = record { Base = Base; opts = opts; due = due; ready = λ b g. pick strict (marked b g) true; apart = apart }
+
   abbrev pub rndf : Machine (lines N)
-  rndf = record { Base = Base; opts = opts; due = due; apart = apart }
+  rndf = rndf-by true

@@ -1,11 +1,11 @@
--- WHAT A READER MUST BELIEVE. What is wrong with a text: one definition for each number 2 to 10 and 12 to 18. Document 01, "Refusal numbers". Assumes nothing.
+-- WHAT A READER MUST BELIEVE. What is wrong with a text: one definition for each number 2 to 10, 12 to 18 and 25. Document 01, "Refusal numbers". Assumes nothing.
 use Rattle.terms.specs.Words.{_≡_, List, [], _∷_, _++_, map, ℕ, suc, _+_, _<_, code, length, Bytes, ascii, Each, Among, perhaps, Between}
 use Rattle.line.specs.Line.{Cut, Ended, Field, Content, FormFault}
-use Rattle.law.specs.Network.{PointId, Checkpoint, Exit, Lane, Segment, Zone, Limit, Network, Mission, Rules, Said, Line, word, name, numbers, coordinate, boundary, SpellFields, checkpoint-line, exit-line, goal-line, limit-line, SayLines, SpellsText}
+use Rattle.law.specs.Network.{PointId, Checkpoint, Exit, Lane, Segment, Zone, Limit, Network, Mission, Rules, lenient, Said, Line, word, name, numbers, coordinate, boundary, SpellFields, checkpoint-line, exit-line, goal-line, limit-line, SayLines, SpellsText}
 use Rattle.law.specs.Network as Law
 use Rattle.law.specs.Tables.{gather, all-lanes}
 
--- ## 2 to 9: what is wrong with a line behind others. None of these holds where a lower number does
+-- ## 2 to 9 and 25: what is wrong with a line behind others. None of these holds where a lower number does
 -- 01: "field not of its kind": the kinds of fields. Each keyword is one, and so many numbers joined by dots
 pub data Sort : Type 0 where
   this-word : Bytes → Sort
@@ -43,18 +43,22 @@ pub record LineAt (rules : Rules) (text : Bytes) (i : ℕ) (front : List Line) (
   pub number : i ≡ suc (length before)
   pub said : SayLines rules 0 before front
 
+-- lines that spell a network, or a mission, begin with these
+pub record Begins (rules : Rules) {Net : Type 0} (Spells : Rules → Net → List Line → Type 0) (lines : List Line) : Type 0 where
+  pub rest : List Line
+  pub net : Net
+  pub spelled : Spells rules net (lines ++ rest)
+
 -- for the lines that spell a network, or a mission
 module _ (rules : Rules) {Net : Type 0} (Spells : Rules → Net → List Line → Type 0) where
-  -- lines that spell a network, or a mission, begin with these
-  pub record Begins (lines : List Line) : Type 0 where
-    pub rest : List Line
-    pub net : Net
-    pub spelled : Spells rules net (lines ++ rest)
+  -- the line may stand behind those, a spot's missing checkpoint aside
+  abbrev pub Follows : (before : List Line) (line : Line) → Type 0
+  Follows before line = Begins (lenient rules) Spells (before ++ (line ∷ []))
 
   -- the field opens this line, which may stand behind those
   pub record MayStand (before : List Line) (f : Field) (line : Line) : Type 0 where
     pub opens : Opens f line
-    pub begins : Begins (before ++ (line ∷ []))
+    pub follows : Follows before line
 
   -- the field opens an option that was given before, with only options behind it, and may not stand once more
   pub record GivenAgain (before : List Line) (f : Field) : Type 0 where
@@ -77,19 +81,21 @@ module _ (rules : Rules) {Net : Type 0} (Spells : Rules → Net → List Line �
     -- 01: 8 "field not of its kind (spelling, name length, boundary word)"
     misspelt : (line : Line) → MayStand before f line → length (f ∷ fs) ≡ length line → ((l : Line) → map sort l ≡ map sort line → SpellFields (f ∷ fs) l → ⊥) → FieldFault before f fs 8
     -- 01: 9 "value not permitted here (range, not the due identifier, point not of this part, minimum above maximum)"
-    forbidden : (line l : Line) → MayStand before f line → map sort l ≡ map sort line → SpellFields (f ∷ fs) l → (Begins (before ++ (l ∷ [])) → ⊥) → FieldFault before f fs 9
+    forbidden : (line l : Line) → MayStand before f line → map sort l ≡ map sort line → SpellFields (f ∷ fs) l → (Follows before l → ⊥) → FieldFault before f fs 9
+    -- L8: 25 "at a first waypoint that has no fault of 2 to 9", in "a spot whose options give no checkpoint": the line may stand there but for the missing checkpoint
+    unmarked : (l : Line) → SpellFields (f ∷ fs) l → Follows before l → (Begins rules Spells (before ++ (l ∷ [])) → ⊥) → FieldFault before f fs 25
 
   pub data Fault (before : List Line) (line : Bytes) (number : ℕ) : Type 0 where
     -- 01: 2 "line over 512 bytes"; 3 "comment not closed, or followed by more than tabs"; 4 "byte not allowed"
     form : {content : Bytes} → Ended line content → FormFault (rules .separates) content number → Fault before line number
     fields : {content : Bytes} {f : Field} {fs : List Field} → Ended line content → Content (rules .separates) 0 content (f ∷ fs) → FieldFault before f fs number → Fault before line number
 
-  -- 01: "the first line with a fault of 2 to 9": it is line i, and the lines before it begin a well-formed file
+  -- 01: "the first line with a fault of 2 to 9"; L8: 25 "stands with 2 to 9 in the order of lines": it is line i, and the lines before it begin a well-formed file
   pub record BadLine (text : Bytes) (i number : ℕ) : Type 0 where
     pub front : List Line
     pub this : Bytes
     pub at : LineAt rules text i front this
-    pub begins : Begins front
+    pub begins : Begins rules Spells front
     pub fault : Fault front this number
 
   -- 01: 10 "text ends before `end_file`", at "lines + 1"; "10 is given only if every line is good, so the text begins some well-formed file"
@@ -99,7 +105,7 @@ module _ (rules : Rules) {Net : Type 0} (Spells : Rules → Net → List Line �
     pub line : i ≡ suc (length lines)
     pub said : List Line
     pub spelled : SayLines rules 0 lines said
-    pub begins : Begins said
+    pub begins : Begins rules Spells said
     pub incomplete : (net : Net) → SpellsText rules Spells net text → ⊥
 
   -- line i says this, behind lines that say `front`; lines that spell a network, or a mission, begin so
@@ -107,7 +113,7 @@ module _ (rules : Rules) {Net : Type 0} (Spells : Rules → Net → List Line �
     pub this : Bytes
     pub at : LineAt rules text i front this
     pub says : SayLines rules 0 (at .before ++ (this ∷ [])) (front ++ (line ∷ []))
-    pub begins : Begins (front ++ (line ∷ []))
+    pub begins : Begins rules Spells (front ++ (line ∷ []))
 
   -- 01: "the first line with 12 or 13"; "14 to 18 by first line". F: RndfFault n, MdfFault n
   pub record FirstFault (F : List Line → Line → ℕ → Type 0) (text : Bytes) (i k : ℕ) : Type 0 where

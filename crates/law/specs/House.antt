@@ -10,7 +10,7 @@ AsListed {A} (l ∷ ls) options = (rest : List A) × AsListed ls rest × (option
 
 -- L3: "The house writing keeps its single tab."
 abbrev pub house : Rules
-house = record { separates = tab; Options = AsListed }
+house = record { separates = tab; Options = AsListed; spot-checkpoints = 1 }
 
 -- 01: "one tab between fields"
 unfoldable pub tabbed : List Bytes → Bytes

@@ -76,9 +76,9 @@ pub record OnEarth (p : Position) : Type 0 where
   pub latitude : natAbs (p .latitude) ≤ 90000000
   pub longitude : natAbs (p .longitude) ≤ 180000000
 
--- 01: "The waypoint named by a checkpoint or stop .. is one of this lane" (or spot), which has w; "Checkpoint numbers are > 0"
-pub record GoodCheckpoint (w : ℕ) (c : Checkpoint) : Type 0 where
-  pub waypoint : Between 1 w (c .waypoint)
+-- 01: "The waypoint named by a checkpoint or stop .. is one of this lane", or of a spot those from `first` to `last`; "Checkpoint numbers are > 0"
+pub record GoodCheckpoint (first last : ℕ) (c : Checkpoint) : Type 0 where
+  pub waypoint : Between first last (c .waypoint)
   pub number : Between 1 largest (c .number)
 
 -- 01: "the first of an exit, is one of this lane", which has w; "The entry is any point identifier x.y.z with x, z > 0"; a perimeter's "with all three > 0": y from `low` on
@@ -93,14 +93,14 @@ pub record GoodLane (a : Lane) : Type 0 where
   pub count : Between 1 largest (length (a .points))
   pub points : Each OnEarth (a .points)
   pub width : Each (λ w. w ≤ largest) (perhaps (a .width))
-  pub checkpoints : Each (GoodCheckpoint (length (a .points))) (a .checkpoints)
+  pub checkpoints : Each (GoodCheckpoint 1 (length (a .points))) (a .checkpoints)
   pub stops : Each (Between 1 (length (a .points))) (a .stops)
   pub exits : Each (GoodExit 0 (length (a .points))) (a .exits)
 
--- 01: "`spot_width` > 0 (feet) and one `checkpoint` on waypoint 1 or 2"
+-- 01: "`spot_width` > 0 (feet) and one `checkpoint`"; L8: "9 for a spot's checkpoint on waypoint 1": it is on waypoint 2
 pub record GoodSpot (a : Spot) : Type 0 where
   pub width : Each (Between 1 largest) (perhaps (a .width))
-  pub checkpoint : Each (GoodCheckpoint 2) (perhaps (a .checkpoint))
+  pub checkpoint : Each (GoodCheckpoint 2 2) (perhaps (a .checkpoint))
   pub first : OnEarth (a .first)
   pub second : OnEarth (a .second)
 
@@ -196,10 +196,16 @@ pub record Rules : Type 1 where
   pub separates : ℕ → Bool
   -- how the options of a part may stand: in any order, or, in the house writing, as listed
   pub Options : List (List Line) → List Line → Type 0
+  -- how many checkpoints a spot has at least. L8: "From now on it is a rule": 1
+  pub spot-checkpoints : ℕ
 
 -- the rules of document 01, as the requests have it
 abbrev pub present : Rules
-present = record { separates = separates; Options = AnyOrder }
+present = record { separates = separates; Options = AnyOrder; spot-checkpoints = 1 }
+
+-- the same but for L8: 2 to 9 are told as if a spot could be without its checkpoint
+abbrev pub lenient : Rules → Rules
+lenient rules = record { separates = rules .separates; Options = rules .Options; spot-checkpoints = 0 }
 
 -- ## Lines of an RNDF
 -- a keyword and what stands behind it
@@ -251,11 +257,12 @@ module _ (rules : Rules) where
     pub good : GoodPerimeter a
     pub spelled : l ≡ line "perimeter" (numbers (m ∷ 0 ∷ []) ∷ []) ∷ line "num_perimeterpoints" (numbers (length (a .points) ∷ []) ∷ []) ∷ map (exit-line m 0) (a .exits) ++ (points m 0 1 (a .points) ++ (line "end_perimeter" [] ∷ []))
 
-  -- 01: "Spot: `spot` m.n; options ..; two waypoints; `end_spot`"
+  -- 01: "Spot: `spot` m.n; options ..; two waypoints; `end_spot`"; L8: "A spot must have its checkpoint."
   pub record SpellsSpot (m n : ℕ) (a : Spot) (l : List Line) : Type 0 where
     pub options : List Line
     pub given : rules .Options (spot-options m n a) options
     pub good : GoodSpot a
+    pub marked : rules .spot-checkpoints ≤ length (perhaps (a .checkpoint))
     pub spelled : l ≡ line "spot" (numbers (m ∷ n ∷ []) ∷ []) ∷ options ++ (points m n 1 (a .first ∷ a .second ∷ []) ++ (line "end_spot" [] ∷ []))
 
   -- 01: "Zone: `zone` id; `num_spots` ≥ 0; option `zone_name`; the perimeter; spots 1, 2, ..; `end_zone`"
