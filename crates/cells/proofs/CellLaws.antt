@@ -192,10 +192,11 @@ module _ {L : Lang} (M : Machine L) where
     abbrev numbered : Numbered M
     numbered = record { table = table; column = code; row = row; last = last; named = named }
 
-    guarded : (t : Bool) (p q : Place M) → guard t 9 (next p) ≡ next q → p ≡ q
+    guarded : (t r : Bool) (p q : Place M) → guard t 9 (guard r 25 (next p)) ≡ next q → p ≡ q
     unfolding guard
-    guarded true p q e = cc
-    guarded false p q e = refused e
+    guarded true true p q e = cc
+    guarded true false p q e = refused e
+    guarded false r p q e = refused e
 
     not-due : (b : Base) (g g′ : List Bool) (s : S L) → optAt L (opts b) g s ≡ good g′ → s .kind ≡ due b .on → ⊥
     not-due b g g′ s e q = other-good (sym (no-option M (opts b) g (s .kind) (s .val) (subst (λ (k : Kind). T (lacks L k (opts b))) (sym q) (due-apart M b))) ∙ e)
@@ -228,13 +229,13 @@ module _ {L : Lang} (M : Machine L) where
     row-behind over q s e = refused e
     row-behind (inside b g) q s e = go (optAt L (opts b) g s) refl e
       where
-        hit-case : (o : Option (Pay (due b .on))) → asKind L (due b .on) s ≡ o → hit M b o ≡ next q → Follows named (row b) (place-row row last q) (cell table (row b) (code (s .kind)))
+        hit-case : (o : Option (Pay (due b .on))) → asKind L (due b .on) s ≡ o → hit M b g o ≡ next q → Follows named (row b) (place-row row last q) (cell table (row b) (code (s .kind)))
         hit-case none a e = refused e
         hit-case (some v) a e =
-            let z = guarded (due b .test v) (enter M (due b .then v)) q e in
+            let z = guarded (due b .test v) (M .ready b g) (enter M (due b .then v)) q e in
             goes-on (due-low b s v a) (ap (λ (p : Place M). named (place-row row last p)) (sym z) ∙ led (due b .then v) ∙ sym (due-is b s v a))
 
-        go : (x : Verdict) → optAt L (opts b) g s ≡ x → settle M b x s ≡ next q → Follows named (row b) (place-row row last q) (cell table (row b) (code (s .kind)))
+        go : (x : Verdict) → optAt L (opts b) g s ≡ x → settle M b g x s ≡ next q → Follows named (row b) (place-row row last q) (cell table (row b) (code (s .kind)))
         go other a e = hit-case (asKind L (due b .on) s) refl e
         go (bad c) a e = refused e
         go (good g′) a e = let z : q ≡ inside b g′ = cc in stays (option-cell b g g′ s a) (ap (λ (p : Place M). place-row row last p) z)
@@ -244,11 +245,11 @@ module _ {L : Lang} (M : Machine L) where
     unfolding step
     option-step b g s q c e = go (optAt L (opts b) g s) refl e
       where
-        hit-case : (o : Option (Pay (due b .on))) → asKind L (due b .on) s ≡ o → hit M b o ≡ next q → ⊥
+        hit-case : (o : Option (Pay (due b .on))) → asKind L (due b .on) s ≡ o → hit M b g o ≡ next q → ⊥
         hit-case none a e = refused e
         hit-case (some v) a e = let h = due-low b s v a in let l = c .low in omega arith
 
-        go : (x : Verdict) → optAt L (opts b) g s ≡ x → settle M b x s ≡ next q → (g′ : List Bool) × (x ≡ good g′) × (q ≡ inside b g′)
+        go : (x : Verdict) → optAt L (opts b) g s ≡ x → settle M b g x s ≡ next q → (g′ : List Bool) × (x ≡ good g′) × (q ≡ inside b g′)
         go other a e = absurd (hit-case (asKind L (due b .on) s) refl e)
         go (bad c) a e = refused e
         go (good g′) a e = (g′, refl, cc)

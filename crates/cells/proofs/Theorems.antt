@@ -79,7 +79,7 @@ module _ {N : Type 0} (some-name : N) where
   }
 
   good : GoodNetwork everything
-  good = record { some-segment = omega arith; count = omega arith; segments = (record { count = omega arith; lanes = (good-road, (good-road, tt)) }, (record { count = omega arith; lanes = (good-road, tt) }, tt)); zones = (record { count = omega arith; border = omega arith; spots = omega arith }, tt) }
+  good = record { some-segment = omega arith; count = omega arith; segments = (record { count = omega arith; lanes = (good-road, (good-road, tt)) }, (record { count = omega arith; lanes = (good-road, tt) }, tt)); zones = (record { count = omega arith; border = omega arith; spots = omega arith; marked = omega arith }, tt) }
 
   all-cells : covers (rndf N) (rndf-tabled N) 27 (at (rndf N) name-due) (house-network everything) ≡ true
   unfolding comes-by rndf-table step guard numbered house-network file-options house-segment segment-options house-lane lane-options house-zone zone-options house-perimeter perimeter-options house-spot spot-options

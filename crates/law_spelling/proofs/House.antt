@@ -1,7 +1,7 @@
 -- The lines of the law with options as listed are those of the house order. Assumes nothing.
 use mathlib.Core.Path.{_≡_, refl, sym, ap, ap₂, subst, _∙_}
 use mathlib.Core.List.{List, [], _∷_, _++_, map, append-nil}
-use Prim.Native.Nat.{ℕ, suc}
+use Prim.Native.Nat.{ℕ, suc, _≤_}
 use lib.ListN.{length}
 use Rattle.terms.specs.Words.{Each, perhaps, InTurn, nothing, then}
 use Rattle.line.specs.Content.{Field}
@@ -14,6 +14,7 @@ use Rattle.grammar.specs.MissionStatements as M
 use Rattle.grammar.specs.Network.{checkpoint-of, exit-of}
 use Rattle.grammar.specs.HouseOrder.{GoodSegment, GoodZone, GoodNetwork, in-turn, house-lane, house-segment, house-perimeter, house-spot, house-zone, house-network, house-mission}
 use Rattle.grammar.specs.HouseOrder as H
+use Rattle.grammar.proofs.Written.{each-both}
 use Rattle.text.specs.RndfLines.{rndf-line}
 use Rattle.text.specs.MdfLines.{mdf-line}
 use Rattle.law_spelling.specs.LineOf.{rndf-law-line, mdf-law-line}
@@ -118,8 +119,8 @@ spot-lines m n a = cons refl (part-same ll (H.spot-options m n a) (numbered m n 
 spot-only : (m n : ℕ) (a : Spot) (l : List Line) → Law.SpellsSpot house m n a l → l ≡ map ll (house-spot m n a)
 spot-only m n a l h = h .spelled ∙ ap (λ (o : List Line). parted "spot" m n ∷ o ++ (points m n 1 (a .first ∷ a .second ∷ []) ++ (bare "end_spot" ∷ []))) (only-listed (Law.spot-options m n a) (h .options) (h .given)) ∙ sym (spot-lines m n a)
 
-spot-house : (m n : ℕ) (a : Spot) → GoodSpot a → Law.SpellsSpot house m n a (map ll (house-spot m n a))
-spot-house m n a g = record { options = listed (Law.spot-options m n a); given = as-listed (Law.spot-options m n a); good = g; spelled = spot-lines m n a }
+spot-house : (m n : ℕ) (a : Spot) → GoodSpot a × (1 ≤ length (perhaps (a .checkpoint))) → Law.SpellsSpot house m n a (map ll (house-spot m n a))
+spot-house m n a g = record { options = listed (Law.spot-options m n a); given = as-listed (Law.spot-options m n a); good = g .0; marked = g .1; spelled = spot-lines m n a }
 
 -- ## A zone
 zone-lines : (m : ℕ) (a : Zone Field)
@@ -139,7 +140,7 @@ zone-house m a g = record {
   spots = map ll (in-turn (house-spot m) 1 (a .spots));
   count = g .count;
   bordered = perimeter-house m (a .border) (g .border);
-  each = turn-house ll (Law.SpellsSpot house m) (house-spot m) GoodSpot (spot-house m) 1 (a .spots) (g .spots);
+  each = turn-house ll (Law.SpellsSpot house m) (house-spot m) (λ s. GoodSpot s × (1 ≤ length (perhaps (s .checkpoint)))) (spot-house m) 1 (a .spots) (each-both GoodSpot (λ s. 1 ≤ length (perhaps (s .checkpoint))) (a .spots) (g .spots) (g .marked));
   spelled = zone-lines m a;
 }
 
@@ -187,7 +188,7 @@ network-house-good a l h = record {
   some-segment = h .some-segment;
   count = h .count;
   segments = turn-good (Law.SpellsSegment house) GoodSegment (λ i a u s. record { count = s .count; lanes = turn-good (Law.SpellsLane house i) GoodLane (λ j a u s. lane-good-back a (s .good)) 1 (a .lanes) (s .lanes) (s .each) }) 1 (a .segments) (h .segments) (h .each-segment);
-  zones = turn-good (Law.SpellsZone house) GoodZone (λ i a u s. record { count = s .count; border = perimeter-good-back (a .border) (s .bordered .good); spots = turn-good (Law.SpellsSpot house i) GoodSpot (λ j a u s. s .good) 1 (a .spots) (s .spots) (s .each) }) (suc (length (a .segments))) (a .zones) (h .zones) (h .each-zone);
+  zones = turn-good (Law.SpellsZone house) GoodZone (λ i a u s. record { count = s .count; border = perimeter-good-back (a .border) (s .bordered .good); spots = turn-good (Law.SpellsSpot house i) GoodSpot (λ j a u s. s .good) 1 (a .spots) (s .spots) (s .each); marked = turn-good (Law.SpellsSpot house i) (λ s. 1 ≤ length (perhaps (s .checkpoint))) (λ j a u s. s .marked) 1 (a .spots) (s .spots) (s .each) }) (suc (length (a .segments))) (a .zones) (h .zones) (h .each-zone);
 }
 
 -- ## The mission

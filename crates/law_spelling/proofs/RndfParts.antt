@@ -1,19 +1,24 @@
 -- The statements of a network and the lines of the law are the same, part by part. Assumes nothing.
 use mathlib.Core.Path.{_≡_, refl, sym, ap, _∙_}
 use mathlib.Core.List.{List, [], _∷_, _++_, map}
+use mathlib.Core.Bool.{Bool, true}
 use Prim.Native.Nat.{ℕ, suc}
 use lib.ListN.{length}
 use Rattle.terms.specs.Words.{perhaps}
 use Rattle.line.specs.Content.{Field}
-use Rattle.law.specs.Network.{Line, Position, Lane, Segment, Perimeter, Spot, Zone, Network, AnyOrder, present, points}
+use Rattle.law.specs.Network.{Line, Position, Lane, Segment, Perimeter, Spot, Zone, Network, AnyOrder, Rules, present, points}
 use Rattle.law.specs.Network as Law
 use Rattle.grammar.specs.Statements.{Statement, Kind, lines, say, numbered, part-id, point-id, RNDF-name, num-segments, num-zones, format-version, creation-date, segment, num-lanes, segment-name, end-segment, lane, num-waypoints, lane-width, left-boundary, right-boundary, checkpoint, stop, exit, end-lane, zone, num-spots, zone-name, end-zone, perimeter, num-perimeterpoints, end-perimeter, spot, spot-width, end-spot, end-file}
-use Rattle.grammar.specs.Network.{checkpoint-of, exit-of, SpellsLane, SpellsSegment, SpellsPerimeter, SpellsSpot, SpellsZone, SpellsNetwork}
+use Rattle.grammar.specs.Network.{checkpoint-of, exit-of, SpellsLane, SpellsSegment, SpellsPerimeter, least, SpellsSpotBy, SpellsZoneBy, SpellsNetworkBy, SpellsNetwork}
 use Rattle.text.specs.RndfLines.{rndf-line}
 use Rattle.law_spelling.specs.LineOf.{rndf-law-line}
 use Rattle.law_spelling.proofs.Ranges.{lane-good-to, lane-good-back, perimeter-good-to, perimeter-good-back}
 use Rattle.law_spelling.proofs.Mixing.{map-map, map-twice, part-same, parts-same, cons, turn-to, turn-back}
 use Rattle.law_spelling.proofs.Options.{Values, options, options-to, options-back, only-one, one-only}
+
+-- the rules of the law with L8's and without: `present` and `lenient present`
+abbrev pub rules-by : Bool → Rules
+rules-by strict = record { separates = present .separates; Options = present .Options; spot-checkpoints = least strict }
 
 abbrev Said : Type 0
 Said = List (Statement Field)
@@ -48,9 +53,9 @@ lane-same m n a =
     cons (map-twice (point-id m n) (say stop) ll (a .stops)) (
     cons (map-twice (exit-of m n) (say exit) ll (a .exits)) refl)))))
 
-lane-to : (m n : ℕ) (a : Lane) (l : Said) → SpellsLane m n a l → Law.SpellsLane present m n a (map ll l)
+lane-to : (strict : Bool) (m n : ℕ) (a : Lane) (l : Said) → SpellsLane m n a l → Law.SpellsLane (rules-by strict) m n a (map ll l)
 unfolding rndf-line
-lane-to m n a l h =
+lane-to strict m n a l h =
     let g = h .given in
     record {
       options = map ll (h .options);
@@ -59,9 +64,9 @@ lane-to m n a l h =
       spelled = ap (map ll) (h .spelled) ∙ cons refl (cons refl (part-same ll (h .options) (numbered m n 1 (a .points)) (say end-lane tt ∷ []) refl (points-same m n 1 (a .points))));
     }
 
-lane-back : (m n : ℕ) (a : Lane) (l : List Line) → Law.SpellsLane present m n a l → Back (SpellsLane m n) a l
+lane-back : (strict : Bool) (m n : ℕ) (a : Lane) (l : List Line) → Law.SpellsLane (rules-by strict) m n a l → Back (SpellsLane m n) a l
 unfolding rndf-line
-lane-back m n a l h =
+lane-back strict m n a l h =
     let x = options-back (lines Field) ll lane-kinds (lane-values m n a) (Law.lane-options m n a) (h .options) tt (lane-same m n a) (h .given) in
     let y = x .2 in (
       say lane (part-id m n) ∷ say num-waypoints (length (a .points)) ∷ x .0 ++ (numbered m n 1 (a .points) ++ (say end-lane tt ∷ [])),
@@ -75,41 +80,41 @@ lane-back m n a l h =
     )
 
 -- ## A segment
-segment-to : (m : ℕ) (a : Segment Field) (l : Said) → SpellsSegment m a l → Law.SpellsSegment present m a (map ll l)
+segment-to : (strict : Bool) (m : ℕ) (a : Segment Field) (l : Said) → SpellsSegment m a l → Law.SpellsSegment (rules-by strict) m a (map ll l)
 unfolding rndf-line
-segment-to m a l h =
+segment-to strict m a l h =
     let o : h .options ≡ map (say segment-name) (perhaps (a .name)) = only-one (lines Field) segment-name (perhaps (a .name)) (h .options) (h .given .name) (h .given .no-other) in
     record {
       lanes = map ll (h .lanes);
       count = h .count;
-      each = turn-to ll (SpellsLane m) (Law.SpellsLane present m) (lane-to m) 1 (a .lanes) (h .lanes) (h .each);
+      each = turn-to ll (SpellsLane m) (Law.SpellsLane (rules-by strict) m) (lane-to strict m) 1 (a .lanes) (h .lanes) (h .each);
       spelled = ap (map ll) (h .spelled) ∙ cons refl (cons refl (part-same ll (h .options) (h .lanes) (say end-segment tt ∷ []) (ap (map ll) o ∙ map-map (say segment-name) ll (perhaps (a .name))) refl));
     }
 
-segment-back : (m : ℕ) (a : Segment Field) (l : List Line) → Law.SpellsSegment present m a l → Back (SpellsSegment m) a l
+segment-back : (strict : Bool) (m : ℕ) (a : Segment Field) (l : List Line) → Law.SpellsSegment (rules-by strict) m a l → Back (SpellsSegment m) a l
 unfolding rndf-line
-segment-back m a l h =
+segment-back strict m a l h =
     let os = map (say segment-name) (perhaps (a .name)) in
     let g = one-only (lines Field) segment-name (perhaps (a .name)) in
-    let x = turn-back ll (SpellsLane m) (Law.SpellsLane present m) (lane-back m) 1 (a .lanes) (h .lanes) (h .each) in (
+    let x = turn-back ll (SpellsLane m) (Law.SpellsLane (rules-by strict) m) (lane-back strict m) 1 (a .lanes) (h .lanes) (h .each) in (
       say segment m ∷ say num-lanes (length (a .lanes)) ∷ os ++ (x .0 ++ (say end-segment tt ∷ [])),
       h .spelled ∙ cons refl (cons refl (sym (part-same ll os (x .0) (say end-segment tt ∷ []) (map-map (say segment-name) ll (perhaps (a .name))) (sym (x .1))))),
       record { options = os; lanes = x .0; given = record { name = g .0; no-other = g .1 }; count = h .count; each = x .2; spelled = refl },
     )
 
 -- ## A perimeter
-perimeter-to : (m : ℕ) (a : Perimeter) (l : Said) → SpellsPerimeter m a l → Law.SpellsPerimeter present m a (map ll l)
+perimeter-to : (strict : Bool) (m : ℕ) (a : Perimeter) (l : Said) → SpellsPerimeter m a l → Law.SpellsPerimeter (rules-by strict) m a (map ll l)
 unfolding rndf-line
-perimeter-to m a l h =
+perimeter-to strict m a l h =
     let o : h .options ≡ map (say exit) (map (exit-of m 0) (a .exits)) = only-one (lines Field) exit (map (exit-of m 0) (a .exits)) (h .options) (h .given .exits) (h .given .no-other) in
     record {
       good = perimeter-good-to a (h .good);
       spelled = ap (map ll) (h .spelled) ∙ cons refl (cons refl (part-same ll (h .options) (numbered m 0 1 (a .points)) (say end-perimeter tt ∷ []) (ap (map ll) o ∙ map-twice (exit-of m 0) (say exit) ll (a .exits)) (points-same m 0 1 (a .points))));
     }
 
-perimeter-back : (m : ℕ) (a : Perimeter) (l : List Line) → Law.SpellsPerimeter present m a l → Back (SpellsPerimeter m) a l
+perimeter-back : (strict : Bool) (m : ℕ) (a : Perimeter) (l : List Line) → Law.SpellsPerimeter (rules-by strict) m a l → Back (SpellsPerimeter m) a l
 unfolding rndf-line
-perimeter-back m a l h =
+perimeter-back strict m a l h =
     let os = map (say exit) (map (exit-of m 0) (a .exits)) in
     let g = one-only (lines Field) exit (map (exit-of m 0) (a .exits)) in (
       say perimeter (part-id m 0) ∷ say num-perimeterpoints (length (a .points)) ∷ os ++ (numbered m 0 1 (a .points) ++ (say end-perimeter tt ∷ [])),
@@ -131,47 +136,48 @@ spot-same m n a = cons (map-map (say spot-width) ll (perhaps (a .width))) (cons 
 abbrev ends : Spot → List Position
 ends a = a .first ∷ a .second ∷ []
 
-spot-to : (m n : ℕ) (a : Spot) (l : Said) → SpellsSpot m n a l → Law.SpellsSpot present m n a (map ll l)
+spot-to : (strict : Bool) (m n : ℕ) (a : Spot) (l : Said) → SpellsSpotBy strict m n a l → Law.SpellsSpot (rules-by strict) m n a (map ll l)
 unfolding rndf-line numbered
-spot-to m n a l h =
+spot-to strict m n a l h =
     let g = h .given in
     record {
       options = map ll (h .options);
       given = options-to (lines Field) ll spot-kinds (spot-values m n a) (Law.spot-options m n a) (h .options) tt (spot-same m n a) (g .width, (g .checkpoints, tt)) (g .no-other);
       good = h .good;
+      marked = h .marked;
       spelled = ap (map ll) (h .spelled) ∙ cons refl (part-same ll (h .options) (numbered m n 1 (ends a)) (say end-spot tt ∷ []) refl (points-same m n 1 (ends a)));
     }
 
-spot-back : (m n : ℕ) (a : Spot) (l : List Line) → Law.SpellsSpot present m n a l → Back (SpellsSpot m n) a l
+spot-back : (strict : Bool) (m n : ℕ) (a : Spot) (l : List Line) → Law.SpellsSpot (rules-by strict) m n a l → Back (SpellsSpotBy strict m n) a l
 unfolding rndf-line numbered
-spot-back m n a l h =
+spot-back strict m n a l h =
     let x = options-back (lines Field) ll spot-kinds (spot-values m n a) (Law.spot-options m n a) (h .options) tt (spot-same m n a) (h .given) in (
       say spot (part-id m n) ∷ x .0 ++ (numbered m n 1 (ends a) ++ (say end-spot tt ∷ [])),
       h .spelled ∙ cons refl (sym (part-same ll (x .0) (numbered m n 1 (ends a)) (say end-spot tt ∷ []) (sym (x .1)) (points-same m n 1 (ends a)))),
-      record { options = x .0; given = record { width = x .2 .0; checkpoints = x .2 .1 .0; no-other = x .3 }; good = h .good; spelled = refl },
+      record { options = x .0; given = record { width = x .2 .0; checkpoints = x .2 .1 .0; no-other = x .3 }; good = h .good; marked = h .marked; spelled = refl },
     )
 
 -- ## A zone
-zone-to : (m : ℕ) (a : Zone Field) (l : Said) → SpellsZone m a l → Law.SpellsZone present m a (map ll l)
+zone-to : (strict : Bool) (m : ℕ) (a : Zone Field) (l : Said) → SpellsZoneBy strict m a l → Law.SpellsZone (rules-by strict) m a (map ll l)
 unfolding rndf-line
-zone-to m a l h =
+zone-to strict m a l h =
     let o : h .options ≡ map (say zone-name) (perhaps (a .name)) = only-one (lines Field) zone-name (perhaps (a .name)) (h .options) (h .given .name) (h .given .no-other) in
     record {
       border = map ll (h .border);
       spots = map ll (h .spots);
       count = h .count;
-      bordered = perimeter-to m (a .border) (h .border) (h .bordered);
-      each = turn-to ll (SpellsSpot m) (Law.SpellsSpot present m) (spot-to m) 1 (a .spots) (h .spots) (h .each);
+      bordered = perimeter-to strict m (a .border) (h .border) (h .bordered);
+      each = turn-to ll (SpellsSpotBy strict m) (Law.SpellsSpot (rules-by strict) m) (spot-to strict m) 1 (a .spots) (h .spots) (h .each);
       spelled = ap (map ll) (h .spelled) ∙ cons refl (cons refl (parts-same ll (h .options) (h .border) (h .spots) (say end-zone tt ∷ []) (ap (map ll) o ∙ map-map (say zone-name) ll (perhaps (a .name))) refl refl));
     }
 
-zone-back : (m : ℕ) (a : Zone Field) (l : List Line) → Law.SpellsZone present m a l → Back (SpellsZone m) a l
+zone-back : (strict : Bool) (m : ℕ) (a : Zone Field) (l : List Line) → Law.SpellsZone (rules-by strict) m a l → Back (SpellsZoneBy strict m) a l
 unfolding rndf-line
-zone-back m a l h =
+zone-back strict m a l h =
     let os = map (say zone-name) (perhaps (a .name)) in
     let g = one-only (lines Field) zone-name (perhaps (a .name)) in
-    let b = perimeter-back m (a .border) (h .border) (h .bordered) in
-    let x = turn-back ll (SpellsSpot m) (Law.SpellsSpot present m) (spot-back m) 1 (a .spots) (h .spots) (h .each) in (
+    let b = perimeter-back strict m (a .border) (h .border) (h .bordered) in
+    let x = turn-back ll (SpellsSpotBy strict m) (Law.SpellsSpot (rules-by strict) m) (spot-back strict m) 1 (a .spots) (h .spots) (h .each) in (
       say zone m ∷ say num-spots (length (a .spots)) ∷ os ++ (b .0 ++ (x .0 ++ (say end-zone tt ∷ []))),
       h .spelled ∙ cons refl (cons refl (sym (parts-same ll os (b .0) (x .0) (say end-zone tt ∷ []) (map-map (say zone-name) ll (perhaps (a .name))) (sym (b .1)) (sym (x .1))))),
       record { options = os; border = b .0; spots = x .0; given = record { name = g .0; no-other = g .1 }; count = h .count; bordered = b .2; each = x .2; spelled = refl },
@@ -188,9 +194,9 @@ pub file-same : (a : Network Field) → map (map ll) (options (lines Field) file
 unfolding rndf-line
 file-same a = cons (map-map (say format-version) ll (perhaps (a .version))) (cons (map-map (say creation-date) ll (perhaps (a .date))) refl)
 
-pub network-to : (n : Network Field) (said : List (Statement Field)) → SpellsNetwork n said → Law.SpellsNetwork present n (map rndf-law-line said)
+pub network-to-by : (strict : Bool) (n : Network Field) (said : List (Statement Field)) → SpellsNetworkBy strict n said → Law.SpellsNetwork (rules-by strict) n (map rndf-law-line said)
 unfolding rndf-line
-network-to a l h =
+network-to-by strict a l h =
     let g = h .given in
     record {
       options = map ll (h .options);
@@ -199,17 +205,17 @@ network-to a l h =
       given = options-to (lines Field) ll file-kinds (file-values a) (Law.file-options (a .version) (a .date)) (h .options) tt (file-same a) (g .version, (g .date, tt)) (g .no-other);
       some-segment = h .some-segment;
       count = h .count;
-      each-segment = turn-to ll SpellsSegment (Law.SpellsSegment present) segment-to 1 (a .segments) (h .segments) (h .each-segment);
-      each-zone = turn-to ll SpellsZone (Law.SpellsZone present) zone-to (suc (length (a .segments))) (a .zones) (h .zones) (h .each-zone);
+      each-segment = turn-to ll SpellsSegment (Law.SpellsSegment (rules-by strict)) (segment-to strict) 1 (a .segments) (h .segments) (h .each-segment);
+      each-zone = turn-to ll (SpellsZoneBy strict) (Law.SpellsZone (rules-by strict)) (zone-to strict) (suc (length (a .segments))) (a .zones) (h .zones) (h .each-zone);
       spelled = ap (map ll) (h .spelled) ∙ cons refl (cons refl (cons refl (parts-same ll (h .options) (h .segments) (h .zones) (say end-file tt ∷ []) refl refl refl)));
     }
 
-pub network-back : (n : Network Field) (l : List Line) → Law.SpellsNetwork present n l → (said : List (Statement Field)) × (l ≡ map rndf-law-line said) × SpellsNetwork n said
+pub network-back-by : (strict : Bool) (n : Network Field) (l : List Line) → Law.SpellsNetwork (rules-by strict) n l → (said : List (Statement Field)) × (l ≡ map rndf-law-line said) × SpellsNetworkBy strict n said
 unfolding rndf-line
-network-back a l h =
+network-back-by strict a l h =
     let o = options-back (lines Field) ll file-kinds (file-values a) (Law.file-options (a .version) (a .date)) (h .options) tt (file-same a) (h .given) in
-    let x = turn-back ll SpellsSegment (Law.SpellsSegment present) segment-back 1 (a .segments) (h .segments) (h .each-segment) in
-    let y = turn-back ll SpellsZone (Law.SpellsZone present) zone-back (suc (length (a .segments))) (a .zones) (h .zones) (h .each-zone) in (
+    let x = turn-back ll SpellsSegment (Law.SpellsSegment (rules-by strict)) (segment-back strict) 1 (a .segments) (h .segments) (h .each-segment) in
+    let y = turn-back ll (SpellsZoneBy strict) (Law.SpellsZone (rules-by strict)) (zone-back strict) (suc (length (a .segments))) (a .zones) (h .zones) (h .each-zone) in (
       say RNDF-name (a .name) ∷ say num-segments (length (a .segments)) ∷ say num-zones (length (a .zones)) ∷ o .0 ++ (x .0 ++ (y .0 ++ (say end-file tt ∷ []))),
       h .spelled ∙ cons refl (cons refl (cons refl (sym (parts-same ll (o .0) (x .0) (y .0) (say end-file tt ∷ []) (sym (o .1)) (sym (x .1)) (sym (y .1)))))),
       record {
@@ -224,3 +230,10 @@ network-back a l h =
         spelled = refl;
       },
     )
+
+-- ## With L8's rule
+pub network-to : (n : Network Field) (said : List (Statement Field)) → SpellsNetwork n said → Law.SpellsNetwork present n (map rndf-law-line said)
+network-to = network-to-by true
+
+pub network-back : (n : Network Field) (l : List Line) → Law.SpellsNetwork present n l → (said : List (Statement Field)) × (l ≡ map rndf-law-line said) × SpellsNetwork n said
+network-back = network-back-by true

@@ -24,9 +24,9 @@ use Rattle.grammar.specs.Stands.{stands, ofRow, asDue, given}
 use Rattle.grammar.specs.Machine.{over, inside}
 use Rattle.text.specs.Said.{Said, SpellFields}
 use Rattle.text.specs.Judge.{Vals, readAll, Verdict, fault, good, check, Lexis, kindAt, args, taken, valued, standing, known, tell, told, formed, judge}
-use Rattle.text.specs.Faults.{Fielded, Fault, form, unknown, misplaced, given-again, miscounted, misspelt, forbidden}
+use Rattle.text.specs.Faults.{Fielded, MayStand, Fault, form, unknown, misplaced, given-again, miscounted, misspelt, forbidden, unmarked}
 use Rattle.text.proofs.FieldReading.{said, all-right, all-only}
-use Rattle.text.proofs.Refused.{refused-nine}
+use Rattle.text.proofs.Refused.{nine-or-25}
 use Rattle.text.proofs.Telling.{Lawful, line-is, spelled-args, args-spelled}
 
 failed : {S P : Type 0} (b : Bool) (m n : ℕ) (v : Verdict S P) → check b m v ≡ fault n → ((b ≡ false) × (m ≡ n)) ⊎ ((b ≡ true) × (v ≡ fault n))
@@ -67,7 +67,14 @@ module _ {L : Lang} (A : Machine L) (X : Lexis L) (line-of : (k : L .Kind) → L
         where
           go : (o : Out (Place A)) → step A p (say L k (make k w)) ≡ o → taken A X (say L k (make k w)) o ≡ fault n → Fault A X line-of p a l n
           go (next q′) t e = not-good e
-          go (refuse c′) t e = by 9 n (sym (refused-nine A p k (make k w) c′ s t) ∙ same-fault e) (forbidden (record { fields = h; is = q; here = s }) (make k w) (spelled-args A X line-of W p f fs k q w (all-right (sorts k) (args A X (keyword k) f fs) w r)) (λ q′ u. let z : _≡_ {A = ℕ} 0 1 = cc (t, u) in omega arith))
+          go (refuse c′) t e = refused-so (nine-or-25 A p k (make k w) c′ s t)
+            where
+              spelled : SpellFields (f ∷ fs) (line-of k (make k w))
+              spelled = spelled-args A X line-of W p f fs k q w (all-right (sorts k) (args A X (keyword k) f fs) w r)
+
+              refused-so : (c′ ≡ 9) ⊎ (c′ ≡ 25) → Fault A X line-of p a l n
+              refused-so (inl i) = by 9 n (sym i ∙ same-fault e) (forbidden (record { fields = h; is = q; here = s }) (make k w) spelled (t ∙ ap refuse i))
+              refused-so (inr i) = by 25 n (sym i ∙ same-fault e) (unmarked (record { fields = h; is = q; here = s }) (make k w) spelled (t ∙ ap refuse i))
 
       in-kind : (k : Kind) → kindAt A X p f ≡ some k → (x : Option ℕ) → stands A p k ≡ x
           → standing A X x (check (eqb (length (args A X (keyword k) f fs)) (length (sorts k))) 7 (valued A X p k (readAll (sorts k) (args A X (keyword k) f fs)))) ≡ fault n → Fault A X line-of p a l n
@@ -104,12 +111,11 @@ module _ {L : Lang} (A : Machine L) (X : Lexis L) (line-of : (k : L .Kind) → L
     unfolding judge tell
     passes h = ap (λ (c : Bytes). formed A X p a c (formOf c)) (ended-is (h .ended)) ∙ ap (formed A X p a (h .content)) (content-form (h .content) (h .fields)) ∙ ap (told A X p) (content-body (h .content) (h .fields) (length (h .fields .outer)) (content-form (h .content) (h .fields)))
 
-    refused-9 : (k : Kind) (v : Pay k) → stands A p k ≡ none → ((q : Place A) → step A p (say L k v) ≡ next q → ⊥) → taken A X (say L k v) (step A p (say L k v)) ≡ fault 9
-    refused-9 k v h n = go (step A p (say L k v)) refl
-      where
-        go : (o : Out (Place A)) → step A p (say L k v) ≡ o → taken A X (say L k v) o ≡ fault 9
-        go (next q) e = absurd (n q e)
-        go (refuse c) e = ap fault (refused-nine A p k v c h e)
+    -- a line that spells a statement of a kind that may stand gets what the place says of it
+    valued-so : (k : Kind) (v : Pay k) (f : Field) (fs : List Field) (n : ℕ) → MayStand A X line-of p a l k f fs → SpellFields (f ∷ fs) (line-of k v) → step A p (say L k v) ≡ refuse n → judge A X p a l ≡ fault n
+    valued-so k v f fs n h s e =
+        let x = all-only (sorts k) (args A X (keyword k) f fs) (W .parts k v) (args-spelled A X line-of W p f fs k (h .is) (W .parts k v) (subst (SpellFields (f ∷ fs)) (line-is A X line-of W k v) s)) in
+        passes (h .fields) ∙ rw (h .is, h .here, eq-eqb (length (args A X (keyword k) f fs)) (length (sorts k)) (x .1), x .0, W .made k v, e)
 
     misread : (ss : List _) (fs : List Field) → ((w : Vals ss) → SpellFields fs (said ss w) → ⊥) → readAll ss fs ≡ none
     misread ss fs n = go (readAll ss fs) refl
@@ -132,6 +138,5 @@ module _ {L : Lang} (A : Machine L) (X : Lexis L) (line-of : (k : L .Kind) → L
       eq-eqb (length (args A X (keyword k) f fs)) (length (sorts k)) c,
       misread (sorts k) (args A X (keyword k) f fs) (λ w s. m (make k w) (spelled-args A X line-of W p f fs k (h .is) w s)),
     )
-    fault-only n (forbidden {f = f} {fs = fs} {k = k} h v s m) =
-        let x = all-only (sorts k) (args A X (keyword k) f fs) (W .parts k v) (args-spelled A X line-of W p f fs k (h .is) (W .parts k v) (subst (SpellFields (f ∷ fs)) (line-is A X line-of W k v) s)) in
-        passes (h .fields) ∙ rw (h .is, h .here, eq-eqb (length (args A X (keyword k) f fs)) (length (sorts k)) (x .1), x .0, W .made k v) (refused-9 k v (h .here) m)
+    fault-only n (forbidden {f = f} {fs = fs} {k = k} h v s e) = valued-so k v f fs 9 h s e
+    fault-only n (unmarked {f = f} {fs = fs} {k = k} h v s e) = valued-so k v f fs 25 h s e

@@ -2,7 +2,7 @@
 use mathlib.Core.Path.{_≡_, refl, sym, _∙_}
 use mathlib.Core.List.{List, [], _∷_, _++_}
 use mathlib.Core.Option.{Option, none, some}
-use mathlib.Core.Bool.{true}
+use mathlib.Core.Bool.{Bool, true}
 use Prim.Native.Nat.{ℕ, zero, suc, _≤_, _<_}
 use native.Mathlib.Omega.{arith}
 use lib.ListN.{length, getD}
@@ -28,7 +28,7 @@ use Rattle.text.specs.Judge.{Vals}
 use Rattle.text.specs.MdfWords.{word-at, mdf-sorts, mdf-make, mdf-lexis}
 use Rattle.text.proofs.FieldReading.{said}
 use Rattle.text.proofs.Telling.{in-front, worded, Lawful}
-use Rattle.text.proofs.TextReading.{Leaves}
+use Rattle.text.proofs.TextReading.{Leaves, Prepared, prepared}
 use Rattle.text.proofs.HouseLines.{short-field}
 use Rattle.text.proofs.KeywordRows.{Rowed, lookup-right, lookup-only, no-digit}
 use Rattle.text.proofs.Leaving.{x, by-name, By}
@@ -148,3 +148,6 @@ keeps b y v t = go (due Field b .then v)
     go : (o : Option Base) → GoodNext (mdf Field) (Net.Good Field) o
     go none = tt
     go (some c) = tt
+
+pub readied : (b : Base) → Net.Good Field b → (g : List Bool) (a : ℕ) → Prepared (mdf Field) mdf-line b g a
+readied b y g a = prepared (mdf Field) mdf-line b g a refl

@@ -1,8 +1,9 @@
--- A statement whose kind may stand is refused with 9 only. For every file. Assumes nothing.
+-- A statement whose kind may stand is refused with 9 or 25 only. For every file. Assumes nothing.
 use mathlib.Core.Path.{_≡_, refl, sym, ap, _∙_}
 use mathlib.Core.List.{List, [], _∷_}
 use mathlib.Core.Option.{Option, none, some}
 use mathlib.Core.Bool.{Bool, true, false, _&&_}
+use mathlib.Core.Logic.{_⊎_, inl, inr}
 use Prim.Native.Nat.{ℕ}
 use native.Mathlib.Omega.{arith}
 use borrow.Author.Tests.{eqb-true, eqb-false}
@@ -51,22 +52,24 @@ module _ {L : Lang} (A : Machine L) where
   numbered over s = refl
   numbered (inside b g) s = go (optAt L (opts b) g s) (by-row (opts b) g s)
     where
-      guarded : (t : Bool) (q : Place A) → NumberedOut (guard t 9 (next q))
-      guarded true q = tt
-      guarded false q = refl
+      guarded : (t r : Bool) (q : Place A) → NumberedOut (guard t 9 (guard r 25 (next q)))
+      guarded true true q = tt
+      guarded true false q = refl
+      guarded false r q = refl
 
-      hits : (x : Option (Pay (due b .on))) → NumberedOut (hit A b x)
-      hits (some v) = guarded (due b .test v) (enter A (due b .then v))
+      hits : (x : Option (Pay (due b .on))) → NumberedOut (hit A b g x)
+      hits (some v) = guarded (due b .test v) (A .ready b g) (enter A (due b .then v))
       hits none = refl
 
-      go : (v : Verdict) → Numbered v → NumberedOut (settle A b v s)
+      go : (v : Verdict) → Numbered v → NumberedOut (settle A b g v s)
       go other h = hits (asKind L (due b .on) s)
       go (bad c) h = h
-      go (good g) h = tt
+      go (good g′) h = tt
 
-  pub refused-nine : (p : Place A) (k : Kind) (v : Pay k) (c : ℕ) → stands A p k ≡ none → step A p (say L k v) ≡ refuse c → c ≡ 9
-  refused-nine p k v c s e = go (eqb c 9) refl (sym (ap early e) ∙ early-stands A p k v ∙ ap numberOf s) (rw e at (numbered p (say L k v)))
+  pub nine-or-25 : (p : Place A) (k : Kind) (v : Pay k) (c : ℕ) → stands A p k ≡ none → step A p (say L k v) ≡ refuse c → (c ≡ 9) ⊎ (c ≡ 25)
+  nine-or-25 p k v c s e = go (eqb c 9) (eqb c 25) refl refl (sym (ap early e) ∙ early-stands A p k v ∙ ap numberOf s) (rw e at (numbered p (say L k v)))
     where
-      go : (b : Bool) → eqb c 9 ≡ b → pick b 0 c ≡ 0 → eqb c 0 ≡ false → c ≡ 9
-      go true q z n = eqb-true c 9 q
-      go false q z n = absurd (eqb-false c 0 n z)
+      go : (b d : Bool) → eqb c 9 ≡ b → eqb c 25 ≡ d → pick b 0 (pick d 0 c) ≡ 0 → eqb c 0 ≡ false → (c ≡ 9) ⊎ (c ≡ 25)
+      go true d q r z n = inl (eqb-true c 9 q)
+      go false true q r z n = inr (eqb-true c 25 r)
+      go false false q r z n = absurd (eqb-false c 0 n z)

@@ -2,7 +2,7 @@
 use mathlib.Core.Path.{_≡_, refl, sym, ap, subst, _∙_}
 use mathlib.Core.List.{List, [], _∷_, _++_}
 use mathlib.Core.Option.{none}
-use mathlib.Core.Bool.{true}
+use mathlib.Core.Bool.{Bool, true, false}
 use Prim.Native.Nat.{ℕ, zero, suc, _+_, _≤_, _<_}
 use native.Mathlib.Omega.{arith}
 use lib.ListN.{length, getD}
@@ -17,6 +17,7 @@ use Rattle.word.specs.Number.{digit-first}
 use Rattle.word.proofs.Keywords.{rndf-length, rndf-differ, rndf-word-field, rndf-word-no-digit}
 use Rattle.grammar.specs.Statements.{Kind, Says, lines, RNDF-name, num-segments, num-zones, format-version, creation-date, segment, num-lanes, segment-name, end-segment, lane, num-waypoints, lane-width, left-boundary, right-boundary, checkpoint, stop, exit, end-lane, zone, num-spots, zone-name, end-zone, perimeter, num-perimeterpoints, end-perimeter, spot, spot-width, end-spot, end-file, point}
 use Rattle.grammar.specs.Forms.{tested}
+use Rattle.grammar.specs.Machine.{run}
 use Rattle.grammar.specs.Permitted.{counted, upto, atMost}
 use Rattle.grammar.specs.Places.{rndf, Base, opts, due, name-due, num-segments-due, num-zones-due, first-segment-due, part-due, num-lanes-due, first-lane-due, lane-due, num-waypoints-due, first-waypoint-due, waypoint-due, num-spots-due, perimeter-due, num-perimeterpoints-due, first-perimeterpoint-due, perimeterpoint-due, spot-due, first-of-spot-due, second-of-spot-due, end-spot-due}
 use Rattle.grammar.specs.PlaceRows.{kinds, kind-row}
@@ -26,13 +27,14 @@ use Rattle.grammar.proofs.RndfTable.{coded, short}
 use Rattle.grammar.proofs.NetworkReading as Net
 use Rattle.text.specs.Said.{SpellFields}
 use Rattle.text.specs.RndfLines.{rndf-line}
-use Rattle.text.specs.HouseLine.{house-field}
+use Rattle.text.specs.Spelling.{done, statement}
+use Rattle.text.specs.HouseLine.{house-field, house-line}
 use Rattle.text.specs.Judge.{Vals}
 use Rattle.text.specs.RndfWords.{word-at, rndf-sorts, rndf-make, rndf-lexis}
 use Rattle.text.proofs.FieldReading.{said}
 use Rattle.text.proofs.Telling.{in-front, worded, Lawful}
-use Rattle.text.proofs.TextReading.{Leaves}
-use Rattle.text.proofs.HouseLines.{short-field}
+use Rattle.text.proofs.TextReading.{Leaves, Prepared, prepared}
+use Rattle.text.proofs.HouseLines.{short-field, house-says}
 use Rattle.text.proofs.KeywordRows.{no-row, Rowed, lookup-right, lookup-only, no-digit}
 use Rattle.text.proofs.Leaving.{x, by-name, By}
 use Rattle.text.proofs.Leaving as Leaving
@@ -240,8 +242,8 @@ pub kw : (i : ℕ) → i < 29 → IsField (getD rndf-keywords i []) × (length (
 kw i h = short-field (getD rndf-keywords i []) (rndf-word-field i h)
 
 -- the house line of the sample that the grammar has for a base
-by : (b : Base) (g : Net.Good Field b) → By (rndf Field) rndf-line (Net.Good Field) (Net.cost Field) (Net.goes-on Field (at 0 x)) b g
-by = Leaving.by (rndf Field) rndf-line (Net.Good Field) (Net.cost Field) (Net.goes-on Field (at 0 x))
+by : (b : Base) (g : Net.Good Field b) → By (rndf Field) rndf-line (Net.Good Field) (Net.cost Field) (Net.goes-on true Field (at 0 x)) b g
+by = Leaving.by (rndf Field) rndf-line (Net.Good Field) (Net.cost Field) (Net.goes-on true Field (at 0 x))
 
 pub leaves : (b : Base) → Bounded b → Leaves (rndf Field) rndf-line (Net.cost Field) b
 unfolding rndf-line rndf-keywords Net.goes-on house-field
@@ -271,3 +273,39 @@ leaves (spot-due m z n (suc s)) y = by (spot-due m z n (suc s)) tt (kw 25 (omega
 leaves (first-of-spot-due m z n s) y = by (first-of-spot-due m z n s) tt ((omega arith, omega arith, omega arith), (omega arith, (omega arith, tt))) (omega arith) (λ a. refl)
 leaves (second-of-spot-due m z n s) y = by (second-of-spot-due m z n s) tt ((omega arith, omega arith, omega arith), (omega arith, (omega arith, tt))) (omega arith) (λ a. refl)
 leaves (end-spot-due m z n s) y = by (end-spot-due m z n s) tt (kw 27 (omega arith), tt) (omega arith) (λ a. refl)
+
+-- ## A bare spot is made ready by the line of a checkpoint
+spot-readied : (m z n s : ℕ) → Bounded (first-of-spot-due m z n s) → (g : List Bool) (a : ℕ) → Prepared (rndf Field) rndf-line (first-of-spot-due m z n s) g a
+unfolding run rndf-line rndf-keywords
+spot-readied m z n s y [] a = prepared (rndf Field) rndf-line (first-of-spot-due m z n s) [] a refl
+spot-readied m z n s y (f ∷ []) a = prepared (rndf Field) rndf-line (first-of-spot-due m z n s) (f ∷ []) a refl
+spot-readied m z n s y (f ∷ true ∷ g) a = prepared (rndf Field) rndf-line (first-of-spot-due m z n s) (f ∷ true ∷ g) a refl
+spot-readied m z n s y (f ∷ false ∷ g) a =
+    let v = Net.mark Field m n .val in
+    record {
+      lines = house-line (rndf-line checkpoint v) ∷ [];
+      ready = record { os = Net.mark Field m n ∷ []; flags = f ∷ true ∷ g; goes = rw (Net.mark-taken Field m z n s f g) refl; now = tt };
+      said = statement (house-says rndf-line a checkpoint v v (kw 14 (omega arith), ((omega arith, omega arith, omega arith), (omega arith, tt))) (omega arith) refl) done;
+    }
+
+pub readied : (b : Base) → Bounded b → (g : List Bool) (a : ℕ) → Prepared (rndf Field) rndf-line b g a
+readied name-due y g a = prepared (rndf Field) rndf-line name-due g a refl
+readied num-segments-due y g a = prepared (rndf Field) rndf-line num-segments-due g a refl
+readied (num-zones-due o) y g a = prepared (rndf Field) rndf-line (num-zones-due o) g a refl
+readied (first-segment-due o z) y g a = prepared (rndf Field) rndf-line (first-segment-due o z) g a refl
+readied (part-due m o z) y g a = prepared (rndf Field) rndf-line (part-due m o z) g a refl
+readied (num-lanes-due m o z) y g a = prepared (rndf Field) rndf-line (num-lanes-due m o z) g a refl
+readied (first-lane-due m o z l) y g a = prepared (rndf Field) rndf-line (first-lane-due m o z l) g a refl
+readied (lane-due m o z n l) y g a = prepared (rndf Field) rndf-line (lane-due m o z n l) g a refl
+readied (num-waypoints-due m o z n l) y g a = prepared (rndf Field) rndf-line (num-waypoints-due m o z n l) g a refl
+readied (first-waypoint-due m o z n l w) y g a = prepared (rndf Field) rndf-line (first-waypoint-due m o z n l w) g a refl
+readied (waypoint-due m o z n l k w) y g a = prepared (rndf Field) rndf-line (waypoint-due m o z n l k w) g a refl
+readied (num-spots-due m z) y g a = prepared (rndf Field) rndf-line (num-spots-due m z) g a refl
+readied (perimeter-due m z s) y g a = prepared (rndf Field) rndf-line (perimeter-due m z s) g a refl
+readied (num-perimeterpoints-due m z s) y g a = prepared (rndf Field) rndf-line (num-perimeterpoints-due m z s) g a refl
+readied (first-perimeterpoint-due m z s p) y g a = prepared (rndf Field) rndf-line (first-perimeterpoint-due m z s p) g a refl
+readied (perimeterpoint-due m z s k p) y g a = prepared (rndf Field) rndf-line (perimeterpoint-due m z s k p) g a refl
+readied (spot-due m z n s) y g a = prepared (rndf Field) rndf-line (spot-due m z n s) g a refl
+readied (first-of-spot-due m z n s) y g a = spot-readied m z n s y g a
+readied (second-of-spot-due m z n s) y g a = prepared (rndf Field) rndf-line (second-of-spot-due m z n s) g a refl
+readied (end-spot-due m z n s) y g a = prepared (rndf Field) rndf-line (end-spot-due m z n s) g a refl

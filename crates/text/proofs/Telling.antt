@@ -15,7 +15,7 @@ use Rattle.terms.specs.Words.{pick}
 use Rattle.line.specs.Content.{Field}
 use Rattle.word.specs.Number.{digit-first}
 use Rattle.grammar.specs.Language.{Lang, S, say}
-use Rattle.grammar.specs.Machine.{Out, next, refuse, Opt, Machine, over, inside, Place, step}
+use Rattle.grammar.specs.Machine.{Out, next, refuse, Opt, Machine, lenient, over, inside, Place, step}
 use Rattle.grammar.specs.Stands.{given, asDue, ofRow, stands}
 use Rattle.grammar.proofs.StandLaws.{stands-all}
 use Rattle.text.specs.Said.{Said, word, SpellFields}
@@ -49,6 +49,10 @@ pub record Lawful {L : Lang} (A : Machine L) (X : Lexis L) (line-of : (k : L .Ki
   pub no-digit : (w : Bytes) (k : L .Kind) → X .keyword k ≡ some w → digit-first w ≡ false
   pub digit : (k : L .Kind) → X .keyword k ≡ none → (fs : List Field) (v : Vals (X .sorts k)) → SpellFields fs (said (X .sorts k) v) → (f : Field) × (gs : List Field) × (fs ≡ f ∷ gs) × (digit-first (f .bytes) ≡ true)
   pub options : (b : A .Base) → T (worded L (X .keyword) (A .opts b))
+
+-- it holds as well where no option has to be given
+pub lenient-lawful : {L : Lang} {A : Machine L} {X : Lexis L} {line-of : (k : L .Kind) → L .Pay k → List Said} → Lawful A X line-of → Lawful (lenient A) X line-of
+lenient-lawful W = record { parts = W .parts; made = W .made; line-made = W .line-made; lookup-right = W .lookup-right; lookup-only = W .lookup-only; no-digit = W .no-digit; digit = W .digit; options = W .options }
 
 module _ {L : Lang} (A : Machine L) (X : Lexis L) (line-of : (k : L .Kind) → L .Pay k → List Said) (W : Lawful A X line-of) where
   open Lang L using (Kind, Pay, disc)

@@ -17,7 +17,7 @@ use Rattle.line.proofs.Cuts.{cut, cut-one, cut-written}
 use Rattle.grammar.specs.Language.{Lang, S, say}
 use Rattle.grammar.specs.Machine.{Out, next, refuse, Machine, over, inside, andThen, Place, at, enter, step, run, Accepts}
 use Rattle.grammar.proofs.Keeping.{GoodNext, GoodOut, run-good}
-use Rattle.grammar.proofs.MachineLaws.{Cheaper, refused, run-nil}
+use Rattle.grammar.proofs.MachineLaws.{Cheaper, Readied, refused, run-nil}
 use Rattle.grammar.proofs.MachineLaws as Ml
 use Rattle.grammar.proofs.StandLaws.{step-due}
 use Rattle.text.specs.Said.{Said}
@@ -183,6 +183,15 @@ pub record Leaves {L : Lang} (A : Machine L) (line-of : (k : L .Kind) → L .Pay
   pub ok : (a : ℕ) → T (A .due b .test (v a))
   pub less : (a : ℕ) → Cheaper cost (cost b) (A .due b .then (v a))
 
+-- lines of options by which a base is made ready for it, from this place of the text on
+pub record Prepared {L : Lang} (A : Machine L) (line-of : (k : L .Kind) → L .Pay k → List Said) (b : A .Base) (g : List Bool) (a : ℕ) : Type 0 where
+  pub lines : List Bytes
+  pub ready : Readied A b g
+  pub said : SpellsLines line-of a lines (ready .os)
+
+pub prepared : {L : Lang} (A : Machine L) (line-of : (k : L .Kind) → L .Pay k → List Said) (b : A .Base) (g : List Bool) (a : ℕ) → A .ready b g ≡ true → Prepared A line-of b g a
+prepared A line-of b g a e = record { lines = []; ready = record { os = []; flags = g; goes = run-nil A (inside b g); now = subst T (sym e) tt }; said = done }
+
 pub record File {L : Lang} (A : Machine L) (X : Lexis L) (line-of : (k : L .Kind) → L .Pay k → List Said) {Net : Type 0} (Spells : Net → List (S L) → Type 0) (first : A .Base) : Type 1 where
   pub lawful : Lawful A X line-of
   pub complete : (n : Net) (l : List (S L)) → Spells n l → Accepts A (at A first) l
@@ -193,6 +202,7 @@ pub record File {L : Lang} (A : Machine L) (X : Lexis L) (line-of : (k : L .Kind
   pub good-first : Good first
   pub keeps : (b : A .Base) → Good b → (v : L .Pay (A .due b .on)) → T (A .due b .test v) → GoodNext A Good (A .due b .then v)
   pub leaves : (b : A .Base) → Good b → Leaves A line-of cost b
+  pub readied : (b : A .Base) → Good b → (g : List Bool) (a : ℕ) → Prepared A line-of b g a
 
 module _ {L : Lang} (A : Machine L) (X : Lexis L) (line-of : (k : L .Kind) → L .Pay k → List Said) {Net : Type 0} (Spells : Net → List (S L) → Type 0) (first : A .Base) (F : File A X line-of Spells first) where
   abbrev W : Lawful A X line-of
@@ -202,17 +212,26 @@ module _ {L : Lang} (A : Machine L) (X : Lexis L) (line-of : (k : L .Kind) → L
   Spelled = SpellsText line-of Spells
 
   -- ## Every place that is reached can be left
-  finish : (n : ℕ) (b : A .Base) (g : List Bool) → F .Good b → F .cost b < n → (a : ℕ) → (rs : List Bytes) × (us : List (S L)) × SpellsLines line-of a rs us × (run A (inside b g) us ≡ next over)
+  abbrev Finished : Place A → ℕ → Type 0
+  Finished p a = (rs : List Bytes) × (us : List (S L)) × SpellsLines line-of a rs us × (run A p us ≡ next over)
+
+  finish : (n : ℕ) (b : A .Base) (g : List Bool) → F .Good b → F .cost b < n → (a : ℕ) → Finished (inside b g) a
   finish zero b g y h a = absurd (omega arith)
   finish (suc n) b g y h a =
+      let w = F .readied b y g a in
       let x = F .leaves b y in
-      go (A .due b .then (x .v a)) (x .less a) (F .keeps b y (x .v a) (x .ok a)) (x .line) (x .said a) (step-due A b g (x .v a) (x .ok a)) (λ c y h. finish n c (Rattle.grammar.specs.Machine.clear L (A .opts c)) y h (a + suc (length (x .line))))
+      let d = a + size A X line-of W (w .lines) in
+      behind w (go (w .ready .flags) d (A .due b .then (x .v d)) (x .less d) (F .keeps b y (x .v d) (x .ok d)) (x .line) (x .said d) (step-due A b (w .ready .flags) (x .v d) (x .ok d) (w .ready .now))
+      (λ c y h. finish n c (Rattle.grammar.specs.Machine.clear L (A .opts c)) y h (d + suc (length (x .line)))))
     where
-      go : {s : S L} (o : Option (A .Base)) → Cheaper (F .cost) (F .cost b) o → GoodNext A (F .Good) o → (line : Bytes) → SpellsLine line-of a line (some s) → step A (inside b g) s ≡ next (enter A o)
-          → ((c : A .Base) → F .Good c → F .cost c < n → (rs : List Bytes) × (us : List (S L)) × SpellsLines line-of (a + suc (length line)) rs us × (run A (at A c) us ≡ next over))
-          → (rs : List Bytes) × (us : List (S L)) × SpellsLines line-of a rs us × (run A (inside b g) us ≡ next over)
-      go {s} none l y line sp e ih = (line ∷ [], s ∷ [], statement sp done, run-join A X line-of W (inside b g) over (some s) [] e ∙ run-nil A over)
-      go {s} (some c) l y line sp e ih =
+      -- the options first
+      behind : (w : Prepared A line-of b g a) → Finished (inside b (w .ready .flags)) (a + size A X line-of W (w .lines)) → Finished (inside b g) a
+      behind w f = (w .lines ++ f .0, w .ready .os ++ f .1, say-append A X line-of W (w .said) (f .2), run-append A X line-of W (inside b g) (w .ready .os) (f .1) (inside b (w .ready .flags)) (w .ready .goes) ∙ f .3)
+
+      go : (g : List Bool) (a : ℕ) {s : S L} (o : Option (A .Base)) → Cheaper (F .cost) (F .cost b) o → GoodNext A (F .Good) o → (line : Bytes) → SpellsLine line-of a line (some s) → step A (inside b g) s ≡ next (enter A o)
+          → ((c : A .Base) → F .Good c → F .cost c < n → Finished (at A c) (a + suc (length line))) → Finished (inside b g) a
+      go g a {s} none l y line sp e ih = (line ∷ [], s ∷ [], statement sp done, run-join A X line-of W (inside b g) over (some s) [] e ∙ run-nil A over)
+      go g a {s} (some c) l y line sp e ih =
           let z = ih c y (omega arith) in
           (line ∷ z .0, s ∷ z .1, statement sp (z .2), run-join A X line-of W (inside b g) (at A c) (some s) (z .1) e ∙ z .3)
 

@@ -1,6 +1,7 @@
 -- THE THEOREMS of texts, for the RNDF and for the MDF, from one development (TextReading). Assumes nothing.
-use mathlib.Core.Path.{_≡_, sym, ap, _∙_}
+use mathlib.Core.Path.{_≡_, refl, sym, ap, _∙_}
 use mathlib.Core.List.{List, [], _∷_, _++_}
+use mathlib.Core.Bool.{false}
 use Prim.Native.Nat.{ℕ, suc}
 use lib.ListN.{length}
 use Rattle.terms.specs.Ascii.{Bytes}
@@ -8,7 +9,8 @@ use Rattle.line.specs.Content.{Field}
 use Rattle.line.specs.Lines.{linesOf}
 use Rattle.grammar.specs.Statements as Rndf
 use Rattle.grammar.specs.MissionStatements as Mdf
-use Rattle.grammar.specs.Network.{Network, SpellsNetwork}
+use Rattle.grammar.specs.Machine.{lenient}
+use Rattle.grammar.specs.Network.{Network, SpellsNetworkBy, SpellsNetwork}
 use Rattle.grammar.specs.Mission.{Mission, SpellsMission}
 use Rattle.grammar.specs.Names.{network-named, mission-named}
 use Rattle.grammar.specs.Places.{rndf, name-due}
@@ -16,7 +18,7 @@ use Rattle.grammar.specs.MissionPlaces.{mdf}
 use Rattle.grammar.specs.MissionPlaces as Mdf-at
 use Rattle.grammar.proofs.NetworkReading as Net
 use Rattle.grammar.proofs.MissionReading as Mis
-use Rattle.grammar.proofs.Theorems.{network-complete, network-sound, network-unique, mission-complete, mission-sound, mission-unique}
+use Rattle.grammar.proofs.Theorems.{network-complete-by, network-sound-by, network-unique-by, network-complete, network-sound, network-unique, mission-complete, mission-sound, mission-unique}
 use Rattle.text.specs.RndfLines.{rndf-line}
 use Rattle.text.specs.MdfLines.{mdf-line}
 use Rattle.text.specs.Spelling.{SpellsRndf, SpellsMdf, Name, bytes-of, MeansNetwork, MeansMission}
@@ -24,7 +26,8 @@ use Rattle.text.specs.Refusals.{Begin, Hopeless}
 use Rattle.text.specs.Answers.{Answer, faulty, short, read, readText}
 use Rattle.text.specs.RndfWords.{rndf-lexis}
 use Rattle.text.specs.MdfWords.{mdf-lexis}
-use Rattle.text.proofs.TextReading.{File, Means}
+use Rattle.text.proofs.Telling.{lenient-lawful}
+use Rattle.text.proofs.TextReading.{File, prepared, Means}
 use Rattle.text.proofs.TextReading as T
 use Rattle.text.proofs.RndfText as R
 use Rattle.text.proofs.MdfText as M
@@ -34,7 +37,22 @@ abbrev pub read-rndf : Bytes → Answer (Rndf.Statement Field)
 read-rndf = readText (rndf Field) rndf-lexis name-due
 
 pub rndf-file : File (rndf Field) rndf-lexis rndf-line SpellsNetwork name-due
-rndf-file = record { lawful = R.rndf-lawful; complete = network-complete; sound = network-sound; unique = network-unique; Good = R.Bounded; cost = Net.cost Field; good-first = tt; keeps = R.keeps; leaves = R.leaves }
+rndf-file = record { lawful = R.rndf-lawful; complete = network-complete; sound = network-sound; unique = network-unique; Good = R.Bounded; cost = Net.cost Field; good-first = tt; keeps = R.keeps; leaves = R.leaves; readied = R.readied }
+
+-- the same without L8's rule
+pub rndf-lenient-file : File (lenient (rndf Field)) rndf-lexis rndf-line (SpellsNetworkBy false) name-due
+rndf-lenient-file = record {
+  lawful = lenient-lawful R.rndf-lawful;
+  complete = network-complete-by false;
+  sound = network-sound-by false;
+  unique = network-unique-by false;
+  Good = R.Bounded;
+  cost = Net.cost Field;
+  good-first = tt;
+  keeps = R.keeps;
+  leaves = λ b y. let l = R.leaves b y in record { v = l .v; line = l .line; said = l .said; ok = l .ok; less = l .less };
+  readied = λ b y g a. prepared (lenient (rndf Field)) rndf-line b g a refl;
+}
 
 -- what is answered of a text: faulty, the line is the first with a fault (its number is the judge's), the lines before it begin some well-formed text, and none begins with them and it;
 -- short, lines + 1, every line is good, so the text begins some well-formed text, and is none; read, the text spells a network, by these statements
@@ -61,7 +79,7 @@ abbrev pub read-mdf : Bytes → Answer (Mdf.Statement Field)
 read-mdf = readText (mdf Field) mdf-lexis Mdf-at.name-due
 
 pub mdf-file : File (mdf Field) mdf-lexis mdf-line SpellsMission Mdf-at.name-due
-mdf-file = record { lawful = M.mdf-lawful; complete = mission-complete; sound = mission-sound; unique = mission-unique; Good = Mis.Good Field; cost = Mis.cost Field; good-first = tt; keeps = M.keeps; leaves = M.leaves }
+mdf-file = record { lawful = M.mdf-lawful; complete = mission-complete; sound = mission-sound; unique = mission-unique; Good = Mis.Good Field; cost = Mis.cost Field; good-first = tt; keeps = M.keeps; leaves = M.leaves; readied = M.readied }
 
 pub mdf-means : (t : Bytes) → Means (mdf Field) mdf-lexis mdf-line SpellsMission Mdf-at.name-due mdf-file t (read-mdf t)
 mdf-means = T.means (mdf Field) mdf-lexis mdf-line SpellsMission Mdf-at.name-due mdf-file

@@ -1,4 +1,4 @@
--- What is wrong with a line at a place: one definition for each number 2 to 9, none of which holds where a lower one does. Document 01, "Refusal numbers". Assumes nothing.
+-- What is wrong with a line at a place: one definition for each number 2 to 9 and 25, none of which holds where a lower one does. Document 01, "Refusal numbers". Assumes nothing.
 use mathlib.Core.Path.{_≡_}
 use mathlib.Core.List.{List, _∷_}
 use mathlib.Core.Option.{Option, none, some}
@@ -9,7 +9,7 @@ use Rattle.line.specs.Text.{Ended}
 use Rattle.line.specs.Content.{Field, Content}
 use Rattle.line.specs.Faults.{FormFault}
 use Rattle.grammar.specs.Language.{Lang, say}
-use Rattle.grammar.specs.Machine.{Machine, Place, next, step}
+use Rattle.grammar.specs.Machine.{Machine, Place, refuse, step}
 use Rattle.grammar.specs.Stands.{stands}
 use Rattle.text.specs.Said.{Said, SpellFields}
 use Rattle.text.specs.Judge.{Lexis, kindAt, args}
@@ -40,4 +40,6 @@ module _ {L : Lang} (A : Machine L) (X : Lexis L) (line-of : (k : L .Kind) → L
     -- 01: 8 "field not of its kind (spelling, name length, boundary word)"
     misspelt : {f : Field} {fs : List Field} {k : L .Kind} → MayStand p start line k f fs → length (args A X (X .keyword k) f fs) ≡ length (X .sorts k) → ((v : L .Pay k) → SpellFields (f ∷ fs) (line-of k v) → ⊥) → Fault p start line 8
     -- 01: 9 "value not permitted here"
-    forbidden : {f : Field} {fs : List Field} {k : L .Kind} → MayStand p start line k f fs → (v : L .Pay k) → SpellFields (f ∷ fs) (line-of k v) → ((q : Place A) → step A p (say L k v) ≡ next q → ⊥) → Fault p start line 9
+    forbidden : {f : Field} {fs : List Field} {k : L .Kind} → MayStand p start line k f fs → (v : L .Pay k) → SpellFields (f ∷ fs) (line-of k v) → step A p (say L k v) ≡ refuse 9 → Fault p start line 9
+    -- L8: 25 "at a first waypoint that has no fault of 2 to 9"
+    unmarked : {f : Field} {fs : List Field} {k : L .Kind} → MayStand p start line k f fs → (v : L .Pay k) → SpellFields (f ∷ fs) (line-of k v) → step A p (say L k v) ≡ refuse 25 → Fault p start line 25

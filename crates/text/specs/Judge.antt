@@ -1,4 +1,4 @@
--- Executable: what a line gets at a place, in document 01's order of faults: 2, 3, 4; 5, 6; 7; 8 over every field; 9. For every file. Assumes nothing.
+-- Executable: what a line gets at a place, in document 01's order of faults: 2, 3, 4; 5, 6; 7; 8 over every field; 9; then 25. For every file. Assumes nothing.
 use mathlib.Core.Path.{_≡_}
 use mathlib.Core.List.{List, [], _∷_, _++_}
 use mathlib.Core.Option.{Option, none, some}
@@ -132,7 +132,7 @@ module _ {L : Lang} (A : Machine L) (X : Lexis L) where
   args (some w) f fs = fs
   args none f fs = f ∷ fs
 
-  -- the number that the place refuses it with: where its kind may stand, 9
+  -- the number that the place refuses it with: where its kind may stand, 9 or 25
   abbrev pub taken : S L → Out (Place A) → Got
   taken s (next q) = good (some s) q
   taken s (refuse c) = fault c
