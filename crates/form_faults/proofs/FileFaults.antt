@@ -12,7 +12,8 @@ use Rattle.line.specs.Text.{Cut}
 use Rattle.line.specs.Faults.{FormFault, long, comment, byte}
 use Rattle.line.specs.Lines.{linesOf}
 use Rattle.line.proofs.Cuts.{cut, cut-is}
-use Rattle.grammar.specs.Language.{Lang, S}
+use Rattle.grammar.specs.Language.{Lang, S, say}
+use Rattle.grammar.specs.Stands.{stands}
 use Rattle.grammar.specs.Machine.{Out, next, refuse, Machine, over, inside, andThen, Place, at, step, run}
 use Rattle.grammar.proofs.MachineLaws.{refused}
 use Rattle.text.specs.Said.{Said}
@@ -20,7 +21,7 @@ use Rattle.text.specs.Spelling.{SpellsLine, SpellsLines, done, blank-line, stat
 use Rattle.text.specs.Refusals.{Begin, Hopeless}
 use Rattle.text.specs.Judge.{Lexis, judge, fault}
 use Rattle.text.specs.Answers.{Walk, stopped, through, Answer, faulty, short, read, walk, answer, readText}
-use Rattle.text.specs.Faults.{Fault, form, unknown, misplaced, given-again, miscounted, misspelt, forbidden}
+use Rattle.text.specs.Faults.{Fault, form, unknown, misplaced, given-again, miscounted, misspelt, forbidden, unmarked}
 use Rattle.text.proofs.Telling.{Lawful}
 use Rattle.text.proofs.LineJudging.{good-only}
 use Rattle.text.proofs.FaultLaws.{fault-right, fault-only}
@@ -128,23 +129,44 @@ module _ {L : Lang} (A : Machine L) (X : Lexis L) (line-of : (k : L .Kind) → L
       let y : 1 + length (b .before) ≡ i = omega arith in
       rw (cut-is (b .cut), s, y)
 
-  -- the number is one of 2 to 9
-  pub two-to-nine : (text : Bytes) (i n : ℕ) → Bad text i n → (2 ≤ n) × (n ≤ 9)
-  two-to-nine text i n b = go n (b .fault)
+  -- the number is one of 2 to 9, or 25
+  pub two-to-nine-or-25 : (text : Bytes) (i n : ℕ) → Bad text i n → ((2 ≤ n) × (n ≤ 9)) ⊎ (n ≡ 25)
+  two-to-nine-or-25 text i n b = go n (b .fault)
     where
       of-form : {c : Bytes} (n : ℕ) → FormFault c n → (2 ≤ n) × (n ≤ 9)
       of-form n (long h) = omega arith
       of-form n (comment h c) = omega arith
       of-form n (byte h c d) = omega arith
 
-      go : (n : ℕ) → Fault A X line-of (b .place) (behind (b .before)) (b .this) n → (2 ≤ n) × (n ≤ 9)
-      go n (form e f) = of-form n f
-      go n (unknown h e) = omega arith
-      go n (misplaced h e s) = omega arith
-      go n (given-again h e s) = omega arith
-      go n (miscounted h c) = omega arith
-      go n (misspelt h c m) = omega arith
-      go n (forbidden h v s m) = omega arith
+      go : (n : ℕ) → Fault A X line-of (b .place) (behind (b .before)) (b .this) n → ((2 ≤ n) × (n ≤ 9)) ⊎ (n ≡ 25)
+      go n (form e f) = inl (of-form n f)
+      go n (unknown h e) = inl (omega arith)
+      go n (misplaced h e s) = inl (omega arith)
+      go n (given-again h e s) = inl (omega arith)
+      go n (miscounted h c) = inl (omega arith)
+      go n (misspelt h c m) = inl (omega arith)
+      go n (forbidden h v s m) = inl (omega arith)
+      go n (unmarked h v s m) = inr refl
+
+  -- 25 only where an option has to be given
+  pub none-asked : ((p : Place A) (k : L .Kind) (v : L .Pay k) → stands A p k ≡ none → step A p (say L k v) ≡ refuse 25 → ⊥) → (text : Bytes) (i n : ℕ) → Bad text i n → (2 ≤ n) × (n ≤ 9)
+  none-asked never text i n b = go (two-to-nine-or-25 text i n b)
+    where
+      not-so : (m : ℕ) → Fault A X line-of (b .place) (behind (b .before)) (b .this) m → m ≡ 25 → ⊥
+      not-so m (form e (long h)) q = omega arith
+      not-so m (form e (comment h c)) q = omega arith
+      not-so m (form e (byte h c d)) q = omega arith
+      not-so m (unknown h e) q = omega arith
+      not-so m (misplaced h e s) q = omega arith
+      not-so m (given-again h e s) q = omega arith
+      not-so m (miscounted h c) q = omega arith
+      not-so m (misspelt h c s) q = omega arith
+      not-so m (forbidden h v s e) q = omega arith
+      not-so m (unmarked {k = k} h v s e) q = never (b .place) k v (h .here) e
+
+      go : ((2 ≤ n) × (n ≤ 9)) ⊎ (n ≡ 25) → (2 ≤ n) × (n ≤ 9)
+      go (inl h) = h
+      go (inr q) = absurd (not-so n (b .fault) q)
 
   -- the lines before it begin some well-formed text ..
   pub begins-some : (text : Bytes) (i n : ℕ) (b : Bad text i n) → Begin Spelled (b .before)

@@ -3,6 +3,7 @@ use mathlib.Core.Path.{_≡_}
 use mathlib.Core.List.{List}
 use mathlib.Core.Logic.{_⊎_}
 use Prim.Native.Nat.{ℕ, suc, _≤_}
+use native.Mathlib.Omega.{arith}
 use lib.ListN.{length}
 use Rattle.terms.specs.Ascii.{Bytes}
 use Rattle.line.specs.Text.{Cut}
@@ -12,6 +13,7 @@ use Rattle.grammar.specs.Mission.{Mission, SpellsMission}
 use Rattle.grammar.specs.Places.{rndf, name-due}
 use Rattle.grammar.specs.MissionPlaces.{mdf}
 use Rattle.grammar.specs.MissionPlaces as Mdf-at
+use Rattle.grammar.proofs.StandLaws.{lenient-nine}
 use Rattle.text.specs.RndfLines.{rndf-line}
 use Rattle.text.specs.MdfLines.{mdf-line}
 use Rattle.text.specs.RndfWords.{rndf-lexis}
@@ -28,15 +30,15 @@ use Rattle.form_faults.proofs.FileFaults as F
 abbrev pub RndfOpen : List Bytes → Type 0
 RndfOpen = F.Open (rndf Field) rndf-lexis rndf-line SpellsNetwork name-due rndf-file
 
--- a line and a number of 2 to 9 are answered exactly if the line is the first with a fault, and the number is the one of that fault
+-- a line and a number of 2 to 9, or 25, are answered exactly if the line is the first with a fault, and the number is the one of that fault
 pub rndf-bad-line-right : (text : Bytes) (i n : ℕ) → read-rndf text ≡ faulty i n → RndfBadLine text i n
 rndf-bad-line-right = F.bad-line-right (rndf Field) rndf-lexis rndf-line SpellsNetwork name-due rndf-file
 
 pub rndf-bad-line-only : (text : Bytes) (i n : ℕ) → RndfBadLine text i n → read-rndf text ≡ faulty i n
 rndf-bad-line-only = F.bad-line-only (rndf Field) rndf-lexis rndf-line SpellsNetwork name-due rndf-file
 
-pub rndf-two-to-nine : (text : Bytes) (i n : ℕ) → RndfBadLine text i n → (2 ≤ n) × (n ≤ 9)
-rndf-two-to-nine = F.two-to-nine (rndf Field) rndf-lexis rndf-line SpellsNetwork name-due rndf-file
+pub rndf-two-to-nine-or-25 : (text : Bytes) (i n : ℕ) → RndfBadLine text i n → ((2 ≤ n) × (n ≤ 9)) ⊎ (n ≡ 25)
+rndf-two-to-nine-or-25 = F.two-to-nine-or-25 (rndf Field) rndf-lexis rndf-line SpellsNetwork name-due rndf-file
 
 -- the lines before it begin some well-formed text, and none begins with them and it
 pub rndf-begins-some : (text : Bytes) (i n : ℕ) (b : RndfBadLine text i n) → Begin SpellsRndf (b .before)
@@ -89,8 +91,9 @@ mdf-bad-line-right = F.bad-line-right (mdf Field) mdf-lexis mdf-line SpellsMissi
 pub mdf-bad-line-only : (text : Bytes) (i n : ℕ) → MdfBadLine text i n → read-mdf text ≡ faulty i n
 mdf-bad-line-only = F.bad-line-only (mdf Field) mdf-lexis mdf-line SpellsMission Mdf-at.name-due mdf-file
 
+-- an MDF has no spots: it gets no 25
 pub mdf-two-to-nine : (text : Bytes) (i n : ℕ) → MdfBadLine text i n → (2 ≤ n) × (n ≤ 9)
-mdf-two-to-nine = F.two-to-nine (mdf Field) mdf-lexis mdf-line SpellsMission Mdf-at.name-due mdf-file
+mdf-two-to-nine = F.none-asked (mdf Field) mdf-lexis mdf-line SpellsMission Mdf-at.name-due mdf-file (λ p k v h e. let z = lenient-nine (mdf Field) p k v 25 h e in omega arith)
 
 -- the lines before it begin some well-formed text, and none begins with them and it
 pub mdf-begins-some : (text : Bytes) (i n : ℕ) (b : MdfBadLine text i n) → Begin SpellsMdf (b .before)

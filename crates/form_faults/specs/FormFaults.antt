@@ -1,4 +1,4 @@
--- What it says of a text that it gets 2 to 9 at a line, and what that it gets 10. Document 01, "Refusal numbers". Assumes nothing.
+-- What it says of a text that it gets 2 to 9 or 25 at a line, and what that it gets 10. Document 01, "Refusal numbers". Assumes nothing.
 use mathlib.Core.Path.{_≡_}
 use mathlib.Core.List.{List, [], _∷_, _++_}
 use Prim.Native.Nat.{ℕ, suc, _+_}
@@ -25,7 +25,7 @@ unfoldable pub behind : List Bytes → ℕ
 behind [] = 0
 behind (line ∷ lines) = suc (length line) + behind lines
 
--- ## 2 to 9
+-- ## 2 to 9, and 25
 -- for a file whose lines say statements, which its grammar takes one by one from its first place on
 module _ {L : Lang} (A : Machine L) (X : Lexis L) (line-of : (k : L .Kind) → L .Pay k → List Said) (first : A .Base) where
   -- line i is the first with a fault of 2 to 9, and n is its number

@@ -13,7 +13,7 @@ use Rattle.terms.proofs.Lists.{each-append}
 use Rattle.grammar.specs.Language.{Lang, S, say, asKind}
 use Rattle.grammar.specs.Machine.{next, Opt, Verdict, other, bad, good, optAt, guard, Machine, over, inside, Place, at, enter, hit, settle, step, run}
 use Rattle.grammar.specs.Stands.{given, asDue, ofRow, stands}
-use Rattle.grammar.proofs.LanguageLaws.{as-inv, memb, Allowed}
+use Rattle.grammar.proofs.LanguageLaws.{as-inv, memb, kinds-on, Allowed}
 use Rattle.grammar.proofs.MachineLaws.{Agrees, clear-agrees, differ, refused, told}
 use Rattle.text.specs.Said as Old
 use Rattle.text.specs.Judge.{Lexis}
@@ -32,12 +32,7 @@ each-end P (a ∷ l) r h = each-end P l r (h .1)
 module _ (L : Lang) where
   open Lang L using (Kind, Pay, disc)
 
-  -- the kinds of statements, the last first
-  abbrev pub kinds-on : List (S L) → List Kind → List Kind
-  kinds-on [] ks = ks
-  kinds-on (s ∷ l) ks = kinds-on l (s .kind ∷ ks)
-
-  kinds-snoc : (l : List (S L)) (s : S L) (ks : List Kind) → kinds-on (l ++ (s ∷ [])) ks ≡ s .kind ∷ kinds-on l ks
+  kinds-snoc : (l : List (S L)) (s : S L) (ks : List Kind) → kinds-on L (l ++ (s ∷ [])) ks ≡ s .kind ∷ kinds-on L l ks
   kinds-snoc [] s ks = refl
   kinds-snoc (a ∷ l) s ks = kinds-snoc l s (a .kind ∷ ks)
 
@@ -49,7 +44,7 @@ module _ (L : Lang) where
     pub is : l ≡ before ++ (here ∷ behind)
     pub of : here .kind ≡ k
 
-  find : (k : Kind) (l : List (S L)) (ks : List Kind) → memb L k (kinds-on l ks) ≡ true → (memb L k ks ≡ true) ⊎ Found k l
+  find : (k : Kind) (l : List (S L)) (ks : List Kind) → memb L k (kinds-on L l ks) ≡ true → (memb L k ks ≡ true) ⊎ Found k l
   find k [] ks e = inl e
   find k (s ∷ l) ks e = go (find k l (s .kind ∷ ks) e)
     where
@@ -89,7 +84,7 @@ module _ (L : Lang) where
       go (no n) (inl a) ih = absurd (n (ap (λ (s : S L). s .kind) (a .1)))
       go (no n) (inr a) ih = ih a
 
-module _ {L : Lang} (A : Machine L) (X : Lexis L) (line-of : (k : L .Kind) → L .Pay k → List Old.Said) {Net : Type 0} (Said : Net → List (S L) → Type 0) (Spells : Rules → Net → List Line → Type 0) (first : A .Base) (N : Needs A X line-of Said Spells first) where
+module _ {rules : Rules} {L : Lang} (A : Machine L) (X : Lexis L) (line-of : (k : L .Kind) → L .Pay k → List Old.Said) {Net : Type 0} (Said : Net → List (S L) → Type 0) (Spells : Rules → Net → List Line → Type 0) (first : A .Base) (N : Needs rules A X line-of Said Spells first) where
   open Lang L using (Kind, Pay, disc)
 
   abbrev law : S L → Line
@@ -136,15 +131,16 @@ module _ {L : Lang} (A : Machine L) (X : Lexis L) (line-of : (k : L .Kind) → L
   unfolding step guard
   at-base b g s q e = go (optAt L (A .opts b) g s) refl e
     where
-      passed : (t : Bool) (m : Place A) → guard t 9 (next m) ≡ next q → q ≡ m
-      passed true m e = let z : m ≡ q = cc in sym z
-      passed false m e = refused e
+      passed : (t r : Bool) (m : Place A) → guard t 9 (guard r 25 (next m)) ≡ next q → q ≡ m
+      passed true true m e = let z : m ≡ q = cc in sym z
+      passed true false m e = refused e
+      passed false r m e = refused e
 
-      due : (o : Option (Pay (A .due b .on))) → asKind L (A .due b .on) s ≡ o → hit A b o ≡ next q → (v : Pay (A .due b .on)) × (s ≡ say L (A .due b .on) v) × (q ≡ enter A (A .due b .then v))
+      due : (o : Option (Pay (A .due b .on))) → asKind L (A .due b .on) s ≡ o → hit A b g o ≡ next q → (v : Pay (A .due b .on)) × (s ≡ say L (A .due b .on) v) × (q ≡ enter A (A .due b .then v))
       due none i e = refused e
-      due (some v) i e = (v, as-inv L (A .due b .on) s v i, passed (A .due b .test v) (enter A (A .due b .then v)) e)
+      due (some v) i e = (v, as-inv L (A .due b .on) s v i, passed (A .due b .test v) (A .ready b g) (enter A (A .due b .then v)) e)
 
-      go : (x : Verdict) → optAt L (A .opts b) g s ≡ x → settle A b x s ≡ next q
+      go : (x : Verdict) → optAt L (A .opts b) g s ≡ x → settle A b g x s ≡ next q
           → ((g′ : List Bool) × (q ≡ inside b g′) × (optAt L (A .opts b) g s ≡ good g′)) ⊎ ((v : Pay (A .due b .on)) × (s ≡ say L (A .due b .on) v) × (q ≡ enter A (A .due b .then v)))
       go other h e = inr (due (asKind L (A .due b .on) s) refl e)
       go (bad c) h e = refused e

@@ -5,6 +5,7 @@ use Prim.Native.Nat.{ℕ}
 use Rattle.terms.specs.Ascii.{Bytes}
 use Rattle.grammar.specs.Language.{Lang, S}
 use Rattle.grammar.specs.Machine.{next, Machine, Place, at, run}
+use Rattle.grammar.specs.Machine as Machine
 use Rattle.text.specs.Said as Said
 use Rattle.text.specs.Judge.{Lexis}
 use Rattle.text.specs.Spelling as Spelling
@@ -12,26 +13,27 @@ use Rattle.text.proofs.Telling.{Lawful}
 use Rattle.form_faults.specs.FormFaults.{behind}
 use Rattle.form_faults.specs.FormFaults as Old
 use Rattle.form_faults.proofs.FileFaults.{Open, unended-open, open-unended}
-use Rattle.law.specs.Network.{Line, SayLines, SpellsText, Rules, present}
+use Rattle.law.specs.Network.{Line, SayLines, SpellsText, Rules, present, lenient}
 use Rattle.law.specs.Faults.{Fault, BadLine, Unended}
 use Rattle.law_spelling.proofs.Lines.{lines-to, lines-back}
 use Rattle.law_faults.proofs.Moved.{fault-at}
 use Rattle.law_faults.proofs.Needs.{Needs}
 use Rattle.law_faults.proofs.Reached.{laws, begins-to, begins-back}
-use Rattle.law_faults.proofs.LineFaults.{fault-to, fault-back}
+use Rattle.law_faults.proofs.Unmarked.{fault-to, fault-back}
 
-module _ {L : Lang} (A : Machine L) (X : Lexis L) (line-of : (k : L .Kind) → L .Pay k → List Said.Said) {Net : Type 0} (Said : Net → List (S L) → Type 0) (Spells : Rules → Net → List Line → Type 0) (first : A .Base) (N : Needs A X line-of Said Spells first) where
+module _ {L : Lang} (A : Machine L) (X : Lexis L) (line-of : (k : L .Kind) → L .Pay k → List Said.Said) {Net : Type 0} (Said Loose : Net → List (S L) → Type 0) (Spells : Rules → Net → List Line → Type 0) (first : A .Base)
+    (N : Needs present A X line-of Said Spells first) (M : Needs (lenient present) (Machine.lenient A) X line-of Loose Spells first) where
   abbrev W : Lawful A X line-of
   W = N .file .lawful
 
-  -- ## 2 to 9
+  -- ## 2 to 9, and 25
   pub bad-to : (text : Bytes) (i n : ℕ) → Old.BadLine A X line-of first text i n → BadLine present Spells text i n
   bad-to text i n b = record {
     front = laws line-of (b .said);
     this = b .this;
     at = record { before = b .before; rest = b .rest; cut = b .cut; number = b .number; said = lines-to line-of (N .begins) (b .spelled) };
     begins = begins-to A X line-of Said Spells first N (b .said) (b .place) (b .came);
-    fault = fault-to A X line-of Said Spells first N (b .said) (b .place) (b .came) (b .this) n (fault-at A X line-of W (N .steady) (b .place) (behind (b .before)) 0 (b .this) n (b .fault));
+    fault = fault-to A X line-of Said Loose Spells first N M (b .said) (b .place) (b .came) (b .this) n (fault-at A X line-of W (N .steady) (b .place) (behind (b .before)) 0 (b .this) n (b .fault));
   }
 
   pub bad-back : (text : Bytes) (i n : ℕ) → BadLine present Spells text i n → Old.BadLine A X line-of first text i n
@@ -49,7 +51,7 @@ module _ {L : Lang} (A : Machine L) (X : Lexis L) (line-of : (k : L .Kind) → L
         spelled = lines-back line-of (x .0) (subst (SayLines present 0 (at .before)) (x .2) (at .said));
         place = x .1;
         came = x .3;
-        fault = fault-at A X line-of W (N .steady) (x .1) 0 (behind (at .before)) (b .this) n (fault-back A X line-of Said Spells first N (x .0) (x .1) (x .3) (b .this) n f);
+        fault = fault-at A X line-of W (N .steady) (x .1) 0 (behind (at .before)) (b .this) n (fault-back A X line-of Said Loose Spells first N M (x .0) (x .1) (x .3) (b .this) n f);
       }
 
   -- ## 10

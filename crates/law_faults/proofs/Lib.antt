@@ -5,8 +5,12 @@ pub mod Reached
 pub mod Opening
 pub mod Again
 pub mod LineFaults
+pub mod Unmarked
 pub mod BadLines
 pub mod Listed
 pub mod Rndf
 pub mod Mdf
 pub mod Theorems
+pub mod BareSpots
+pub mod BareTold
+pub mod SpotCases

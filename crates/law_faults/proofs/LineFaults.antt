@@ -1,4 +1,4 @@
--- A line has a fault of 2 to 9 at a place if and only if, for the law, it has that fault behind lines that lead to the place. For every file. Assumes nothing.
+-- A line has a fault of 2 to 9 at a place, where no option has to be given, if and only if, for the law, it has that fault behind lines that lead to the place. For every file. Assumes nothing.
 use mathlib.Core.Path.{_≡_, refl, sym, ap, subst, _∙_}
 use mathlib.Core.List.{List, [], _∷_, _++_, map, head-eq-of-cons-eq}
 use mathlib.Core.Option.{Option, none, some}
@@ -11,18 +11,20 @@ use Rattle.terms.specs.Words.{Each}
 use Rattle.terms.proofs.Tests.{nothing}
 use Rattle.line.specs.Content.{Field}
 use Rattle.grammar.specs.Language.{Lang, S, say}
-use Rattle.grammar.specs.Machine.{Machine, Place, at, step}
+use Rattle.grammar.specs.Machine.{Out, next, refuse, Machine, Place, at, step}
+use Rattle.grammar.specs.Machine as Machine
 use Rattle.grammar.specs.Stands.{stands}
 use Rattle.grammar.proofs.Keeping.{GoodPlace, GoodOut, run-good}
-use Rattle.grammar.proofs.StandLaws.{stands-all}
+use Rattle.grammar.proofs.MachineLaws.{refused}
+use Rattle.grammar.proofs.StandLaws.{stands-all, stands-lenient, lenient-nine}
 use Rattle.text.specs.Said as Said
 use Rattle.text.specs.Judge.{Lexis, kindAt}
 use Rattle.text.specs.Faults.{Fielded, unknown}
 use Rattle.text.specs.Faults as Old
 use Rattle.text.proofs.Telling.{Lawful}
 use Rattle.text.proofs.FaultLaws.{five-or-six}
-use Rattle.law.specs.Network.{Line, SpellFields, Rules, present}
-use Rattle.law.specs.Faults.{sort, Opens, IsOption, Begins, MayStand, GivenAgain, FieldFault, Fault, form, fields, misplaced, given-again, miscounted, misspelt, forbidden}
+use Rattle.law.specs.Network.{Line, SpellFields, Rules, present, lenient}
+use Rattle.law.specs.Faults.{sort, Opens, IsOption, Begins, Follows, MayStand, GivenAgain, FieldFault, Fault, form, fields, misplaced, given-again, miscounted, misspelt, forbidden, unmarked}
 use Rattle.law_spelling.specs.LineOf.{law-line}
 use Rattle.law_spelling.proofs.Fields.{fields-to, fields-back}
 use Rattle.law_faults.proofs.Sorts.{of-kind, kind-sorts, count-to, count-back}
@@ -35,8 +37,22 @@ use Rattle.law_faults.proofs.Again.{given-before, stood-before}
 one-kind : {K : Type 0} {o : Option K} {j k : K} → o ≡ some j → o ≡ some k → j ≡ k
 one-kind {o = o} {j = j} {k = k} e f = let h : some j ≡ some k = sym e ∙ f in cc
 
-module _ {L : Lang} (A : Machine L) (X : Lexis L) (line-of : (k : L .Kind) → L .Pay k → List Said.Said) {Net : Type 0} (Said : Net → List (S L) → Type 0) (Spells : Rules → Net → List Line → Type 0) (first : A .Base) (N : Needs A X line-of Said Spells first) where
+-- 25 is not told here: what the law says of it
+pub record Bare {Net : Type 0} (Spells : Rules → Net → List Line → Type 0) (front : List Line) (line : Bytes) (n : ℕ) : Type 0 where
+  pub is : n ≡ 25
+  pub f : Field
+  pub fs : List Field
+  pub fielded : Fielded 0 line f fs
+  pub says : Line
+  pub spelled : SpellFields (f ∷ fs) says
+  pub follows : Follows present Spells front says
+  pub unmarked : Begins present Spells (front ++ (says ∷ [])) → ⊥
+
+module _ {L : Lang} (strict : Machine L) (X : Lexis L) (line-of : (k : L .Kind) → L .Pay k → List Said.Said) {Net : Type 0} (Said : Net → List (S L) → Type 0) (Spells : Rules → Net → List Line → Type 0) (first : strict .Base) (N : Needs (lenient present) (Machine.lenient strict) X line-of Said Spells first) where
   open Lang L using (Kind, Pay)
+
+  abbrev A : Machine L
+  A = Machine.lenient strict
 
   abbrev W : Lawful A X line-of
   W = N .file .lawful
@@ -59,8 +75,8 @@ module _ {L : Lang} (A : Machine L) (X : Lexis L) (line-of : (k : L .Kind) → L
       -- ## A line that may stand
       may-to : (k : Kind) → kindAt A X p f ≡ some k → stands A p k ≡ none → (v : Pay k) × MayStand present Spells front f (law (say L k v))
       may-to k e s =
-          let x = some-value A X line-of Said Spells first N p values-at good-at k s in
-          (x .0, record { opens = kind-opens A X line-of Said Spells first N p f k (x .0) e; begins = line-to A X line-of Said Spells first N said p (x .1) (say L k (x .0)) came (x .2) })
+          let x = some-value A X line-of Said Spells first N (λ b g. tt) p values-at good-at k s in
+          (x .0, record { opens = kind-opens A X line-of Said Spells first N p f k (x .0) e; follows = line-to A X line-of Said Spells first N said p (x .1) (say L k (x .0)) came (x .2) })
 
       record Stands (line : Line) : Type 0 where
         k : Kind
@@ -71,7 +87,7 @@ module _ {L : Lang} (A : Machine L) (X : Lexis L) (line-of : (k : L .Kind) → L
 
       may-back : (line : Line) → MayStand present Spells front f line → Stands line
       may-back line m =
-          let x = line-back A X line-of Said Spells first N said p line came (m .begins) in
+          let x = line-back A X line-of Said Spells first N said p line came (m .follows) in
           let s = x .0 in
           let h = stands-all A p (s .kind) (s .val) (x .1) (x .3) in
           record { k = s .kind; v = s .val; is = x .2; made-out = opens-kind A X line-of Said Spells first N p f (s .kind) (s .val) h (subst (Opens f) (x .2) (m .opens)); here = h }
@@ -142,14 +158,15 @@ module _ {L : Lang} (A : Machine L) (X : Lexis L) (line-of : (k : L .Kind) → L
           fields (h .fields .ended) (h .fields .fields) (misspelt (law (say L k (x .0))) (x .1) (count-to A X line-of W k (x .0) f fs c) λ l e s.
           let y = of-kind A X line-of W k (x .0) l e in
           m (y .0) (fields-back (f ∷ fs) (line-of k (y .0)) (subst (SpellFields (f ∷ fs)) (y .1) s)))
-      fault-to n (Old.forbidden {f = f} {fs = fs} {k = k} h v s m) =
+      fault-to n (Old.forbidden {f = f} {fs = fs} {k = k} h v s e) =
           let x = may-to f k (h .is) (h .here) in
           fields (h .fields .ended) (h .fields .fields) (forbidden (law (say L k (x .0))) (law (say L k v)) (x .1) (kind-sorts A X line-of W k v (x .0)) (fields-to (f ∷ fs) (line-of k v) s) λ b.
           let y = line-back A X line-of Said Spells first N said p (law (say L k v)) came b in
-          m (y .1) (ap (step A p) (N .one (say L k v) (y .0) (y .2)) ∙ y .3))
+          refused (sym e ∙ ap (step A p) (N .one (say L k v) (y .0) (y .2)) ∙ y .3))
+      fault-to n (Old.unmarked {k = k} h v s e) = absurd (let z = lenient-nine strict p k v 25 (sym (stands-lenient strict p k) ∙ h .here) e in omega arith)
 
-      pub fault-back : (n : ℕ) → Fault present Spells front line n → Old.Fault A X line-of p 0 line n
-      fault-back n (form e h) = Old.form e h
+      pub fault-back : (n : ℕ) → Fault present Spells front line n → Old.Fault A X line-of p 0 line n ⊎ Bare Spells front line n
+      fault-back n (form e h) = inl (Old.form e h)
       fault-back n (fields {content = c} {f = f} {fs = fs} e h b) = go n b
         where
           fielded : Fielded 0 line f fs
@@ -170,18 +187,27 @@ module _ {L : Lang} (A : Machine L) (X : Lexis L) (line-of : (k : L .Kind) → L
               at-kind none s = let x = may-to f k q s in absurd (none-stands (law (say L k (x .0))) (x .1))
               at-kind (some m) s = misplaced-at k q again m s (five-or-six A X line-of W p k m s)
 
-          go : (n : ℕ) → FieldFault present Spells front f fs n → Old.Fault A X line-of p 0 line n
-          go n (misplaced m again) = unfit m again (kindAt A X p f) refl
-          go n (given-again g) = let x = again-back f g in Old.given-again fielded (x .1) (x .2)
+          -- a value that no place takes gets 9
+          nine : (k : Kind) (v : Pay k) → stands A p k ≡ none → ((q : Place A) → step A p (say L k v) ≡ next q → ⊥) → step A p (say L k v) ≡ refuse 9
+          nine k v h none-taken = told (step A p (say L k v)) refl
+            where
+              told : (o : Out (Place A)) → step A p (say L k v) ≡ o → o ≡ refuse 9
+              told (next q) t = absurd (none-taken q t)
+              told (refuse c) t = ap refuse (lenient-nine strict p k v c (sym (stands-lenient strict p k) ∙ h) t)
+
+          go : (n : ℕ) → FieldFault present Spells front f fs n → Old.Fault A X line-of p 0 line n ⊎ Bare Spells front line n
+          go n (misplaced m again) = inl (unfit m again (kindAt A X p f) refl)
+          go n (given-again g) = let x = again-back f g in inl (Old.given-again fielded (x .1) (x .2))
           go n (miscounted l m c) =
               let x = may-back f l m in
-              Old.miscounted (may x) (λ q. c (count-to A X line-of W (x .k) (x .v) f fs q ∙ ap length (sym (x .is))))
+              inl (Old.miscounted (may x) (λ q. c (count-to A X line-of W (x .k) (x .v) f fs q ∙ ap length (sym (x .is)))))
           go n (misspelt l m c s) =
               let x = may-back f l m in
-              Old.misspelt (may x) (count-back A X line-of W (x .k) (x .v) f fs (c ∙ ap length (x .is)))
-              (λ u t. s (law (say L (x .k) u)) (kind-sorts A X line-of W (x .k) u (x .v) ∙ ap (map sort) (sym (x .is))) (fields-to (f ∷ fs) (line-of (x .k) u) t))
+              inl (Old.misspelt (may x) (count-back A X line-of W (x .k) (x .v) f fs (c ∙ ap length (x .is)))
+              (λ u t. s (law (say L (x .k) u)) (kind-sorts A X line-of W (x .k) u (x .v) ∙ ap (map sort) (sym (x .is))) (fields-to (f ∷ fs) (line-of (x .k) u) t)))
           go n (forbidden l u m e s b) =
               let x = may-back f l m in
               let y = of-kind A X line-of W (x .k) (x .v) u (e ∙ ap (map sort) (x .is)) in
-              Old.forbidden (may x) (y .0) (fields-back (f ∷ fs) (line-of (x .k) (y .0)) (subst (SpellFields (f ∷ fs)) (y .1) s))
-              (λ q t. b (subst (λ (u : Line). Begins present Spells (front ++ (u ∷ []))) (sym (y .1)) (line-to A X line-of Said Spells first N said p q (say L (x .k) (y .0)) came t)))
+              inl (Old.forbidden (may x) (y .0) (fields-back (f ∷ fs) (line-of (x .k) (y .0)) (subst (SpellFields (f ∷ fs)) (y .1) s))
+              (nine (x .k) (y .0) (x .here) (λ q t. b (subst (λ (u : Line). Follows present Spells front u) (sym (y .1)) (line-to A X line-of Said Spells first N said p q (say L (x .k) (y .0)) came t)))))
+          go n (unmarked l s t b) = inr (record { is = refl; f = f; fs = fs; fielded = fielded; says = l; spelled = s; follows = t; unmarked = b })

@@ -11,12 +11,13 @@ use Rattle.line.specs.Content.{Field, at}
 use Rattle.scan.specs.Reach.{sameBytes}
 use Rattle.word.specs.Keywords.{mdf-keywords}
 use Rattle.word.specs.Number.{indexOf}
-use Rattle.law.specs.Network.{Line, numbers}
+use Rattle.law.specs.Network.{Mission, Line, numbers, present, lenient}
 use Rattle.law.specs.Network as Law
 use Rattle.grammar.specs.Language.{say}
 use Rattle.grammar.specs.Mission.{SpellsMission}
 use Rattle.grammar.specs.MissionStatements.{Kind, Says, orders, MDF-name, RNDF, format-version, creation-date, checkpoints, num-checkpoints, end-checkpoints, speed-limits, num-speed-limits, end-speed-limits, end-file, goal, limit}
 use Rattle.grammar.specs.Machine.{Place, step}
+use Rattle.grammar.specs.Machine as Machine
 use Rattle.grammar.specs.MissionPlaces.{mdf, Base, opts, due, name-due, RNDF-due, checkpoints-due, num-checkpoints-due, goal-due, speed-limits-due, num-speed-limits-due, limit-due, end-file-due}
 use Rattle.grammar.specs.PlaceRows.{mission-kind-row}
 use Rattle.grammar.specs.Renamed.{orders-named}
@@ -116,7 +117,7 @@ alike limit u w h = λ i. record { id = h .0 i; minimum = h .1 .0 i; maximum = h
 steady : (p : Place (mdf Field)) (k : Kind) (u w : Vals (mdf-sorts k)) → Alike (mdf-sorts k) u w → step (mdf Field) p (say (orders Field) k (mdf-make k u)) ≡ step (mdf Field) p (say (orders Field) k (mdf-make k w))
 steady p k u w h = sym (mdf-renamed bytes-of p (say (orders Field) k (mdf-make k u))) ∙ ap (λ (v : Says Name k). step (mdf Name) p (say (orders Name) k v)) (alike k u w h) ∙ mdf-renamed bytes-of p (say (orders Field) k (mdf-make k w))
 
-pub mdf-needs : Needs (mdf Field) mdf-lexis mdf-line SpellsMission Law.SpellsMission name-due
+pub mdf-needs : Needs present (mdf Field) mdf-lexis mdf-line SpellsMission Law.SpellsMission name-due
 mdf-needs = record {
   file = mdf-file;
   to = mission-to;
@@ -127,6 +128,28 @@ mdf-needs = record {
   values-after = values-after;
   listed = λ b. all-listed-so (orders Field) keyword (opts Field b) (options-listed b);
   unlisted = λ b. unlisted-so (keyword (due Field b .on)) (due-unlisted b);
+  numeric = numeric;
+  steady = steady;
+}
+
+-- L8's rule asks nothing of a mission
+to-lenient : (n : Mission Field) (l : List Line) → Law.SpellsMission present n l → Law.SpellsMission (lenient present) n l
+to-lenient n l h = record { options = h .options; given = h .given; good = h .good; spelled = h .spelled }
+
+to-present : (n : Mission Field) (l : List Line) → Law.SpellsMission (lenient present) n l → Law.SpellsMission present n l
+to-present n l h = record { options = h .options; given = h .given; good = h .good; spelled = h .spelled }
+
+pub mdf-lenient-needs : Needs (lenient present) (Machine.lenient (mdf Field)) mdf-lexis mdf-line SpellsMission Law.SpellsMission name-due
+mdf-lenient-needs = record {
+  file = mdf-file;
+  to = λ n l h. to-lenient n _ (mission-to n l h);
+  back = λ n l h. mission-back n l (to-present n l h);
+  one = mdf-line-one;
+  begins = mdf-begins;
+  values-first = tt;
+  values-after = values-after;
+  listed = mdf-needs .listed;
+  unlisted = mdf-needs .unlisted;
   numeric = numeric;
   steady = steady;
 }

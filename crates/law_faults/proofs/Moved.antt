@@ -15,7 +15,7 @@ use Rattle.number.specs.Spelling.{SpellsInteger, SpellsPair, SpellsTriple, Name
 use Rattle.coordinate.specs.Spelling.{SpellsCoordinate}
 use Rattle.text.specs.Said.{Said, SpellsField, SpellFields}
 use Rattle.text.specs.Judge.{Sort, a-name, an-integer, a-pair, a-triple, a-coordinate, a-boundary, Val, Vals, Lexis, kindAt, args}
-use Rattle.text.specs.Faults.{Fielded, MayStand, Fault, form, unknown, misplaced, given-again, miscounted, misspelt, forbidden}
+use Rattle.text.specs.Faults.{Fielded, MayStand, Fault, form, unknown, misplaced, given-again, miscounted, misspelt, forbidden, unmarked}
 use Rattle.text.proofs.FieldReading.{says, said}
 use Rattle.text.proofs.Telling.{Lawful, in-front, line-is}
 
@@ -124,6 +124,10 @@ module _ {L : Lang} (A : Machine L) (X : Lexis L) (line-of : (k : L .Kind) → L
       count-at {fs = fs} t none = ap suc (same-count fs (t .gs) (t .rest))
       count-at {fs = fs} t (some w) = same-count fs (t .gs) (t .rest)
 
+      -- and so is the step
+      step-at : (k : Kind) (v : Pay k) (u : Vals (X .sorts k)) → Alike (X .sorts k) (W .parts k v) u → step A p (say L k (X .make k u)) ≡ step A p (say L k v)
+      step-at k v u l = sym (steady p k (W .parts k v) u l) ∙ ap (λ (v : Pay k). step A p (say L k v)) (W .made k v)
+
       pub fault-at : (n : ℕ) → Fault A X line-of p a line n → Fault A X line-of p b line n
       fault-at n (form e f) = form e f
       fault-at n (unknown h e) = let t = there h in unknown (t .fielded) (kind-at t none e)
@@ -135,7 +139,11 @@ module _ {L : Lang} (A : Machine L) (X : Lexis L) (line-of : (k : L .Kind) → L
           misspelt (may-at t h) (sym (count-at t (X .keyword k)) ∙ c) λ v s.
           let x = spelled-at k v (t .g ∷ t .gs) (f ∷ fs) (sym (t .first), same-back fs (t .gs) (t .rest)) s in
           m (X .make k (x .0)) (x .2)
-      fault-at n (forbidden {f = f} {fs = fs} {k = k} h v s m) =
+      fault-at n (forbidden {f = f} {fs = fs} {k = k} h v s e) =
           let t = there (h .fields) in
           let x = spelled-at k v (f ∷ fs) (t .g ∷ t .gs) (t .first, t .rest) s in
-          forbidden (may-at t h) (X .make k (x .0)) (x .2) λ q e. m q (ap (λ (v : Pay k). step A p (say L k v)) (sym (W .made k v)) ∙ steady p k (W .parts k v) (x .0) (x .1) ∙ e)
+          forbidden (may-at t h) (X .make k (x .0)) (x .2) (step-at k v (x .0) (x .1) ∙ e)
+      fault-at n (unmarked {f = f} {fs = fs} {k = k} h v s e) =
+          let t = there (h .fields) in
+          let x = spelled-at k v (f ∷ fs) (t .g ∷ t .gs) (t .first, t .rest) s in
+          unmarked (may-at t h) (X .make k (x .0)) (x .2) (step-at k v (x .0) (x .1) ∙ e)

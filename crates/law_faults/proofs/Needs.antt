@@ -12,7 +12,7 @@ use Rattle.grammar.proofs.Keeping.{GoodNext}
 use Rattle.text.specs.Said as Old
 use Rattle.text.specs.Judge.{Vals, Lexis}
 use Rattle.text.proofs.TextReading.{File}
-use Rattle.law.specs.Network.{Line, numbers, Rules, present}
+use Rattle.law.specs.Network.{Line, numbers, Rules}
 use Rattle.law.specs.Faults.{options}
 use Rattle.law_spelling.specs.LineOf.{law-line}
 use Rattle.law_spelling.proofs.Lines.{Begins}
@@ -28,12 +28,12 @@ Listed (some w) = Among w options
 abbrev pub Values : {L : Lang} (A : Machine L) → A .Base → Type 0
 Values {L} A b = Each (λ o. (v : L .Pay (o .on)) × T (o .test v)) (A .opts b)
 
--- Said: how statements spell; Spells: how lines do
-pub record Needs {L : Lang} (A : Machine L) (X : Lexis L) (line-of : (k : L .Kind) → L .Pay k → List Old.Said) {Net : Type 0} (Said : Net → List (S L) → Type 0) (Spells : Rules → Net → List Line → Type 0) (first : A .Base) : Type 1 where
+-- Said: how statements spell; Spells: how lines do, by these rules
+pub record Needs (rules : Rules) {L : Lang} (A : Machine L) (X : Lexis L) (line-of : (k : L .Kind) → L .Pay k → List Old.Said) {Net : Type 0} (Said : Net → List (S L) → Type 0) (Spells : Rules → Net → List Line → Type 0) (first : A .Base) : Type 1 where
   pub file : File A X line-of Said first
   -- statements and lines spell the same, and a line is one statement's
-  pub to : (n : Net) (l : List (S L)) → Said n l → Spells present n (map (law-line line-of) l)
-  pub back : (n : Net) (lines : List Line) → Spells present n lines → (l : List (S L)) × (lines ≡ map (law-line line-of) l) × Said n l
+  pub to : (n : Net) (l : List (S L)) → Said n l → Spells rules n (map (law-line line-of) l)
+  pub back : (n : Net) (lines : List Line) → Spells rules n lines → (l : List (S L)) × (lines ≡ map (law-line line-of) l) × Said n l
   pub one : (s t : S L) → law-line line-of s ≡ law-line line-of t → s ≡ t
   pub begins : (k : L .Kind) (v : L .Pay k) → Begins (line-of k v)
   -- where an option may stand, some value of it is permitted

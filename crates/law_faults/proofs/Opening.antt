@@ -1,6 +1,6 @@
 -- Which field opens a line of a kind: at a place where such a line is taken, the field by which it is made out. For every file. Assumes nothing.
 use mathlib.Core.Path.{_≡_, refl, sym, ap, subst, _∙_}
-use mathlib.Core.List.{List, [], _∷_, _++_}
+use mathlib.Core.List.{List, [], _∷_, _++_, head-eq-of-cons-eq}
 use mathlib.Core.Option.{Option, none, some}
 use mathlib.Core.Bool.{Bool, true, false, _&&_}
 use Prim.Native.Nat.{ℕ}
@@ -22,7 +22,8 @@ use Rattle.grammar.proofs.Keeping.{GoodPlace}
 use Rattle.grammar.proofs.StandLaws.{step-due}
 use Rattle.text.specs.Said as Old
 use Rattle.text.specs.Judge.{Lexis, dueAt, numbered, kindAt}
-use Rattle.text.proofs.Telling.{Lawful}
+use Rattle.text.proofs.FieldReading.{said}
+use Rattle.text.proofs.Telling.{in-front, Lawful, line-is}
 use Rattle.law.specs.Network.{Line, word, numbers, Rules}
 use Rattle.law.specs.Faults.{Opens, keyword, digit}
 use Rattle.law_spelling.specs.LineOf.{law-line}
@@ -82,7 +83,7 @@ module _ (L : Lang) where
           let x = ih e in
           (x .0, f ∷ x .1, rw (none-of L (o .on) (say L k (x .0)) n, x .2))
 
-module _ {L : Lang} (A : Machine L) (X : Lexis L) (line-of : (k : L .Kind) → L .Pay k → List Old.Said) {Net : Type 0} (Said : Net → List (S L) → Type 0) (Spells : Rules → Net → List Line → Type 0) (first : A .Base) (N : Needs A X line-of Said Spells first) where
+module _ {rules : Rules} {L : Lang} (A : Machine L) (X : Lexis L) (line-of : (k : L .Kind) → L .Pay k → List Old.Said) {Net : Type 0} (Said : Net → List (S L) → Type 0) (Spells : Rules → Net → List Line → Type 0) (first : A .Base) (N : Needs rules A X line-of Said Spells first) where
   open Lang L using (Kind, Pay, disc)
 
   abbrev W : Lawful A X line-of
@@ -163,11 +164,22 @@ module _ {L : Lang} (A : Machine L) (X : Lexis L) (line-of : (k : L .Kind) → L
           let x = number-line k v e in
           rw (opens-digit (subst (Opens f) (x .2) o)) (due-numbered p k e h)
 
-  -- ## Some value of a kind that may stand is permitted
-  pub some-value : (p : Place A) → GoodPlace A (Values A) p → GoodPlace A (N .file .Good) p → (k : Kind) → stands A p k ≡ none → (v : Pay k) × (q : Place A) × (step A p (say L k v) ≡ next q)
+  -- fields that spell a line of a kind open it
+  pub spelled-opens : (f : Field) (fs : List Field) (k : Kind) (v : Pay k) → Old.SpellFields (f ∷ fs) (line-of k v) → Opens f (law (say L k v))
+  spelled-opens f fs k v s = go (X .keyword k) refl (subst (Old.SpellFields (f ∷ fs)) (line-is A X line-of W k v) s)
+    where
+      go : (o : Option Bytes) → X .keyword k ≡ o → Old.SpellFields (f ∷ fs) (in-front o ++ said (X .sorts k) (W .parts k v)) → Opens f (law (say L k v))
+      go (some w) e h = subst (Opens f) (sym (word-line k v w e)) (keyword (h .0))
+      go none e h =
+          let x = W .digit k e (f ∷ fs) (W .parts k v) h in
+          let y = number-line k v e in
+          subst (Opens f) (sym (y .2)) (digit-opens f (y .0) (y .1) (subst (λ (g : Field). digit-first (g .bytes) ≡ true) (sym (head-eq-of-cons-eq (x .2))) (x .3)))
+
+  -- ## Some value of a kind that may stand is permitted, where no option has to be given
+  pub some-value : ((b : A .Base) (g : List Bool) → T (A .ready b g)) → (p : Place A) → GoodPlace A (Values A) p → GoodPlace A (N .file .Good) p → (k : Kind) → stands A p k ≡ none → (v : Pay k) × (q : Place A) × (step A p (say L k v) ≡ next q)
   unfolding stands step
-  some-value over y z k h = nothing (sym h)
-  some-value (inside b g) y z k h = go (given L (A .opts b) g k) refl (disc k (A .due b .on)) h
+  some-value r over y z k h = nothing (sym h)
+  some-value r (inside b g) y z k h = go (given L (A .opts b) g k) refl (disc k (A .due b .on)) h
     where
       go : (x : Option Bool) → given L (A .opts b) g k ≡ x → (d : Dec (k ≡ A .due b .on)) → ofRow x (asDue d) ≡ none → (v : Pay k) × (q : Place A) × (step A (inside b g) (say L k v) ≡ next q)
       go (some true) q d h = nothing (sym h)
@@ -176,5 +188,5 @@ module _ {L : Lang} (A : Machine L) (X : Lexis L) (line-of : (k : L .Kind) → L
           (x .0, inside b (x .1), rw (x .2))
       go none q (yes i) h =
           let x = N .file .leaves b z in
-          subst (λ (k : Kind). (v : Pay k) × (q : Place A) × (step A (inside b g) (say L k v) ≡ next q)) (sym i) (x .v 0, enter A (A .due b .then (x .v 0)), step-due A b g (x .v 0) (x .ok 0))
+          subst (λ (k : Kind). (v : Pay k) × (q : Place A) × (step A (inside b g) (say L k v) ≡ next q)) (sym i) (x .v 0, enter A (A .due b .then (x .v 0)), step-due A b g (x .v 0) (x .ok 0) (r b g))
       go none q (no n) h = nothing (sym h)

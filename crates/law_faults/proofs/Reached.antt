@@ -1,15 +1,17 @@
 -- Lines begin a well-formed file if and only if they say statements that the places take. For every file. Assumes nothing.
 use mathlib.Core.Path.{_≡_, refl, sym, ap, subst, _∙_}
 use mathlib.Core.List.{List, [], _∷_, _++_, map, map-append, head-eq-of-cons-eq, tail-eq-of-cons-eq}
+use mathlib.Core.Logic.{_⊎_, inl, inr}
 use Prim.Native.Nat.{ℕ}
 use native.Mathlib.Omega.{arith}
 use Rattle.grammar.specs.Language.{Lang, Stmt, S}
-use Rattle.grammar.specs.Machine.{Out, next, refuse, Machine, over, andThen, Place, at, step, run}
+use Rattle.grammar.specs.Machine.{Out, next, refuse, Machine, lenient, over, andThen, Place, at, step, run}
 use Rattle.grammar.proofs.MachineLaws.{Goes-on, refused, run-nil, run-append}
 use Rattle.grammar.proofs.MachineLaws as Ml
+use Rattle.grammar.proofs.StandLaws.{asked}
 use Rattle.text.specs.Said as Old
 use Rattle.text.specs.Judge.{Lexis}
-use Rattle.law.specs.Network.{Line, Rules, present}
+use Rattle.law.specs.Network.{Line, Rules}
 use Rattle.law.specs.Faults.{Begins}
 use Rattle.law_spelling.specs.LineOf.{law-line}
 use Rattle.law_faults.proofs.Needs.{Needs}
@@ -40,6 +42,23 @@ module _ {Kind : Type 0} {Pay : Kind → Type 0} (line-of : (k : Kind) → Pay k
 
 -- ## Runs
 module _ {L : Lang} (A : Machine L) where
+  -- what is taken is taken where no option has to be given
+  pub step-lenient : (p q : Place A) (s : S L) → step A p s ≡ next q → step (lenient A) p s ≡ next q
+  step-lenient p q s e = go (asked A p s)
+    where
+      go : (step A p s ≡ step (lenient A) p s) ⊎ ((step A p s ≡ refuse 25) × (q : Place A) × (step (lenient A) p s ≡ next q)) → step (lenient A) p s ≡ next q
+      go (inl i) = sym i ∙ e
+      go (inr x) = refused (sym (x .0) ∙ e)
+
+  pub run-lenient : (p q : Place A) (l : List (S L)) → run A p l ≡ next q → run (lenient A) p l ≡ next q
+  unfolding run
+  run-lenient p q [] e = e
+  run-lenient p q (s ∷ l) e = go (step A p s) refl e (λ m. run-lenient m q l)
+    where
+      go : (o : Out (Place A)) → step A p s ≡ o → andThen o (λ m. run A m l) ≡ next q → ((m : Place A) → run A m l ≡ next q → run (lenient A) m l ≡ next q) → andThen (step (lenient A) p s) (λ m. run (lenient A) m l) ≡ next q
+      go (next m) h e ih = rw (step-lenient p m s h) (ih m e)
+      go (refuse c) h e ih = refused e
+
   -- what is taken is taken part by part ..
   pub run-parts : (p q : Place A) (a b : List (S L)) → run A p (a ++ b) ≡ next q → (m : Place A) × (run A p a ≡ next m) × (run A m b ≡ next q)
   run-parts p q a b e = go (run A p a) refl (sym (run-append A p a b) ∙ e)
@@ -71,7 +90,7 @@ module _ {L : Lang} (A : Machine L) where
   pub one-place : {o : Out (Place A)} {p q : Place A} → o ≡ next p → o ≡ next q → p ≡ q
   one-place {o} {p} {q} e f = let h : next p ≡ next q = sym e ∙ f in cc
 
-module _ {L : Lang} (A : Machine L) (X : Lexis L) (line-of : (k : L .Kind) → L .Pay k → List Old.Said) {Net : Type 0} (Said : Net → List (S L) → Type 0) (Spells : Rules → Net → List Line → Type 0) (first : A .Base) (N : Needs A X line-of Said Spells first) where
+module _ {rules : Rules} {L : Lang} (A : Machine L) (X : Lexis L) (line-of : (k : L .Kind) → L .Pay k → List Old.Said) {Net : Type 0} (Said : Net → List (S L) → Type 0) (Spells : Rules → Net → List Line → Type 0) (first : A .Base) (N : Needs rules A X line-of Said Spells first) where
   -- statements that lead to a place
   abbrev pub Came : List (S L) → Place A → Type 0
   Came said p = run A (at A first) said ≡ next p
@@ -81,15 +100,15 @@ module _ {L : Lang} (A : Machine L) (X : Lexis L) (line-of : (k : L .Kind) → L
 
   -- ## Beginnings
   goes-on : (b : A .Base) → N .file .Good b → Goes-on A (N .file .Good) (N .file .cost) b
-  goes-on b y = let x = N .file .leaves b y in record { keeps = N .file .keeps b y; v = x .v 0; ok = x .ok 0; less = x .less 0 }
+  goes-on b y = let x = N .file .leaves b y in record { keeps = N .file .keeps b y; v = x .v 0; ok = x .ok 0; less = x .less 0; readied = λ g. N .file .readied b y g 0 .ready }
 
-  pub begins-to : (said : List (S L)) (p : Place A) → Came said p → Begins present Spells (laws line-of said)
+  pub begins-to : (said : List (S L)) (p : Place A) → Came said p → Begins rules Spells (laws line-of said)
   begins-to said p e =
       let r = Ml.begins A (N .file .Good) (N .file .cost) goes-on first (N .file .good-first) p said e in
       let s = N .file .sound (said ++ r .0) (r .1) in
-      record { rest = laws line-of (r .0); net = s .0; spelled = subst (Spells present (s .0)) (map-append law said (r .0)) (N .to (s .0) (said ++ r .0) (s .1)) }
+      record { rest = laws line-of (r .0); net = s .0; spelled = subst (Spells rules (s .0)) (map-append law said (r .0)) (N .to (s .0) (said ++ r .0) (s .1)) }
 
-  pub begins-back : (lines : List Line) → Begins present Spells lines → (said : List (S L)) × (p : Place A) × (lines ≡ laws line-of said) × Came said p
+  pub begins-back : (lines : List Line) → Begins rules Spells lines → (said : List (S L)) × (p : Place A) × (lines ≡ laws line-of said) × Came said p
   begins-back lines b =
       let x = N .back (b .net) (lines ++ b .rest) (b .spelled) in
       let s = split line-of lines (b .rest) (x .0) (x .1) in
@@ -98,10 +117,10 @@ module _ {L : Lang} (A : Machine L) (X : Lexis L) (line-of : (k : L .Kind) → L
       (s .0, r .0, s .3, r .1)
 
   -- ## One more line
-  pub line-to : (said : List (S L)) (p q : Place A) (s : S L) → Came said p → step A p s ≡ next q → Begins present Spells (laws line-of said ++ (law s ∷ []))
-  line-to said p q s c e = subst (Begins present Spells) (map-append law said (s ∷ [])) (begins-to (said ++ (s ∷ [])) q (run-both A (at A first) p q said (s ∷ []) c (one-run A p q q s [] e (run-nil A q))))
+  pub line-to : (said : List (S L)) (p q : Place A) (s : S L) → Came said p → step A p s ≡ next q → Begins rules Spells (laws line-of said ++ (law s ∷ []))
+  line-to said p q s c e = subst (Begins rules Spells) (map-append law said (s ∷ [])) (begins-to (said ++ (s ∷ [])) q (run-both A (at A first) p q said (s ∷ []) c (one-run A p q q s [] e (run-nil A q))))
 
-  pub line-back : (said : List (S L)) (p : Place A) (line : Line) → Came said p → Begins present Spells (laws line-of said ++ (line ∷ [])) → (s : S L) × (q : Place A) × (line ≡ law s) × (step A p s ≡ next q)
+  pub line-back : (said : List (S L)) (p : Place A) (line : Line) → Came said p → Begins rules Spells (laws line-of said ++ (line ∷ [])) → (s : S L) × (q : Place A) × (line ≡ law s) × (step A p s ≡ next q)
   line-back said p line c b = go (begins-back (laws line-of said ++ (line ∷ [])) b)
     where
       last : (b : List (S L)) (q : Place A) → line ∷ [] ≡ laws line-of b → run A p b ≡ next q → (s : S L) × (q : Place A) × (line ≡ law s) × (step A p s ≡ next q)

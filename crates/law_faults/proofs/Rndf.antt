@@ -2,7 +2,7 @@
 use mathlib.Core.Path.{_≡_, refl, sym, ap, subst, _∙_}
 use mathlib.Core.List.{List, [], _∷_}
 use mathlib.Core.Option.{Option, none}
-use mathlib.Core.Bool.{not}
+use mathlib.Core.Bool.{Bool, true, false, not}
 use Prim.Native.Nat.{ℕ, zero, suc, _≤_}
 use native.Mathlib.Omega.{arith}
 use lib.ListN.{getD}
@@ -12,29 +12,30 @@ use Rattle.line.specs.Content.{Field, at}
 use Rattle.scan.specs.Reach.{sameBytes}
 use Rattle.word.specs.Keywords.{rndf-keywords}
 use Rattle.word.specs.Number.{indexOf}
-use Rattle.law.specs.Network.{double-yellow, Line, numbers}
+use Rattle.law.specs.Network.{double-yellow, Line, numbers, present, lenient}
 use Rattle.grammar.specs.Network.{GoodExit, GoodPerimeterExit}
 use Rattle.law.specs.Network as Law
 use Rattle.grammar.specs.Language.{say}
-use Rattle.grammar.specs.Network.{SpellsNetwork}
+use Rattle.grammar.specs.Network.{SpellsNetworkBy, SpellsNetwork}
 use Rattle.grammar.specs.Statements.{Kind, Says, lines, RNDF-name, num-segments, num-zones, format-version, creation-date, segment, num-lanes, segment-name, end-segment, lane, num-waypoints, lane-width, left-boundary, right-boundary, checkpoint, stop, exit, end-lane, zone, num-spots, zone-name, end-zone, perimeter, num-perimeterpoints, end-perimeter, spot, spot-width, end-spot, end-file, point, point-id}
 use Rattle.grammar.specs.Machine.{Place, step}
+use Rattle.grammar.specs.Machine as Machine
 use Rattle.grammar.specs.Forms.{tested}
 use Rattle.grammar.specs.Permitted.{counted, atMost, ownStop, ownCheckpoint, ownExit, exit?, perimeter-exit?}
-use Rattle.grammar.specs.Places.{rndf, Base, opts, due, name-due, num-segments-due, num-zones-due, first-segment-due, part-due, num-lanes-due, first-lane-due, lane-due, num-waypoints-due, first-waypoint-due, waypoint-due, num-spots-due, perimeter-due, num-perimeterpoints-due, first-perimeterpoint-due, perimeterpoint-due, spot-due, first-of-spot-due, second-of-spot-due, end-spot-due}
+use Rattle.grammar.specs.Places.{rndf-by, rndf, Base, opts, due, name-due, num-segments-due, num-zones-due, first-segment-due, part-due, num-lanes-due, first-lane-due, lane-due, num-waypoints-due, first-waypoint-due, waypoint-due, num-spots-due, perimeter-due, num-perimeterpoints-due, first-perimeterpoint-due, perimeterpoint-due, spot-due, first-of-spot-due, second-of-spot-due, end-spot-due}
 use Rattle.grammar.specs.PlaceRows.{kinds, kind-row}
 use Rattle.grammar.specs.Renamed.{says-named}
 use Rattle.grammar.proofs.FormLaws as Form
 use Rattle.grammar.proofs.Keeping.{GoodNext}
-use Rattle.grammar.proofs.Renaming.{rndf-renamed}
+use Rattle.grammar.proofs.Renaming.{rndf-renamed-by}
 use Rattle.grammar.proofs.RndfTable.{coded, short}
 use Rattle.text.specs.RndfLines.{rndf-line}
 use Rattle.text.specs.RndfWords.{word-at, rndf-sorts, rndf-make, rndf-lexis}
 use Rattle.text.specs.Judge.{Vals}
 use Rattle.text.specs.Spelling.{Name, bytes, bytes-of}
 use Rattle.text.proofs.KeywordRows.{no-row}
-use Rattle.text.proofs.Theorems.{rndf-file}
-use Rattle.law_spelling.proofs.RndfParts.{network-to, network-back}
+use Rattle.text.proofs.Theorems.{rndf-file, rndf-lenient-file}
+use Rattle.law_spelling.proofs.RndfParts.{network-to-by, network-back-by, network-to, network-back}
 use Rattle.law_spelling.proofs.OneLine.{rndf-line-one, rndf-begins}
 use Rattle.law_faults.proofs.Sorts.{law-said}
 use Rattle.law_faults.proofs.Moved.{Alike}
@@ -101,10 +102,10 @@ due-unlisted (end-spot-due m z n s) = tt
 a-name : Field
 a-name = at 0 []
 
-checkpoint-value : (m n w : ℕ) → 1 ≤ w → (v : Says Field checkpoint) × T (tested (ownCheckpoint m n w) v)
-checkpoint-value m n w h =
-    let c : Law.Checkpoint = record { waypoint = 1; number = 1 } in
-    (ownCheckpoint m n w .line c, Form.pass (ownCheckpoint m n w) c (record { waypoint = record { low = omega arith; high = h }; number = record { low = omega arith; high = omega arith } }))
+checkpoint-value : (m n low w : ℕ) → low ≤ w → (v : Says Field checkpoint) × T (tested (ownCheckpoint m n low w) v)
+checkpoint-value m n low w h =
+    let c : Law.Checkpoint = record { waypoint = low; number = 1 } in
+    (ownCheckpoint m n low w .line c, Form.pass (ownCheckpoint m n low w) c (record { waypoint = record { low = omega arith; high = h }; number = record { low = omega arith; high = omega arith } }))
 
 stop-value : (m n w : ℕ) → 1 ≤ w → (v : Says Field stop) × T (tested (ownStop m n w) v)
 stop-value m n w h = (point-id m n 1, Form.pass (ownStop m n w) 1 (record { low = omega arith; high = h }))
@@ -146,7 +147,7 @@ values-after (num-lanes-due m o z) v t = ((a-name, tt), tt)
 values-after (first-lane-due m o z l) v t = tt
 values-after (lane-due m o z n zero) v t = tt
 values-after (lane-due m o z n (suc l)) v t = tt
-values-after (num-waypoints-due m o z n l) v t = (at-most-value, ((double-yellow, tt), ((double-yellow, tt), (checkpoint-value m n v (some-counted v t), (stop-value m n v (some-counted v t), (exit-value m n v (some-counted v t), tt))))))
+values-after (num-waypoints-due m o z n l) v t = (at-most-value, ((double-yellow, tt), ((double-yellow, tt), (checkpoint-value m n 1 v (some-counted v t), (stop-value m n v (some-counted v t), (exit-value m n v (some-counted v t), tt))))))
 values-after (first-waypoint-due m o z n l w) v t = tt
 values-after (waypoint-due m o z n l k zero) v t = tt
 values-after (waypoint-due m o z n l k (suc w)) v t = tt
@@ -157,7 +158,7 @@ values-after (first-perimeterpoint-due m z s p) v t = tt
 values-after (perimeterpoint-due m z s k zero) v t = tt
 values-after (perimeterpoint-due m z s k (suc p)) v t = tt
 values-after (spot-due m z n zero) v t = tt
-values-after (spot-due m z n (suc s)) v t = (counted-value, (checkpoint-value m n 2 (omega arith), tt))
+values-after (spot-due m z n (suc s)) v t = (counted-value, (checkpoint-value m n 2 2 (omega arith), tt))
 values-after (first-of-spot-due m z n s) v t = tt
 values-after (second-of-spot-due m z n s) v t = tt
 values-after (end-spot-due m z n s) v t = tt
@@ -206,10 +207,10 @@ alike end-spot u w h = refl
 alike end-file u w h = refl
 alike point u w h = λ i. record { id = h .0 i; position = record { latitude = h .1 .0 i; longitude = h .1 .1 .0 i } }
 
-steady : (p : Place (rndf Field)) (k : Kind) (u w : Vals (rndf-sorts k)) → Alike (rndf-sorts k) u w → step (rndf Field) p (say (lines Field) k (rndf-make k u)) ≡ step (rndf Field) p (say (lines Field) k (rndf-make k w))
-steady p k u w h = sym (rndf-renamed bytes-of p (say (lines Field) k (rndf-make k u))) ∙ ap (λ (v : Says Name k). step (rndf Name) p (say (lines Name) k v)) (alike k u w h) ∙ rndf-renamed bytes-of p (say (lines Field) k (rndf-make k w))
+steady : (strict : Bool) (p : Place (rndf Field)) (k : Kind) (u w : Vals (rndf-sorts k)) → Alike (rndf-sorts k) u w → step (rndf-by Field strict) p (say (lines Field) k (rndf-make k u)) ≡ step (rndf-by Field strict) p (say (lines Field) k (rndf-make k w))
+steady strict p k u w h = sym (rndf-renamed-by bytes-of strict p (say (lines Field) k (rndf-make k u))) ∙ ap (λ (v : Says Name k). step (rndf-by Name strict) p (say (lines Name) k v)) (alike k u w h) ∙ rndf-renamed-by bytes-of strict p (say (lines Field) k (rndf-make k w))
 
-pub rndf-needs : Needs (rndf Field) rndf-lexis rndf-line SpellsNetwork Law.SpellsNetwork name-due
+pub rndf-needs : Needs present (rndf Field) rndf-lexis rndf-line SpellsNetwork Law.SpellsNetwork name-due
 rndf-needs = record {
   file = rndf-file;
   to = network-to;
@@ -221,5 +222,21 @@ rndf-needs = record {
   listed = λ b. all-listed-so (lines Field) keyword (opts Field b) (options-listed b);
   unlisted = λ b. unlisted-so (keyword (due Field b .on)) (due-unlisted b);
   numeric = numeric;
-  steady = steady;
+  steady = steady true;
+}
+
+-- without L8's rule
+pub rndf-lenient-needs : Needs (lenient present) (Machine.lenient (rndf Field)) rndf-lexis rndf-line (SpellsNetworkBy false) Law.SpellsNetwork name-due
+rndf-lenient-needs = record {
+  file = rndf-lenient-file;
+  to = network-to-by false;
+  back = network-back-by false;
+  one = rndf-line-one;
+  begins = rndf-begins;
+  values-first = tt;
+  values-after = values-after;
+  listed = rndf-needs .listed;
+  unlisted = rndf-needs .unlisted;
+  numeric = numeric;
+  steady = steady false;
 }
