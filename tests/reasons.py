@@ -23,7 +23,8 @@ def of_readme():
 
 
 def of_definition():
-    return dict(enumerate((words for words, in lines_of("crates/answers/specs/Reasons.antt", r'^    ∷ ascii "(.*)"$')), 1))
+    rows = lines_of("crates/answers/specs/Reasons.antt", r'^    ∷ (?:ascii "(.*)"|no-reason)$')
+    return {number: words for number, (words,) in enumerate(rows, 1) if words is not None}
 
 
 def of_code():
@@ -36,9 +37,9 @@ def listed(table):
 
 def main():
     readme = listed(of_readme())
-    differ = len(readme) != 24
+    differ = len(readme) != 25
     if differ:
-        print("README.md has %d refusal numbers, not 24" % len(readme))
+        print("README.md has %d refusal numbers, not 25" % len(readme))
     for path, table in (("crates/answers/specs/Reasons.antt", of_definition()), ("crates/answers/src/lib.rt", of_code())):
         found = list(difflib.unified_diff(readme, listed(table), "README.md", path))
         sys.stdout.writelines(found)

@@ -41,11 +41,11 @@ unfolding reason-from reason reasons
 from-one zero = refl
 from-one (suc n) = let l : 1 ≤ suc n = omega arith in rw (le-ltb (suc n) 1 l) refl
 
--- and ends before 25
-behind : (n : ℕ) → 25 ≤ n → reason n ≡ no-reason
+-- and ends before 26
+behind : (n : ℕ) → 26 ≤ n → reason n ≡ no-reason
 unfolding reason reasons
 behind n l = List·getD-eq-default reasons no-reason {n = n} (omega arith)
 
-pub none-behind : (n : ℕ) → reason-from 25 n ≡ no-reason
+pub none-behind : (n : ℕ) → reason-from 26 n ≡ no-reason
 unfolding reason-from
-none-behind n = ⊎-elim (λ (l : n < 25). rw (lt-ltb n 25 l) refl) (λ (l : 25 ≤ n). rw (le-ltb n 25 l) (behind n l)) (below-or-not n 25)
+none-behind n = ⊎-elim (λ (l : n < 26). rw (lt-ltb n 26 l) refl) (λ (l : 26 ≤ n). rw (le-ltb n 26 l) (behind n l)) (below-or-not n 26)

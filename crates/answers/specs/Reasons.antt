@@ -8,7 +8,7 @@ use Rattle.terms.specs.Ascii.{Bytes, ascii}
 abbrev pub no-reason : Bytes
 no-reason = ascii "no such refusal"
 
--- 01, "Refusal numbers", and those that the requests add (L4: 20; L5: 21 to 24): from 0, which none has
+-- 01, "Refusal numbers", and those that the requests add (L4: 20; L5: 21 to 24; L8: 25): from 0, which none has
 unfoldable pub reasons : List Bytes
 reasons =
     no-reason
@@ -36,6 +36,7 @@ reasons =
     ∷ ascii "a step of the route is no move"
     ∷ ascii "a goal is not met in order"
     ∷ ascii "the route does not end at the last goal's point"
+    ∷ ascii "the spot has no checkpoint"
     ∷ []
 
 unfoldable pub reason : ℕ → Bytes

@@ -100,7 +100,7 @@ fn put_reason_from_15(out: &mut [u8], at: usize, number: u8) -> usize
     }
 }
 
-// From 20 on: what the requests add. No reply has another number.
+// From 20 on: what the requests add.
 fn put_reason_from_20(out: &mut [u8], at: usize, number: u8) -> usize
     ensures { λ r. ⌜ Wrote (pen (now (out .entry)) at) (reason-from 20 number) (pen (now (out .exit)) r) ⌝ }
 {
@@ -114,6 +114,16 @@ fn put_reason_from_20(out: &mut [u8], at: usize, number: u8) -> usize
         22 => put_bytes(out, at, b"a step of the route is no move"),
         23 => put_bytes(out, at, b"a goal is not met in order"),
         24 => put_bytes(out, at, b"the route does not end at the last goal's point"),
+        _ => put_reason_from_25(out, at, number),
+    }
+}
+
+// 25: a spot's checkpoint. No reply has another number.
+fn put_reason_from_25(out: &mut [u8], at: usize, number: u8) -> usize
+    ensures { λ r. ⌜ Wrote (pen (now (out .entry)) at) (reason-from 25 number) (pen (now (out .exit)) r) ⌝ }
+{
+    match number {
+        25 => put_bytes(out, at, b"the spot has no checkpoint"),
         _ => put_bytes(out, at, b"no such refusal"),
     }
 }

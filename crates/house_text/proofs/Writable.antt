@@ -121,8 +121,8 @@ points-range m n i hm hn (p ∷ ps) b e =
     let o = e .0 .longitude in
     (((omega arith, omega arith, omega arith), omega arith, omega arith), points-range m n (suc i) hm hn ps (omega arith) (e .1))
 
-checkpoint-range : (m n w : ℕ) → m ≤ largest → n ≤ largest → w ≤ largest → (c : Checkpoint) → GoodCheckpoint w c → R (say checkpoint (checkpoint-of m n c))
-checkpoint-range m n w hm hn hw c g = let a = g .waypoint .high in let b = g .number .high in ((omega arith, omega arith, omega arith), omega arith)
+checkpoint-range : (m n v w : ℕ) → m ≤ largest → n ≤ largest → w ≤ largest → (c : Checkpoint) → GoodCheckpoint v w c → R (say checkpoint (checkpoint-of m n c))
+checkpoint-range m n v w hm hn hw c g = let a = g .waypoint .high in let b = g .number .high in ((omega arith, omega arith, omega arith), omega arith)
 
 stop-range : (m n w : ℕ) → m ≤ largest → n ≤ largest → w ≤ largest → (i : ℕ) → Between 1 w i → R (say stop (point-id m n i))
 stop-range m n w hm hn hw i g = let a = g .high in (omega arith, omega arith, omega arith)
@@ -151,7 +151,7 @@ lane-range m n hm hn a g =
     let widths = said-each R (λ w. w ≤ largest) (say lane-width) (λ w h. omega arith) (perhaps (a .width)) (g .width) in
     let lefts = said-each R (λ b. Unit {0}) (say left-boundary) (λ b h. tt) (perhaps (a .left)) (each-any (perhaps (a .left))) in
     let rights = said-each R (λ b. Unit {0}) (say right-boundary) (λ b h. tt) (perhaps (a .right)) (each-any (perhaps (a .right))) in
-    let checkpoints = said-each R (GoodCheckpoint w) (λ c. say checkpoint (checkpoint-of m n c)) (checkpoint-range m n w hm hn c) (a .checkpoints) (g .checkpoints) in
+    let checkpoints = said-each R (GoodCheckpoint 1 w) (λ c. say checkpoint (checkpoint-of m n c)) (checkpoint-range m n 1 w hm hn c) (a .checkpoints) (g .checkpoints) in
     let stops = said-each R (Between 1 w) (λ i. say stop (point-id m n i)) (stop-range m n w hm hn c) (a .stops) (g .stops) in
     let exits = said-each R (GoodExit w) (λ e. say exit (exit-of m n e)) (exit-range m n w hm hn c) (a .exits) (g .exits) in
     let options : Every R (lane-options m n a) = joined widths (joined lefts (joined rights (joined checkpoints (joined stops exits)))) in
@@ -179,7 +179,7 @@ spot-range : (m n : ℕ) → m ≤ largest → n ≤ largest → (a : Spot) → 
 unfolding house-spot spot-options
 spot-range m n hm hn a g =
     let widths = said-each R (Between 1 largest) (say spot-width) (λ w h. let b = h .high in omega arith) (perhaps (a .width)) (g .width) in
-    let checkpoints = said-each R (GoodCheckpoint 2) (λ c. say checkpoint (checkpoint-of m n c)) (checkpoint-range m n 2 hm hn (omega arith)) (perhaps (a .checkpoint)) (g .checkpoint) in
+    let checkpoints = said-each R (GoodCheckpoint 2 2) (λ c. say checkpoint (checkpoint-of m n c)) (checkpoint-range m n 2 2 hm hn (omega arith)) (perhaps (a .checkpoint)) (g .checkpoint) in
     let p = g .first .latitude in
     let q = g .first .longitude in
     let s = g .second .latitude in

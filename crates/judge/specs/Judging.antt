@@ -35,7 +35,7 @@ pub record Judging : Type 1 where
 module _ (J : Judging) where
   open Judging J using (St, Pl, kinds, kindOf, cell, refuses, needs, made, steps)
 
-  -- 01: 9 "value not permitted here": the place's own number
+  -- 01: 9 "value not permitted here", L8: 25: the place's own number
   abbrev pub taken : St → Out Pl → Got St Pl
   taken s (next q) = said s q
   taken s (refuse n) = bad n

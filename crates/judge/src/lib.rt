@@ -1,5 +1,5 @@
-// One line at a place: blank, a statement with the next place, or one number of document 01, 2 to 9.
-// The faults are told in document 01's order: 2, 3, 4 by the line's form; 5 and 6 by the kind alone; 7 by the count of fields; 8 over every field; 9 last.
+// One line at a place: blank, a statement with the next place, or one number of document 01, 2 to 9 or 25.
+// The faults are told in document 01's order: 2, 3, 4 by the line's form; 5 and 6 by the kind alone; 7 by the count of fields; 8 over every field; 9, and behind it 25.
 //
 // specs/Judging: the same, executable, for every file. proofs/: it is what `text` says of the line (RndfTies).
 //
@@ -45,7 +45,7 @@ fn kind_of(s: &[u8]) -> u8
     if i < kinds::POINT { i } else { kinds::COUNT }
 }
 
-// The place's own number, 9, or the next place.
+// The place's own number, 9 or 25, or the next place.
 fn taken_told(s: Statement, o: Outcome) -> Verdict
     ensures { λ r. ⌜ r ≡ verdict (taken rndf-judging s (seen o)) ⌝ }
 {

@@ -54,15 +54,16 @@ one-is ps m n first c p b e =
     (λ i. ascii ",{\"type\":\"Feature\",\"geometry\":{\"type\":\"Point\",\"coordinates\":" ++ position-is ps (first + pred (c .waypoint)) p e i ++ ascii "},\"properties\":{\"kind\":\"checkpoint\",\"id\":\"" ++ houseTriple m n (placed first (c .waypoint) (b .low) (b .high) i) ++ ascii "\",\"number\":" ++ decimal (c .number) ++ ascii "}}")
     ∙ checkpoint-numbered m n (c .waypoint) p (decimal (c .number))
 
--- ## Those of a part m.n that has these points, from row `first` on
-module _ (ps : List ℤ) (cps : List ℕ) (m n first : ℕ) (l : List Position) (few : length l ≤ 32768) (points : From (pointAt ps) first (map shown-point l)) where
-  part-are : (next : ℕ) (cs : List Checkpoint) → Each (GoodCheckpoint (length l)) cs → From (checkpointAt cps) next (map shown-checkpoint (map (checkpoint-row first) cs))
+-- ## Those of a part m.n that has these points, from row `first` on, and may have a checkpoint on its waypoints from `lowest` on
+module _ (ps : List ℤ) (cps : List ℕ) (m n first : ℕ) (l : List Position) (few : length l ≤ 32768) (points : From (pointAt ps) first (map shown-point l)) (lowest : ℕ) (from-one : 1 ≤ lowest) where
+  part-are : (next : ℕ) (cs : List Checkpoint) → Each (GoodCheckpoint lowest (length l)) cs → From (checkpointAt cps) next (map shown-checkpoint (map (checkpoint-row first) cs))
       → each (checkpoint-from ps cps m n first) next (length cs) ≡ marks 1 (gather (Map.checkpoint-feature m n l) cs)
   unfolding each checkpoint-from marks comma-from
   part-are next [] good rows = refl
   part-are next (c ∷ cs) good rows =
       let w = good .0 .waypoint in
-      let low = w .low in
+      let from = w .low in
+      let low : 1 ≤ c .waypoint = omega arith in
       let high = w .high in
       let at = point-at ps first (pred (c .waypoint)) l (before (c .waypoint) (length l) low high) points in
       let f = Map.feature "checkpoint" (m ∷ n ∷ c .waypoint ∷ []) (Map.member "number" (decimal (c .number)) ∷ []) (Map.point (at .0)) in
@@ -91,13 +92,13 @@ module _ (ps : List ℤ) (cps : List ℕ) (m n first : ℕ) (l : List Position) 
         ∙ (let e : suc next + length own ≡ next + suc (length own) = omega arith in e)
 
     -- THE LAW: the walk over a part
-    pub part-walked : (cs : List Checkpoint) → Each (GoodCheckpoint (length l)) cs → Passes cps count (part-walk ps cps count m n first (length l)) (first + length l) (map (checkpoint-row first) cs) (gather (Map.checkpoint-feature m n l) cs)
+    pub part-walked : (cs : List Checkpoint) → Each (GoodCheckpoint lowest (length l)) cs → Passes cps count (part-walk ps cps count m n first (length l)) (first + length l) (map (checkpoint-row first) cs) (gather (Map.checkpoint-feature m n l) cs)
     unfolding part-walk walk-to part-checkpoints
     part-walked cs good p next others left high =
         let own = map (checkpoint-row first) cs in
         let parts = from-parts (checkpointAt cps) next (map shown-checkpoint own) (map shown-checkpoint others) (rw (sym (map-append shown-checkpoint own others)) (left .read)) in
         let low = each-of-map (λ r. r .point < first + length l) (checkpoint-row first) cs
-        (each-map (GoodCheckpoint (length l)) (λ c. first + pred (c .waypoint) < first + length l) (λ c g. let k = before (c .waypoint) (length l) (g .waypoint .low) (g .waypoint .high) in omega arith) cs good) in
+        (each-map (GoodCheckpoint lowest (length l)) (λ c. first + pred (c .waypoint) < first + length l) (λ c g. let from = g .waypoint .low in let k = before (c .waypoint) (length l) (omega arith) (g .waypoint .high) in omega arith) cs good) in
         let long : next + length own - next ≡ length cs = (let k = length-map cs (checkpoint-row first) in omega arith) in
         ap (λ (e : ℕ). walk (put p (each (checkpoint-from ps cps m n first) next (e - next))) e) (ends (first + length l) next own others (left .all) (left .read) low high)
         ∙ ap (λ (k : ℕ). walk (put p (each (checkpoint-from ps cps m n first) next k)) (next + length own)) long

@@ -57,7 +57,7 @@ module _ (ps : List ℤ) (cps : List ℕ) (count : ℕ) (lanes : List ℕ) where
     unfolding lane-walk
     lane-passed j p a few good e points q next others l high =
         let number : min (0 + j + 1) 4294967295 ≡ suc j = omega arith in
-        (λ i. part-walk ps cps count m (number i) (e i .«first_point») (e i .points) (walk q next)) ∙ part-walked ps cps m (suc j) p (a .points) (good .count .high) points count (a .checkpoints) (good .checkpoints) q next others l high
+        (λ i. part-walk ps cps count m (number i) (e i .«first_point») (e i .points) (walk q next)) ∙ part-walked ps cps m (suc j) p (a .points) (good .count .high) points 1 (omega arith) count (a .checkpoints) (good .checkpoints) q next others l high
 
     lanes-passed : (j p : ℕ) (ls : List Lane) → j + length ls ≤ 32768 → Each GoodLane ls → From (laneAt lanes) (row .«first_lane» + j) (map shown-lane (lane-rows p ls)) → From (pointAt ps) p (map shown-point (points-of ls))
         → Passes cps count (steps (lane-walk lanes ps cps count m row) j (length ls)) (p + total lane-size ls) (of-lanes p ls) (Map.numbered (suc j) (lane-marks m) ls)

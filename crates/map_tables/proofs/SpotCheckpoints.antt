@@ -69,7 +69,7 @@ module _ (ps : List ℤ) (cps : List ℕ) (count : ℕ) (spots : List ℕ) where
     spot-passed j p s few good e points =
         let number : min (0 + j + 1) 4294967295 ≡ suc j = omega arith in
         subst (λ (r : List CheckpointRow). Passes cps count (spot-walk spots ps cps count m row j) (p + 2) r (spot-marks m (suc j) s)) (spot-own p (s .checkpoint))
-        (λ q next others l high. (λ i. part-walk ps cps count m (number i) (e i .«first_point») 2 (walk q next)) ∙ part-walked ps cps m (suc j) p (spot-points s) (omega arith) points count (perhaps (s .checkpoint)) (good .checkpoint) q next others l high)
+        (λ q next others l high. (λ i. part-walk ps cps count m (number i) (e i .«first_point») 2 (walk q next)) ∙ part-walked ps cps m (suc j) p (spot-points s) (omega arith) points 2 (omega arith) count (perhaps (s .checkpoint)) (good .checkpoint) q next others l high)
 
     spots-passed : (j p : ℕ) (ss : List Spot) → j + length ss ≤ 32768 → Each GoodSpot ss → From (spotAt spots) (row .«first_spot» + j) (map shown-spot (spot-rows p ss)) → From (pointAt ps) p (map shown-point (gather spot-points ss))
         → Passes cps count (steps (spot-walk spots ps cps count m row) j (length ss)) (p + total (λ s. 2) ss) (of-spots p ss) (Map.numbered (suc j) (spot-marks m) ss)

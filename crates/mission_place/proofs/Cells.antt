@@ -163,7 +163,7 @@ unfolding refusesOf refusesBy stepOf byCell dueOf optionOf
 by-kind p k v =
     let s = ofKind k v in
     let c = cell mdf-table (indexOf p) (orderOf s) in
-    ap (λ (j : ℕ). refusesOf p j) (sym (kind-written k v)) ∙ by-cell program (ltb c 128) (ltb c 255) (hasOf p (c - 128)) (permitsOf s) (afterOf p s c) (optedOf p (c - 128))
+    ap (λ (j : ℕ). refusesOf p j) (sym (kind-written k v)) ∙ by-cell program (ltb c 128) (ltb c 255) (hasOf p (c - 128)) (permitsOf s) true (afterOf p s c) (optedOf p (c - 128))
 
 pub cells : Cells program
 cells = record {

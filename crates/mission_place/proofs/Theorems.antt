@@ -67,7 +67,7 @@ pub answered : (p : MissionPlace) (s : Order) → F.Answers program (stepOf p s)
 unfolding stepOf byCell dueOf optionOf refusesOf refusesBy
 answered p s =
     let c = cell mdf-table (indexOf p) (orderOf s) in
-    F.by-number program (ltb c 128) (ltb c 255) (hasOf p (c - 128)) (permitsOf s) (afterOf p s c) (optedOf p (c - 128))
+    F.by-number program (ltb c 128) (ltb c 255) (hasOf p (c - 128)) (permitsOf s) true (afterOf p s c) (optedOf p (c - 128))
 
 -- ## By the cell
 -- what the program does with a cell that it looked up in the right table is what the place does

@@ -6,8 +6,8 @@ use native.Mathlib.Omega.{arith}
 use lib.Dec.{leb, eqb}
 use borrow.Author.Tests.{le-leb, ne-eqb}
 use lib.IntN.{ℤ, natAbs}
-use Rattle.grammar.specs.Statements.{PartId, PointId, Position, PointLine, part-id, point-id}
-use Rattle.grammar.specs.Network.{largest}
+use Rattle.grammar.specs.Statements.{PartId, PointId, Position, PointLine, CheckpointLine, part-id, point-id}
+use Rattle.grammar.specs.Network.{largest, Checkpoint, checkpoint-of}
 use Rattle.grammar.specs.MissionStatements.{Limit}
 use Rattle.grammar.specs.Forms.{yes?, le?, eq?, and?, via}
 use Rattle.grammar.specs.Permitted.{between?, part?, point?, on-earth?, checkpoint?, entry?, exit?, perimeter-exit?}
@@ -60,9 +60,9 @@ pub point-is : (m n k : ℕ) (i : Id) → isPoint m n k i ≡ (eqb m (i .x) && (
 unfolding isPoint
 point-is m n k i = point-same (point-id m n k) (point-of i)
 
-pub numbered-is : (w n : ℕ) → isNumbered w n ≡ (leb 1 n && leb n w)
+pub numbered-is : (first w n : ℕ) → isNumbered first w n ≡ (leb first n && leb n w)
 unfolding isNumbered
-numbered-is w n = between 1 w n
+numbered-is first w n = between first w n
 
 counted-between : (n : ℕ) → yes? (between? 1 largest n) ≡ isCounted n
 counted-between n = between 1 largest n ∙ sym (counted-is n)
@@ -78,24 +78,26 @@ the-point-is m n due i a o =
     yes-and (via {B = _≡_ {A = PointLine} (record { id = point-id m n due; position = p }) (record { id = point-of i; position = p })} _ _ d) (on-earth? p)
     ∙ both (yes-via _ _ d) (yes-via _ _ (and? (le? (natAbs a) 90000000) (le? (natAbs o) 180000000)) ∙ yes-and (le? (natAbs a) 90000000) (le? (natAbs o) 180000000) ∙ both (at-most (natAbs a) 90000000) (at-most (natAbs o) 180000000))
 
-pub own-stop-is : (m n w : ℕ) (i : Id) → isOwnStop m n w i ≡ (isPoint m n (i .z) i && isNumbered w (i .z))
+pub own-stop-is : (m n w : ℕ) (i : Id) → isOwnStop m n w i ≡ (isPoint m n (i .z) i && isNumbered 1 w (i .z))
 unfolding isOwnStop isPoint isNumbered
 own-stop-is m n w i = yes-and (point? (point-id m n (i .z)) (point-of i)) (between? 1 w (i .z))
 
 -- a point of the part, and something more
 own-then : (m n w : ℕ) (i : Id) {B R : Type 0} (f : point-id m n (i .z) ≡ point-of i → B) (g : B → point-id m n (i .z) ≡ point-of i) (x : Bool) (d : Dec R)
-    → yes? d ≡ (isNumbered w (i .z) && x) → yes? (and? (via f g (point? (point-id m n (i .z)) (point-of i))) d) ≡ (isOwnStop m n w i && x)
+    → yes? d ≡ (isNumbered 1 w (i .z) && x) → yes? (and? (via f g (point? (point-id m n (i .z)) (point-of i))) d) ≡ (isOwnStop m n w i && x)
 unfolding isPoint
 own-then m n w i f g x d e =
     let p = point? (point-id m n (i .z)) (point-of i) in
-    yes-and (via f g p) d ∙ both (yes-via f g p) e ∙ sym (and-assoc (yes? p) (isNumbered w (i .z)) x) ∙ ap (λ (b : Bool). b && x) (sym (own-stop-is m n w i))
+    yes-and (via f g p) d ∙ both (yes-via f g p) e ∙ sym (and-assoc (yes? p) (isNumbered 1 w (i .z)) x) ∙ ap (λ (b : Bool). b && x) (sym (own-stop-is m n w i))
 
-pub own-checkpoint-is : (m n w : ℕ) (i : Id) (k : ℕ) → isOwnCheckpoint m n w i k ≡ (isOwnStop m n w i && isCounted k)
-unfolding isOwnCheckpoint isNumbered
-own-checkpoint-is m n w i k =
-    let a = between? 1 w (i .z) in
+pub own-checkpoint-is : (m n first w : ℕ) (i : Id) (k : ℕ) → isOwnCheckpoint m n first w i k ≡ (isPoint m n (i .z) i && (isNumbered first w (i .z) && isCounted k))
+unfolding isOwnCheckpoint isPoint isNumbered
+own-checkpoint-is m n first w i k =
+    let p = point? (point-id m n (i .z)) (point-of i) in
+    let a = between? first w (i .z) in
     let b = between? 1 largest k in
-    own-then m n w i _ _ (isCounted k) (checkpoint? w (record { waypoint = i .z; number = k })) (yes-via _ _ (and? a b) ∙ yes-and a b ∙ both (refl {a = yes? a}) (counted-between k))
+    let c : Checkpoint = record { waypoint = i .z; number = k } in
+    yes-and (via {B = _≡_ {A = CheckpointLine} (checkpoint-of m n c) (record { waypoint = point-of i; number = k })} _ _ p) (checkpoint? first w c) ∙ both (yes-via _ _ p) (yes-via _ _ (and? a b) ∙ yes-and a b ∙ both (refl {a = yes? a}) (counted-between k))
 
 pub entry-is : (e : Id) → isEntry e ≡ (isCounted (e .x) && (isAtMost (e .y) && isCounted (e .z)))
 unfolding isEntry

@@ -31,8 +31,8 @@ isThePoint m n due i a o = tested (thePoint m n due) (record { id = point-of i; 
 unfoldable pub isOwnStop : (m n w : ℕ) → Id → Bool
 isOwnStop m n w i = tested (ownStop m n w) (point-of i)
 
-unfoldable pub isOwnCheckpoint : (m n w : ℕ) → Id → ℕ → Bool
-isOwnCheckpoint m n w i number = tested (ownCheckpoint m n w) (record { waypoint = point-of i; number = number })
+unfoldable pub isOwnCheckpoint : (m n first w : ℕ) → Id → ℕ → Bool
+isOwnCheckpoint m n first w i number = tested (ownCheckpoint m n first w) (record { waypoint = point-of i; number = number })
 
 unfoldable pub isOwnExit : (m n w : ℕ) → (i e : Id) → Bool
 isOwnExit m n w i e = tested (ownExit m n (GoodExit w) (exit? w)) (record { waypoint = point-of i; entry = point-of e })
@@ -44,8 +44,8 @@ isPerimeterExit m w i e = tested (ownExit m 0 (GoodPerimeterExit w) (perimeter-e
 unfoldable pub isPoint : (m n k : ℕ) → Id → Bool
 isPoint m n k i = yes? (point? (point-id m n k) (point-of i))
 
-unfoldable pub isNumbered : (w n : ℕ) → Bool
-isNumbered w n = yes? (between? 1 w n)
+unfoldable pub isNumbered : (first w n : ℕ) → Bool
+isNumbered first w n = yes? (between? first w n)
 
 unfoldable pub isLatitude : ℤ → Bool
 isLatitude z = leb (natAbs z) 90000000

@@ -93,11 +93,11 @@ pub fn the_point(m: u32, n: u32, due: u64, i: Id, a: i32, o: i32) -> bool
     }
 }
 
-// 1 to most.
-fn numbered(most: u32, n: u32) -> bool
-    ensures { λ r. ⌜ r ≡ isNumbered most n ⌝ }
+// From the first to the last.
+fn numbered(first: u32, last: u32, n: u32) -> bool
+    ensures { λ r. ⌜ r ≡ isNumbered first last n ⌝ }
 {
-    if 1 <= n { n <= most } else { false }
+    if first <= n { n <= last } else { false }
 }
 
 // A point of the part m.n, which has w.
@@ -105,18 +105,22 @@ pub fn own_stop(m: u32, n: u32, w: u32, i: Id) -> bool
     ensures { λ r. ⌜ r ≡ isOwnStop m n w i ⌝ }
 {
     if is_point(m, n, i.z as u64, i) {
-        numbered(w, i.z)
+        numbered(1, w, i.z)
     } else {
         false
     }
 }
 
-// A point of the part m.n, which has w, and a checkpoint number.
-pub fn own_checkpoint(m: u32, n: u32, w: u32, i: Id, number: u32) -> bool
-    ensures { λ r. ⌜ r ≡ isOwnCheckpoint m n w i number ⌝ }
+// A point of the part m.n, from the first that may be one to the last, and a checkpoint number.
+pub fn own_checkpoint(m: u32, n: u32, first: u32, last: u32, i: Id, number: u32) -> bool
+    ensures { λ r. ⌜ r ≡ isOwnCheckpoint m n first last i number ⌝ }
 {
-    if own_stop(m, n, w, i) {
-        counted(number)
+    if is_point(m, n, i.z as u64, i) {
+        if numbered(first, last, i.z) {
+            counted(number)
+        } else {
+            false
+        }
     } else {
         false
     }

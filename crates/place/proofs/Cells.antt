@@ -26,7 +26,7 @@ use Rattle.permitted.specs.Tests.{isCounted, isAtMost, isUpTo, isTheNumber, isT
 use Rattle.place.specs.declared.Place.{Place}
 use Rattle.place.specs.declared.Outcome.{Outcome}
 use Rattle.place.specs.declared.Outcome.the-variants.{Next, Refused}
-use Rattle.place.specs.Step.{hasOf, permitsOf, afterOf, optedOf, indexOf, dueOf, optionOf, byCell, stepOf, refusesBy, refusesOf, overOf}
+use Rattle.place.specs.Step.{hasOf, permitsOf, readyOf, afterOf, optedOf, indexOf, dueOf, optionOf, byCell, stepOf, refusesBy, refusesOf, overOf}
 use Rattle.place.specs.Abstract.{seen, placeOf, flags, absOf}
 use Rattle.place.proofs.Table.{row-is, shut}
 
@@ -187,7 +187,7 @@ opt-lines (first-waypoint-due m o z n l w) x y u = (
     (
       (λ v. oline program (first-waypoint-due m o z n l w) (x ∷ y ∷ u ∷ false ∷ false ∷ false ∷ []) right-boundary v u true (x ∷ y ∷ true ∷ false ∷ false ∷ false ∷ []) refl (ontos-judge (x ∷ y ∷ []) u true (true ∷ false ∷ false ∷ false ∷ [])) (x, y, true, refl)),
       (
-        (λ v. oline program (first-waypoint-due m o z n l w) (x ∷ y ∷ u ∷ false ∷ false ∷ false ∷ []) checkpoint v false (tested (ownCheckpoint m n w) v) (x ∷ y ∷ u ∷ false ∷ false ∷ false ∷ []) refl (ontos-judge (x ∷ y ∷ u ∷ []) false (tested (ownCheckpoint m n w) v) (false ∷ false ∷ false ∷ [])) (x, y, u, refl)),
+        (λ v. oline program (first-waypoint-due m o z n l w) (x ∷ y ∷ u ∷ false ∷ false ∷ false ∷ []) checkpoint v false (tested (ownCheckpoint m n 1 w) v) (x ∷ y ∷ u ∷ false ∷ false ∷ false ∷ []) refl (ontos-judge (x ∷ y ∷ u ∷ []) false (tested (ownCheckpoint m n 1 w) v) (false ∷ false ∷ false ∷ [])) (x, y, u, refl)),
         (
           (λ v. oline program (first-waypoint-due m o z n l w) (x ∷ y ∷ u ∷ false ∷ false ∷ false ∷ []) stop v false (tested (ownStop m n w) v) (x ∷ y ∷ u ∷ false ∷ false ∷ false ∷ []) refl (ontos-judge (x ∷ y ∷ u ∷ false ∷ []) false (tested (ownStop m n w) v) (false ∷ false ∷ [])) (x, y, u, refl)),
           (
@@ -215,7 +215,7 @@ opt-lines (spot-due m z n s) x y u = tt
 opt-lines (first-of-spot-due m z n s) x y u = (
   (λ v. oline program (first-of-spot-due m z n s) (x ∷ y ∷ []) spot-width v x (tested counted v) (true ∷ y ∷ []) refl refl (true, y, false, refl)),
   (
-    (λ v. oline program (first-of-spot-due m z n s) (x ∷ y ∷ []) checkpoint v y (tested (ownCheckpoint m n 2) v) (x ∷ true ∷ []) refl (ontos-judge (x ∷ []) y (tested (ownCheckpoint m n 2) v) (true ∷ [])) (x, true, false, refl)),
+    (λ v. oline program (first-of-spot-due m z n s) (x ∷ y ∷ []) checkpoint v y (tested (ownCheckpoint m n 2 2) v) (x ∷ true ∷ []) refl (ontos-judge (x ∷ []) y (tested (ownCheckpoint m n 2 2) v) (true ∷ [])) (x, true, false, refl)),
     tt,
   ),
 )
@@ -304,7 +304,7 @@ unfolding refusesOf refusesBy stepOf byCell dueOf optionOf
 by-kind p k v =
     let s = ofKind k v in
     let c = cell rndf-table (indexOf p) (kindOf s) in
-    ap (λ (j : ℕ). refusesOf p j) (sym (kind-written k v)) ∙ by-cell program (ltb c 128) (ltb c 255) (hasOf (p .given) (c - 128)) (permitsOf p s) (afterOf p s c) (optedOf p (c - 128))
+    ap (λ (j : ℕ). refusesOf p j) (sym (kind-written k v)) ∙ by-cell program (ltb c 128) (ltb c 255) (hasOf (p .given) (c - 128)) (permitsOf p s) (readyOf p) (afterOf p s c) (optedOf p (c - 128))
 
 pub cells : Cells program
 cells = record {

@@ -21,7 +21,7 @@ use Rattle.statement.specs.Kinds.{kindOf}
 use Rattle.place_table.proofs.Laws.{rndf-cell-is}
 use Rattle.place.specs.declared.Place.{Place}
 use Rattle.place.specs.declared.Outcome.the-variants.{Next, Refused}
-use Rattle.place.specs.Step.{hasOf, permitsOf, afterOf, optedOf, firstPlace, indexOf, dueOf, optionOf, cellOf, byCell, stepOf, refusesBy, refusesOf, overOf}
+use Rattle.place.specs.Step.{hasOf, permitsOf, readyOf, afterOf, optedOf, firstPlace, indexOf, dueOf, optionOf, cellOf, byCell, stepOf, refusesBy, refusesOf, overOf}
 use Rattle.place.specs.Abstract.{seen, placeOf, absOf}
 use Rattle.place.proofs.Cells.{program, cells}
 
@@ -60,12 +60,12 @@ refused-of = F.refused-of program cells
 pub refuses-is : (p : Place) (k : Kind) → Sound p → refusesOf p (kind-row k) ≡ numberOf (stands (rndf Stretch) (absOf p) k)
 refuses-is = F.by-kind-alone program cells
 
--- 5 and 6 come first: what the kind decides is the answer, at every place, sound or not; where it decides nothing, the answer is the next place or 9
+-- 5 and 6 come first: what the kind decides is the answer, at every place, sound or not; where it decides nothing, the answer is the next place, 9 or 25
 pub answered : (p : Place) (s : Statement) → F.Answers program (stepOf p s) (refusesOf p (kindOf s))
 unfolding stepOf byCell dueOf optionOf refusesOf refusesBy
 answered p s =
     let c = cell rndf-table (indexOf p) (kindOf s) in
-    F.by-number program (ltb c 128) (ltb c 255) (hasOf (p .given) (c - 128)) (permitsOf p s) (afterOf p s c) (optedOf p (c - 128))
+    F.by-number program (ltb c 128) (ltb c 255) (hasOf (p .given) (c - 128)) (permitsOf p s) (readyOf p) (afterOf p s c) (optedOf p (c - 128))
 
 -- ## By the cell
 -- what the program does with a cell that it looked up in the right table is what the place does

@@ -38,6 +38,15 @@ minorOf (op.Zone m) = 0
 minorOf (op.Perimeter m) = 0
 minorOf (op.Spot m n) = n
 
+-- the first waypoint that may be a checkpoint: a spot's is its second
+abbrev pub firstMarkedOf : Open → ℕ
+firstMarkedOf op.File = 1
+firstMarkedOf (op.Segment m) = 1
+firstMarkedOf (op.Lane m n) = 1
+firstMarkedOf (op.Zone m) = 1
+firstMarkedOf (op.Perimeter m) = 1
+firstMarkedOf (op.Spot m n) = 2
+
 abbrev pub aroundOf : Open → Around
 aroundOf op.File = record { part = op.File; due = 0 }
 aroundOf (op.Segment m) = record { part = op.File; due = suc m }
@@ -70,7 +79,7 @@ permitsOf p (st.NumWaypoints k) = isCounted k
 permitsOf p (st.LaneWidth k) = isAtMost k
 permitsOf p (st.LeftBoundary b) = true
 permitsOf p (st.RightBoundary b) = true
-permitsOf p (st.Checkpoint i k) = isOwnCheckpoint (majorOf (p .part)) (minorOf (p .part)) (p .points) i k
+permitsOf p (st.Checkpoint i k) = isOwnCheckpoint (majorOf (p .part)) (minorOf (p .part)) (firstMarkedOf (p .part)) (p .points) i k
 permitsOf p (st.Stop i) = isOwnStop (majorOf (p .part)) (minorOf (p .part)) (p .points) i
 permitsOf p (st.Exit i e) = exitsOf (p .part) (p .points) i e
 permitsOf p st.EndLane = true
@@ -179,8 +188,12 @@ unfoldable pub cellOf : List (List ℕ) → Place → ℕ → ℕ
 cellOf table p kind = cellIn 27 30 table (indexOf p) kind
 
 -- ## The step: by the cell's number the due statement, an option, or none
+-- the options given are enough for the due statement: a spot has its checkpoint
+abbrev pub readyOf : Place → Bool
+readyOf p = pick (eqb (p .row) rows.first-of-spot-due) (p .given .second) true
+
 unfoldable pub dueOf : Place → Statement → ℕ → Outcome
-dueOf p s row = pick (permitsOf p s) (Next (afterOf p s row)) (Refused 9)
+dueOf p s row = pick (permitsOf p s) (pick (readyOf p) (Next (afterOf p s row)) (Refused 25)) (Refused 9)
 
 unfoldable pub optionOf : Place → Statement → ℕ → Outcome
 optionOf p s slot = pick (hasOf (p .given) slot) (Refused 6) (pick (permitsOf p s) (Next (optedOf p slot)) (Refused 9))

@@ -1,13 +1,13 @@
 // Where a reader of an RNDF stands: the open part with its identifiers, what is due and what is still owed, and one step, from a statement to the next place or a refusal.
 // Which statement may stand where is one table of places by statements, which is lent: `cell` looks a kind up in it, once for a line. By that cell `refuses` tells
-// 5 and 6, before a field is read, and `step` tells 5, 6 and 9. Every number of a statement is handled, whatever its size, and every place, also one that no run reaches: nothing here requires anything.
+// 5 and 6, before a field is read, and `step` tells 5, 6, 9 and 25. Every number of a statement is handled, whatever its size, and every place, also one that no run reaches: nothing here requires anything.
 //
 // specs/Step: the same, executable, which the contracts cite. proofs/: it is the grammar's machine, step by step (Theorems).
 //
 // Rests on `terms`, `grammar`, `statement`, `permitted` and `place_table`.
 ghost use mathlib.Core.Path.{_≡_};
 ghost use Rattle.permitted.specs.Owed.{owing};
-ghost use Rattle.place.specs.Step.{majorOf, minorOf, aroundOf, exitsOf, permitsOf, placed, firstPlace, openedOf, passedOf, leftOf, afterOf, indexOf, hasOf, markedOf, optedOf, dueOf, optionOf, cellOf, byCell, refusesBy, overOf};
+ghost use Rattle.place.specs.Step.{majorOf, minorOf, firstMarkedOf, aroundOf, exitsOf, permitsOf, placed, firstPlace, openedOf, passedOf, leftOf, afterOf, indexOf, hasOf, markedOf, optedOf, dueOf, optionOf, cellOf, byCell, refusesBy, overOf, readyOf};
 ghost use Rattle.place_table.specs.RndfRows.{segment-due, zone-due, end-file-due};
 use permitted;
 use place_table;
@@ -80,6 +80,20 @@ impl Open {
             Open::Zone(_) => 0,
             Open::Perimeter(_) => 0,
             Open::Spot(_, n) => n,
+        }
+    }
+
+    // The first waypoint that may be a checkpoint. L8: a spot's is its second.
+    fn first_marked(self) -> u32
+        ensures { λ r. ⌜ r ≡ firstMarkedOf self ⌝ }
+    {
+        match self {
+            Open::File => 1,
+            Open::Segment(_) => 1,
+            Open::Lane(_, _) => 1,
+            Open::Zone(_) => 1,
+            Open::Perimeter(_) => 1,
+            Open::Spot(_, _) => 2,
         }
     }
 
@@ -218,7 +232,14 @@ impl Place {
             Statement::Lane(a, b) => permitted::the_part(m, due, a, b),
             Statement::NumWaypoints(k) => permitted::counted(k),
             Statement::LaneWidth(k) => permitted::at_most(k),
-            Statement::Checkpoint(i, k) => permitted::own_checkpoint(m, n, w, i, k),
+            Statement::Checkpoint(i, k) => permitted::own_checkpoint(
+                m,
+                n,
+                part.first_marked(),
+                w,
+                i,
+                k,
+            ),
             Statement::Stop(i) => permitted::own_stop(m, n, w, i),
             Statement::Exit(i, e) => part.exits(w, i, e),
             Statement::Zone(a) => permitted::the_number(due, a),
@@ -366,12 +387,27 @@ impl Place {
         }
     }
 
+    // Are the options given enough for the due statement? L8: a spot must have its checkpoint, the second of its options.
+    fn ready(self) -> bool
+        ensures { λ r. ⌜ r ≡ readyOf self ⌝ }
+    {
+        if self.row == rndf::FIRST_OF_SPOT_DUE {
+            self.given.second
+        } else {
+            true
+        }
+    }
+
     fn due_step(self, s: Statement, row: u8, fine: bool) -> Outcome
         requires { ⌜ fine ≡ permitsOf self s ⌝ }
         ensures { λ r. ⌜ r ≡ dueOf self s row ⌝ }
     {
         if fine {
-            Outcome::Next(self.after(s, row))
+            if self.ready() {
+                Outcome::Next(self.after(s, row))
+            } else {
+                Outcome::Refused(25)
+            }
         } else {
             Outcome::Refused(9)
         }
@@ -416,7 +452,7 @@ impl Place {
         }
     }
 
-    // The place after a statement with the cell of its kind, or the refusal's number: 5, 6 or 9. The values are tested in one place, so that the compiler
+    // The place after a statement with the cell of its kind, or the refusal's number: 5, 6, 9 or 25. The values are tested in one place, so that the compiler
     // can do it here.
     pub fn step(self, cell: u8, s: Statement) -> Outcome
         ensures { λ r. ⌜ r ≡ byCell self s cell ⌝ }

@@ -2,11 +2,11 @@
 use mathlib.Core.Path.{_≡_}
 use mathlib.Core.List.{List}
 use mathlib.Core.Logic.{_⊎_, inl, inr}
-use Prim.Native.Nat.{ℕ}
+use Prim.Native.Nat.{ℕ, _≤_}
 use native.Mathlib.Omega.{arith}
 use Rattle.terms.specs.Ascii.{Bytes}
 use Rattle.line.specs.Content.{Field}
-use Rattle.refusal.specs.Numbers.{OfForm, OfReference}
+use Rattle.refusal.specs.Numbers.{OfForm, unmarked, OfReference}
 use Rattle.refusal.proofs.Apart.{form-within, reference-within}
 use Rattle.law.specs.Network.{Network, Mission, Line, SpellsNetwork, SpellsMission, present}
 use Rattle.law.specs.Faults.{BadLine, Unended, RndfFault, undeclared, repeated, MdfFault, other-name, foreign-goal, unknown-id, limited-again, unlimited}
@@ -70,9 +70,13 @@ mdf-begin-to lines b = record { more = b .more; text = b .text; cut = b .made; f
 mdf-begin-back : (lines : List Bytes) → Begin present SpellsMission lines → Old-refusals.Begin Old.SpellsMdf lines
 mdf-begin-back lines b = record { more = b .more; text = b .text; made = b .cut; net = b .formed .0; spelled = mdf-back (b .formed .0) (b .text) (b .formed .1) }
 
--- ## A bad line has a number of 2 to 9; the lines before it begin some well-formed text, and none begins with them and it
+-- ## A bad line has a number of 2 to 9, or 25; the lines before it begin some well-formed text, and none begins with them and it
 pub rndf-form : (text : Bytes) (line number : ℕ) → BadLine present SpellsNetwork text line number → OfForm number
-rndf-form text line number b = let h = F.rndf-two-to-nine text line number (rndf-bad-back text line number b) in form-within number (h .0) (h .1)
+rndf-form text line number b = go (F.rndf-two-to-nine-or-25 text line number (rndf-bad-back text line number b))
+  where
+    go : ((2 ≤ number) × (number ≤ 9)) ⊎ (number ≡ 25) → OfForm number
+    go (inl h) = form-within number (h .0) (h .1)
+    go (inr e) = unmarked e
 
 pub mdf-form : (text : Bytes) (line number : ℕ) → BadLine present SpellsMission text line number → OfForm number
 mdf-form text line number b = let h = F.mdf-two-to-nine text line number (mdf-bad-back text line number b) in form-within number (h .0) (h .1)

@@ -3,7 +3,8 @@ use mathlib.Core.Path.{_≡_, subst}
 use mathlib.Core.List.{List}
 use mathlib.Core.Bool.{true}
 use mathlib.Core.Logic.{_⊎_, inl, inr}
-use Prim.Native.Nat.{ℕ}
+use Prim.Native.Nat.{ℕ, _≤_}
+use native.Mathlib.Nat.{le-trans, le-refl}
 use Rattle.terms.specs.Words.{[], _∷_, Bytes, InTurn}
 use Rattle.terms.specs.Words as Words
 use Rattle.scan.specs.Allowed.{tab, separates}
@@ -56,7 +57,7 @@ in-turn : {A X : Type 0} {P Q : ℕ → A → List X → Type 0} → ((i : ℕ) 
 in-turn h Words.nothing = Words.nothing
 in-turn h (Words.then p r) = Words.then (h _ _ _ p) (in-turn h r)
 
-module _ (earlier later : Rules) (options : (ls : List (List Line)) (l : List Line) → earlier .Options ls l → later .Options ls l) where
+module _ (earlier later : Rules) (options : (ls : List (List Line)) (l : List Line) → earlier .Options ls l → later .Options ls l) (marks : later .spot-checkpoints ≤ earlier .spot-checkpoints) where
   lane-by : (m i : ℕ) (a : Lane) (l : List Line) → SpellsLane earlier m i a l → SpellsLane later m i a l
   lane-by m i a l h = record { options = h .options; given = options _ _ (h .given); good = h .good; spelled = h .spelled }
 
@@ -64,7 +65,7 @@ module _ (earlier later : Rules) (options : (ls : List (List Line)) (l : List Li
   segment-by m a l h = record { lanes = h .lanes; count = h .count; each = in-turn (lane-by m) (h .each); spelled = h .spelled }
 
   spot-by : (m i : ℕ) (a : Spot) (l : List Line) → SpellsSpot earlier m i a l → SpellsSpot later m i a l
-  spot-by m i a l h = record { options = h .options; given = options _ _ (h .given); good = h .good; spelled = h .spelled }
+  spot-by m i a l h = record { options = h .options; given = options _ _ (h .given); good = h .good; marked = le-trans marks (h .marked); spelled = h .spelled }
 
   zone-by : (m : ℕ) (a : Zone Field) (l : List Line) → SpellsZone earlier m a l → SpellsZone later m a l
   zone-by m a l h = record { border = h .border; spots = h .spots; count = h .count; bordered = record { good = h .bordered .good; spelled = h .bordered .spelled }; each = in-turn (spot-by m) (h .each); spelled = h .spelled }
@@ -101,4 +102,4 @@ module _ (earlier later : Rules) (options : (ls : List (List Line)) (l : List Li
 
 -- THE THEOREM. L3: "every text accepted before gives the same tables"
 pub tabs-kept : Kept tabs-only present
-tabs-kept = kept tabs-only present (λ ls l h. h) (λ start lines l h. lines-wider h)
+tabs-kept = kept tabs-only present (λ ls l h. h) (le-refl 1) (λ start lines l h. lines-wider h)

@@ -19,4 +19,4 @@ pub record Kept (earlier later : Rules) : Type 0 where
 
 -- the rules before L3. 01: "Fields are separated by one or more tabs". The theorem: Kept tabs-only present
 abbrev pub tabs-only : Rules
-tabs-only = record { separates = tab; Options = AnyOrder }
+tabs-only = record { separates = tab; Options = AnyOrder; spot-checkpoints = 1 }

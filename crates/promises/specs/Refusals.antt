@@ -22,7 +22,7 @@ module _ (rules : Rules) {Net : Type 0} (Spells : Rules → Net → List Line �
   abbrev pub WellFormed : Bytes → Type 0
   WellFormed text = (n : Net) × SpellsText rules Spells n text
 
-  -- 01: "no fault of 2 to 10"
+  -- 01: "no fault of 2 to 10"; L8: "a well-formed file is without it", 25
   pub record NoFormFault (text : Bytes) : Type 0 where
     pub no-bad-line : (line number : ℕ) → BadLine rules Spells text line number → ⊥
     pub ended : (line : ℕ) → Unended rules Spells text line → ⊥
@@ -38,7 +38,7 @@ module _ (rules : Rules) {Net : Type 0} (Spells : Rules → Net → List Line �
   abbrev pub Hopeless : List Bytes → Bytes → Type 0
   Hopeless lines this = (more : List Bytes) (text : Bytes) → Cut text (lines ++ (this ∷ more)) → WellFormed text → ⊥
 
-  -- a number of form (2 to 9): the lines before this one begin some well-formed text, none begins with them and it, and it has the fault with this number
+  -- a number of form (2 to 9, 25): the lines before this one begin some well-formed text, none begins with them and it, and it has the fault with this number
   pub record RefusedLine (text : Bytes) (line number : ℕ) : Type 0 where
     pub front : List Line
     pub this : Bytes

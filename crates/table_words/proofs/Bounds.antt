@@ -161,8 +161,8 @@ module _ {N : Type 0} where
     by-spots : List CheckpointRow
     by-spots = along zone-size (over-spots (λ first s. spot-checkpoint first (s .checkpoint))) (first-zone-point n) (n .zones)
 
-    numbers-of : (p w : ℕ) (cs : List Checkpoint) → Each (GoodCheckpoint w) cs → Each (λ r. Between 1 largest (r .number)) (map (checkpoint-row p) cs)
-    numbers-of p w cs e = each-of-map (λ r. Between 1 largest (r .number)) (checkpoint-row p) cs (each-map (GoodCheckpoint w) (λ c. Between 1 largest (c .number)) (λ c g. g .number) cs e)
+    numbers-of : (p v w : ℕ) (cs : List Checkpoint) → Each (GoodCheckpoint v w) cs → Each (λ r. Between 1 largest (r .number)) (map (checkpoint-row p) cs)
+    numbers-of p v w cs e = each-of-map (λ r. Between 1 largest (r .number)) (checkpoint-row p) cs (each-map (GoodCheckpoint v w) (λ c. Between 1 largest (c .number)) (λ c g. g .number) cs e)
 
     checkpoint-bounds : Each (CheckpointBounds (length all-points)) (by-lanes ++ by-spots)
     unfolding by-lanes by-spots
@@ -171,9 +171,9 @@ module _ {N : Type 0} where
         each-map (λ r. Between 1 largest (r .number) × (r .point < length all-points)) (CheckpointBounds (length all-points)) (λ r h. record { number = h .0; inside = h .1 }) (by-lanes ++ by-spots)
         (each-both (λ r. Between 1 largest (r .number)) (λ r. r .point < length all-points) (by-lanes ++ by-spots)
         (each-append (λ r. Between 1 largest (r .number)) by-lanes by-spots
-        (lane-each (λ r. Between 1 largest (r .number)) (λ first a. map (checkpoint-row first) (a .checkpoints)) (λ p a g. numbers-of p (length (a .points)) (a .checkpoints) (g .checkpoints)))
+        (lane-each (λ r. Between 1 largest (r .number)) (λ first a. map (checkpoint-row first) (a .checkpoints)) (λ p a g. numbers-of p 1 (length (a .points)) (a .checkpoints) (g .checkpoints)))
         (subst (λ (f : ℕ → Spot → List CheckpointRow). Each (λ r. Between 1 largest (r .number)) (along zone-size (over-spots f) (first-zone-point n) (n .zones))) (sym spot-marks)
-        (over-each (λ r. Between 1 largest (r .number)) marks (λ p s g. numbers-of p 2 (perhaps (s .checkpoint)) (g .checkpoint)))))
+        (over-each (λ r. Between 1 largest (r .number)) marks (λ p s g. numbers-of p 2 2 (perhaps (s .checkpoint)) (g .checkpoint)))))
         (each-append (λ r. r .point < length all-points) by-lanes by-spots
         (lanes-inside (λ r. r .point) (λ first a. map (checkpoint-row first) (a .checkpoints)) (checkpoints-own n o))
         (zones-inside (λ r. r .point) (over-spots (λ first s. spot-checkpoint first (s .checkpoint)))

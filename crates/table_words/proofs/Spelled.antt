@@ -108,6 +108,7 @@ module _ {N N′ : Type 0} (f : N → N′) where
       no-other = only-named (spot-width ∷ checkpoint ∷ []) os (g .no-other);
     };
     good = s .good;
+    marked = s .marked;
     spelled = ap (map h) (s .spelled) ∙ ap (_∷_ (G.say spot (G.part-id m n))) (map-append h os (G.point-line (G.point-id m n 1) (a .first) ∷ G.point-line (G.point-id m n 2) (a .second) ∷ G.say end-spot tt ∷ []));
   }
 

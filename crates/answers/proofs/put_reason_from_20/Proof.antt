@@ -1,12 +1,15 @@
--- `answers::put_reason_from_20` meets its contract: an arm for each of its numbers, and the last for those that no refusal has. Assumes nothing.
-use mathlib.Core.Path.{refl, sym, ap, _∙_}
+-- `answers::put_reason_from_20` meets its contract: an arm for each of its numbers, and the last for those that the next part has. Assumes nothing.
+use mathlib.Core.Path.{refl, sym, ap}
 use Rattle.terms.specs.Ascii.{ascii}
 use Rattle.output.proofs.Writing.{same}
 use Rattle.answers.specs.Reasons.{reason, reasons}
 use Rattle.answers.specs.Parts.{reason-from}
-use Rattle.answers.proofs.Others.{handed-on, none-behind}
+use Rattle.answers.proofs.Others.{handed-on}
 use Rattle.answers.proofs.put_reason_from_20.Statement.{statement}
 use Rattle.answers.proofs.put_reason_from_20.Tie as tie
+use Rattle.answers.proofs.put_reason_from_20.Reads as reads
+use Rattle.answers.proofs.put_reason_from_20.Lts as lts
+use Rattle.output.proofs.put_bytes.Reads as put-bytes-reads
 
 slice-aggregate-put-bytes : tie.Need-slice-aggregate-put-bytes
 slice-aggregate-put-bytes c = refl
@@ -38,11 +41,8 @@ slice-aggregate-put-bytes-5 c = refl
 put-bytes-requires-5 : tie.Need-put-bytes-requires-5
 put-bytes-requires-5 c κs = tt
 
-slice-aggregate-put-bytes-6 : tie.Need-slice-aggregate-put-bytes-6
-slice-aggregate-put-bytes-6 c = refl
-
-put-bytes-requires-6 : tie.Need-put-bytes-requires-6
-put-bytes-requires-6 c κs = tt
+put-reason-from-25-requires : tie.Need-put-reason-from-25-requires
+put-reason-from-25-requires c κs = tt
 
 same-length : tie.Need-same-length
 same-length c = c .before .before .put-bytes .kept .0
@@ -80,11 +80,10 @@ unfolding ascii reason reasons reason-from
 returns-5 c = same (ap (reason-from 20) (sym (c .before .before .before .before .before .match .keys5))) (c .before .before .put-bytes5 .ensures)
 
 same-length-6 : tie.Need-same-length-6
-same-length-6 c = c .before .before .put-bytes6 .kept .0
+same-length-6 c = c .before .before .put-reason-from-25 .kept .0
 
 returns-6 : tie.Need-returns-6
-unfolding ascii
-returns-6 c = same (sym (none-behind _) ∙ handed-on 20 5 _ (c .before .before .before .before .before .match .rest)) (c .before .before .put-bytes6 .ensures)
+returns-6 c = same (handed-on 20 5 _ (c .before .before .before .before .match .rest)) (c .before .before .put-reason-from-25 .ensures)
 
 pub put-reason-from-20-spec : {M : Type 1} → statement M
 put-reason-from-20-spec =
@@ -100,8 +99,7 @@ put-reason-from-20-spec =
     put-bytes-requires-4
     slice-aggregate-put-bytes-5
     put-bytes-requires-5
-    slice-aggregate-put-bytes-6
-    put-bytes-requires-6
+    put-reason-from-25-requires
     same-length
     returns
     same-length-2

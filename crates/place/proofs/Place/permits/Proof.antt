@@ -59,6 +59,9 @@ at-most-requires c κs = search needs
 enum-known-s-8 : tie.Need-enum-known-s-8
 enum-known-s-8 c = search needs
 
+first-marked-requires : tie.Need-first-marked-requires
+first-marked-requires c κs = search needs
+
 own-checkpoint-requires : tie.Need-own-checkpoint-requires
 own-checkpoint-requires c κs = search needs
 
@@ -138,7 +141,7 @@ returns-7 : tie.Need-returns-7
 returns-7 c = rw (c .before .before .s7 .given .1) (c .at-most .ensures)
 
 returns-8 : tie.Need-returns-8
-returns-8 c = rw (c .before .before .s8 .given .1, ← c .before .before .before .before .before .major .ensures, ← c .before .before .before .before .minor .ensures) (c .own-checkpoint .ensures)
+returns-8 c = rw (c .before .before .before .s8 .given .1, ← c .before .before .before .before .before .before .major .ensures, ← c .before .before .before .before .before .minor .ensures, ← c .before .first-marked .ensures) (c .own-checkpoint .ensures)
 
 returns-9 : tie.Need-returns-9
 returns-9 c = rw (c .before .before .s9 .given .1, ← c .before .before .before .before .before .major .ensures, ← c .before .before .before .before .minor .ensures) (c .own-stop .ensures)
@@ -194,6 +197,7 @@ permits-spec =
     enum-known-s-7
     at-most-requires
     enum-known-s-8
+    first-marked-requires
     own-checkpoint-requires
     enum-known-s-9
     own-stop-requires
