@@ -56,6 +56,11 @@ def padded(lines, size):
     return whole + (b"\t" * (size - len(whole)))
 
 
+# yard A with a zone of one spot
+Z = put(put(A, 3, "num_zones>1"), 14, "zone>2", "num_spots>1", "perimeter>2.0", "num_perimeterpoints>1", "2.0.1>0.000000>0.000000", "end_perimeter", "spot>2.1", "checkpoint>2.1.2>8",
+        "2.1.1>0.000000>0.000000", "2.1.2>0.000000>0.000000", "end_spot", "end_zone", "end_file")
+
+
 def one_refusal_each():
     """(label, RNDF, MDF, answer) for each number that the program can give: 11 never comes of it (see `largest`), and 19 is a writer's."""
     return [
@@ -82,6 +87,10 @@ def one_refusal_each():
         ("12 of an RNDF alone", put(A, 9, "exit>1.1.2>1.1.3"), None, says(N, 9, 12)),
         ("empty RNDF", b"", M, says(N, 1, 10)),
         ("empty MDF", A, b"", says(MDF, 1, 10)),
+        ("25", put(Z, 21), M, says(N, 21, 25)),
+        ("25 behind a tab", put(put(Z, 21), 21, ">2.1.1>0.000000>0.000000"), None, says(N, 21, 25)),
+        ("9, a spot's checkpoint on waypoint 1", put(Z, 21, "checkpoint>2.1.1>8"), None, says(N, 21, 9)),
+        ("a spot with its checkpoint", Z, None, accepted(1, 1, 1, 5, 1, 2, 0, 1)),
         ("RNDF accepted alone", A, None, accepted(1, 0, 1, 2, 0, 1, 0, 1)),
         ("pair accepted", A, M, accepted(1, 0, 1, 2, 0, 1, 0, 1, 1, 1)),
     ]
@@ -137,7 +146,7 @@ def largest():
     lanes, lane_lines = most(yard(1, 0, segment(1, 32768, [])), lambda i: lane(1, i, 1))
     segments, segment_lines = most(yard(32768, 0), lambda i: segment(i, 1, lane(i, 1, 1)))
     zones, zone_lines = most(yard(1, 32767, one), lambda i: zone(i + 1, 0, []))
-    spots, spot_lines = most(yard(1, 1, one, zone(2, 32768, [])), lambda i: ["spot>2.%d" % i, point("2.%d.1" % i), point("2.%d.2" % i), "end_spot"])
+    spots, spot_lines = most(yard(1, 1, one, zone(2, 32768, [])), lambda i: ["spot>2.%d" % i, "checkpoint>2.%d.2>%d" % (i, i), point("2.%d.1" % i), point("2.%d.2" % i), "end_spot"])
     goals = put(put(M, 4, "num_checkpoints>32768"), 5, *["7"] * 32768)
     limits = put(put(M, 8, "num_speed_limits>32768"), 9, *["1>0>0"] * 32768)
     return [
@@ -150,7 +159,7 @@ def largest():
         ("lanes", yard(1, 0, segment(1, lanes, lane_lines)), None, accepted(1, 0, lanes, lanes, 0, 0, 0, 0)),
         ("segments", yard(segments, 0, segment_lines), None, accepted(segments, 0, segments, segments, 0, 0, 0, 0)),
         ("zones", yard(1, zones, one, zone_lines), None, accepted(1, zones, 1, zones + 1, 0, 0, 0, 0)),
-        ("spots", yard(1, 1, one, zone(2, spots, spot_lines)), None, accepted(1, 1, 1, 2 + 2 * spots, spots, 0, 0, 0)),
+        ("spots", yard(1, 1, one, zone(2, spots, spot_lines)), None, accepted(1, 1, 1, 2 + 2 * spots, spots, spots, 0, 0)),
         ("32,768 goals", A, goals, accepted(1, 0, 1, 2, 0, 1, 0, 1, 32768, 1)),
         ("32,768 limits", A, limits, says(MDF, 10, 17)),
     ]

@@ -215,7 +215,7 @@ def rooms():
     lean = {"segments": 4, "lanes": 5, "points": 4, "checkpoints": 2, "exits": 2, "goals": 1, "limits": 3}
     run("room: tables without rows lent empty", YARD_A, ROUND_1, "ok", lean)
     run("room: yard B exactly enough", YARD_B, MISSION_B, "ok",
-        {"segments": 8, "lanes": 15, "zones": 12, "spots": 4, "points": 28, "checkpoints": 6, "stops": 2,
+        {"segments": 8, "lanes": 15, "zones": 12, "spots": 4, "points": 28, "checkpoints": 8, "stops": 2,
          "exits": 10, "goals": 4, "limits": 12})
     # 11 comes behind the form and before the references
     tight = dict(exact, points=11)
@@ -261,7 +261,7 @@ def checkpoints():
          put(YARD_D, 8, "checkpoint>1.1.1>9", "checkpoint>1.1.1>9", "exit>1.1.1>9.9.9"), "1 9 13")
     either("number repeated in the same lane", ins(YARD_D, 9, "checkpoint>1.1.1>32768"), "1 9 13")
     either("number repeated in another segment", ins(YARD_D, 19, "checkpoint>2.1.1>32768"), "1 19 13")
-    either("number repeated in a spot", put(YARD_D, 32, "checkpoint>3.1.1>32768"), "1 32 13")
+    either("number repeated in a spot", put(YARD_D, 32, "checkpoint>3.1.2>32768"), "1 32 13")
     either("spot's number repeated from a lane", put(YARD_D, 8, "checkpoint>1.1.1>1"), "1 32 13")
     either("three times the same number: the second counts",
          ins(YARD_D, 9, "checkpoint>1.1.1>4", "checkpoint>1.1.1>4", "checkpoint>1.1.1>4"), "1 10 13")
@@ -459,6 +459,24 @@ def missions():
     run("yard C alone", YARD_C, None, "ok")
 
 
+def spot_checkpoints():
+    """L8: a spot has a checkpoint, on waypoint 2."""
+    bare = cut(YARD_D, 32)
+    both("spot without its checkpoint", bare, "1 32 25")
+    for line, want in ((" > 3.1.1 1.000000 1.000000", "25"), ("3.1.1>91.000000>0.000000", "9"), ("3.1.1>x>0.000000", "8"), ("3.1.2>0.000000>0.000000", "9"),
+                       ("3.1.1>0.000000>0.000000>0", "7"), ("end_spot", "5"), ("3.1.1*", "4")):
+        run("spot without its checkpoint, then %s" % line, put(bare, 32, line), None, "1 32 " + want)
+    run("spot with a width alone", put(YARD_D, 32, "spot_width>9"), None, "1 33 25")
+    run("spot checkpoint on waypoint 1", put(YARD_D, 32, "checkpoint>3.1.1>1"), None, "1 32 9")
+    run("spot checkpoint on 2, then on 1", ins(YARD_D, 33, "checkpoint>3.1.1>2"), None, "1 33 6")
+    run("spot cut behind its line", YARD_D[:31], None, "1 32 10")
+    run("spot cut behind a bare waypoint", bare[:32], None, "1 32 25")
+    run("second of two spots bare", cut(YARD_B, 56), None, "1 56 25")
+    run("bare spot, a bad entry before", put(bare, 10, "exit>1.1.1>9.9.9"), None, "1 32 25")
+    run("bare spot and no room", bare, None, "1 32 25", {})
+    run("bare spot and no MDF", bare, b"", "1 32 25")
+
+
 def spread():
     """Of the corpus's other parts, for each file and answer EACH that are spread over them."""
     others = Collect()
@@ -533,7 +551,7 @@ def mutants():
 
 
 def main():
-    for part in (rooms, entries, checkpoints, values, lines, edges, two_faults, missions):
+    for part in (rooms, entries, checkpoints, values, lines, edges, two_faults, missions, spot_checkpoints):
         part()
     cases.writer = collect
     for part in WHOLE:

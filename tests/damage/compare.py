@@ -34,7 +34,7 @@ from pairs import g, oracle         # noqa: E402
 ROOT = os.path.dirname(os.path.dirname(os.path.dirname(os.path.abspath(__file__))))
 KEPT = os.path.join(ROOT, "target", "damage")
 BLOCK = 500
-NUMBERS = [*range(1, 20), 21, 22, 23, 24]
+NUMBERS = [*range(1, 20), 21, 22, 23, 24, 25]
 MOST_KEPT = 20                      # cases that differ, of a block
 RNDF_ALONE, PAIR, MAP, ROUTE = 1, 2, 3, 4
 LABELS = {PAIR: "pair", RNDF_ALONE: "RNDF alone", MAP: "map", ROUTE: "route"}
@@ -203,17 +203,28 @@ def map_said(judged, mode, case, got):
         return ["%s: %s" % (type(wrong).__name__, wrong)], {}
 
 
+def on_waypoint_1(refusal, rndf):
+    """Whether this is the 9 of a spot's checkpoint on waypoint 1 (request L8)."""
+    if (refusal[0], refusal[2]) != (1, 9):
+        return False
+    lines = [line.replace(b"\t", b" ").split() for line in rndf.split(b"\n", refusal[1])[:refusal[1]]]
+    opened = [fields for fields in lines if fields and fields[0] in (b"spot", b"lane", b"perimeter", b"end_spot", b"end_lane")]
+    return bool(opened) and opened[-1][0] == b"spot" and lines[-1][0] == b"checkpoint" and lines[-1][1] == opened[-1][1] + b".1"
+
+
 def run_block(job):
-    """Counts by reply, by kind of damage, by shape on the maps, and what differs."""
+    """Counts by reply, by kind of damage, by shape on the maps, of the 9 of L8, and what differs."""
     program, seed, number, count, sorts = job
     cases = block_of(seed, number, count, sorts)
-    replies, kinds, shapes, differing = {}, {}, {}, []
+    replies, kinds, shapes, on_1, differing = {}, {}, {}, {}, []
     for k, ((mode, case), got) in enumerate(zip(cases, answers(program, cases))):
         judged = judge(oracle, mode, case)
         reply = judged[0]
         want = words(judged, mode, case)
         key = "ok" if reply.accepted else (reply.refusal[0], reply.refusal[2])
         replies[mode, key] = replies.get((mode, key), 0) + 1
+        if not reply.accepted and on_waypoint_1(reply.refusal, case.rndf):
+            on_1[mode] = on_1.get(mode, 0) + 1
         for kind in set(case.kinds) if has_mdf(mode) else ():
             drawn, taken = kinds.get((mode, kind), (0, 0))
             kinds[mode, kind] = (drawn + 1, taken + reply.accepted)
@@ -224,10 +235,10 @@ def run_block(job):
             differing.append(keep(seed, number, k, mode, case, want, got) if len(differing) < MOST_KEPT else "DIFFERS")
         if by_json:
             differing.append("DIFFERS by json, case %d of block %d: %s" % (k, number, "; ".join(by_json)[:300]))
-    return replies, kinds, shapes, differing
+    return replies, kinds, shapes, on_1, differing
 
 
-def print_counts(replies, kinds, shapes):
+def print_counts(replies, kinds, shapes, on_1):
     def of(mode, key):
         return replies.get((mode, key), 0)
     print("\n%-12s %10s %10s %12s %8s %8s" % ("reply", "pair: RNDF", "pair: MDF", "RNDF alone", "map", "route"))
@@ -235,6 +246,7 @@ def print_counts(replies, kinds, shapes):
     for number in NUMBERS:
         print("%-12d %10d %10d %12d %8d %8d" % (number, of(PAIR, (1, number)), of(PAIR, (2, number)), of(RNDF_ALONE, (1, number)), of(MAP, (1, number)),
                                                 sum(of(ROUTE, (file, number)) for file in (0, 1, 2))))
+    print("%-12s %10d %10d %12d %8d %8d" % ("9 of L8", on_1.get(PAIR, 0), 0, on_1.get(RNDF_ALONE, 0), on_1.get(MAP, 0), on_1.get(ROUTE, 0)))
     for mode in (PAIR, ROUTE):
         print("\n%-28s %8s %8s" % ("damage (%ss)" % LABELS[mode], "drawn", "accepted"))
         for (_, kind), (drawn, taken) in sorted(item for item in kinds.items() if item[0][0] == mode):
@@ -246,13 +258,15 @@ def print_counts(replies, kinds, shapes):
 
 def compare(program, count, seed, sorts):
     jobs = [(program, seed, b, min(BLOCK, count - b * BLOCK), sorts) for b in range(-(-count // BLOCK))]
-    replies, kinds, shapes, differing, done = {}, {}, {}, 0, 0
+    replies, kinds, shapes, on_1, differing, done = {}, {}, {}, {}, 0, 0
     with multiprocessing.Pool(len(os.sched_getaffinity(0))) as pool:
-        for more, more_kinds, more_shapes, lines in pool.imap_unordered(run_block, jobs):
+        for more, more_kinds, more_shapes, more_on_1, lines in pool.imap_unordered(run_block, jobs):
             for key, n in more.items():
                 replies[key] = replies.get(key, 0) + n
             for shape, n in more_shapes.items():
                 shapes[shape] = shapes.get(shape, 0) + n
+            for mode, n in more_on_1.items():
+                on_1[mode] = on_1.get(mode, 0) + n
             for kind, (drawn, taken) in more_kinds.items():
                 kinds[kind] = tuple(map(sum, zip(kinds.get(kind, (0, 0)), (drawn, taken))))
             for line in lines:
@@ -261,7 +275,7 @@ def compare(program, count, seed, sorts):
             done += 1
             if done % 40 == 0:
                 print("%d of %d blocks" % (done, len(jobs)), file=sys.stderr, flush=True)
-    print_counts(replies, kinds, shapes)
+    print_counts(replies, kinds, shapes, on_1)
     missing = [n for n in NUMBERS if sorts == list(SORTS) and not any(key != "ok" and key[1] == n for _, key in replies)]
     if missing:
         print("never came: " + ", ".join(map(str, missing)))

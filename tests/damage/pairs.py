@@ -290,7 +290,7 @@ LINES = [
     (coordinate_at_edge, RNDF, 11), (count_off, EVERY, 5), (g.d_count, EVERY, 3), (counts_together, RNDF, 1),
     (g.d_delete, EVERY, 4), (g.d_double, EVERY, 4), (g.d_swap, EVERY, 4), (g.d_move, EVERY, 3), (g.d_copy, EVERY, 3), (g.d_cut, EVERY, 6), (g.d_tail, EVERY, 3),
     (lines_dropped, EVERY, 3), (lines_doubled, EVERY, 3), (lines_swapped, EVERY, 3), (part_dropped, EVERY, 3), (part_doubled, EVERY, 3),
-    (g.d_other_keyword, EVERY, 4), (g.d_digit_line, EVERY, 3), (g.d_keyword, EVERY, 4), (g.d_option_again, EVERY, 8), (option_moved, EVERY, 5), (g.d_spot_checkpoint_again, RNDF, 2),
+    (g.d_other_keyword, EVERY, 4), (g.d_digit_line, EVERY, 3), (g.d_keyword, EVERY, 4), (g.d_option_again, EVERY, 8), (option_moved, EVERY, 5), (g.d_spot_checkpoint_again, RNDF, 4), (g.d_spot, RNDF, 24),
     (g.d_long_name, EVERY, 5), (g.d_long_line, EVERY, 4), (long_line, EVERY, 8), (g.d_comment, EVERY, 8), (g.d_blank, EVERY, 6),
     (own_point_off, RNDF, 9), (g.d_entry, RNDF, 10), (entry_elsewhere, RNDF, 12), (g.d_same_checkpoint, RNDF, 14), (two_references, RNDF, 6),
     (g.d_rndf_name, MDF, 14), (g.d_goal, MDF, 18), (g.d_limit_id, MDF, 22), (g.d_limit_missing, MDF, 20), (g.d_limit_more, MDF, 24), (g.d_limit_speeds, MDF, 16),
@@ -336,6 +336,8 @@ def wide_pair(rng):
     if which not in ("spots", "perimeterpoints"):
         many["spots"] = 0
         many["zones"] *= which == "zones"
+    if which == "spots":
+        many["checkpoints"] = 0                             # each spot has its own, so all 32,768 numbers are taken
     m, n = many["segments"], many["zones"]
 
     def points(x, y, count):
@@ -354,12 +356,12 @@ def wide_pair(rng):
         rndf += [[b"zone", b"%d" % x], [b"num_spots", b"%d" % many["spots"]], [b"perimeter", b"%d.0" % x], [b"num_perimeterpoints", b"%d" % many["perimeterpoints"]]]
         rndf += points(x, 0, many["perimeterpoints"]) + [[b"end_perimeter"]]
         for y in range(1, many["spots"] + 1):
-            rndf += [[b"spot", b"%d.%d" % (x, y)]] + points(x, y, 2) + [[b"end_spot"]]
+            rndf += [[b"spot", b"%d.%d" % (x, y)], [b"checkpoint", b"%d.%d.2" % (x, y), b"%d" % y]] + points(x, y, 2) + [[b"end_spot"]]
         rndf.append([b"end_zone"])
-    goals, limits = [[b"%d" % (32768 - i)] for i in range(many["checkpoints"])], [[b"%d" % x, *rng.choice([(b"0", b"32768"), (b"32768", b"0")])] for x in rng.sample(range(1, m + n + 1), m + n)]
+    goals, limits = [[b"%d" % (32768 - i)] for i in range(max(1, many["checkpoints"]))], [[b"%d" % x, *rng.choice([(b"0", b"32768"), (b"32768", b"0")])] for x in rng.sample(range(1, m + n + 1), m + n)]
     mdf = [[b"MDF_name", b"all"], [b"RNDF", b"wide"], [b"checkpoints"], [b"num_checkpoints", b"%d" % len(goals)]] + goals + [[b"end_checkpoints"], [b"speed_limits"]]
     mdf += [[b"num_speed_limits", b"%d" % len(limits)]] + limits + [[b"end_speed_limits"], [b"end_file"]]
-    rows = {"segments": m, "lanes": m * many["lanes"], "zones": n, "spots": n * many["spots"], "checkpoints": many["checkpoints"], "stops": 0, "exits": 1, "goals": len(goals),
+    rows = {"segments": m, "lanes": m * many["lanes"], "zones": n, "spots": n * many["spots"], "checkpoints": many["checkpoints"] + n * many["spots"], "stops": 0, "exits": 1, "goals": len(goals),
             "limits": len(limits), "points": m * many["lanes"] * many["waypoints"] + n * many["perimeterpoints"] + 2 * n * many["spots"]}
     room = {t: oracle.STRIDE[t] * rows[t] + rng.choice([0, 1, 7]) for t in rows}
     if rng.random() < 0.1:

@@ -102,6 +102,6 @@ class Writer:
         print("cases: %d, accepted: %d" % (self.count,
                                            self.histogram.get("ok", 0)))
         print("number     RNDF      MDF")
-        for number in range(1, 19):
+        for number in [*range(1, 19), 25]:
             print("%6d %8d %8d" % (number, self.histogram.get((1, number), 0),
                                    self.histogram.get((2, number), 0)))

@@ -375,8 +375,8 @@ def integers():
         rndf("zone " + value, put(YARD_C, 12, "zone>" + value), "1 12 %d" % want)
     rndf("num_perimeterpoints 0", put(YARD_C, 15, "num_perimeterpoints>0"), "1 15 9")
     rndf("num_spots 0 with a spot", put(YARD_C, 13, "num_spots>0"), "1 19 5")
-    rndf("num_spots 2 with one spot", put(YARD_C, 13, "num_spots>2"), "1 23 5")
-    rndf("num_spots 32768 with one spot", put(YARD_C, 13, "num_spots>32768"), "1 23 5")
+    rndf("num_spots 2 with one spot", put(YARD_C, 13, "num_spots>2"), "1 24 5")
+    rndf("num_spots 32768 with one spot", put(YARD_C, 13, "num_spots>32768"), "1 24 5")
     rndf("num_perimeterpoints 1 with two", put(YARD_C, 15, "num_perimeterpoints>1"), "1 17 5")
     rndf("num_perimeterpoints 3 with two", put(YARD_C, 15, "num_perimeterpoints>3"), "1 18 5")
     rndf("num_perimeterpoints 32768", put(YARD_C, 15, "num_perimeterpoints>32768"), "1 18 5")
@@ -498,13 +498,13 @@ def identifiers():
     for value, number in (("2.1.2", 9), ("2.1.0", 9), ("2.0.1", 9), ("2.2.1", 9),
                           ("1.1.1", 9), ("2.1", 8), ("2.1.01", 8)):
         rndf("yard C spot point " + value,
-             put(YARD_C, 20, value + ">3.000000>3.000000"), "1 20 %d" % number)
-    for value, number in (("2.1.1", "ok"), ("2.1.2", "ok"), ("2.1.3", 9),
+             put(YARD_C, 21, value + ">3.000000>3.000000"), "1 21 %d" % number)
+    for value, number in (("2.1.1", 9), ("2.1.2", "ok"), ("2.1.3", 9),
                           ("2.1.0", 9), ("2.0.1", 9), ("1.1.1", 9), ("2.2.1", 9),
                           ("2.1", 8), ("2.1.1.1", 8)):
         want = "ok" if number == "ok" else "1 20 %d" % number
         rndf("yard C spot checkpoint " + value,
-             ins(YARD_C, 20, "checkpoint>%s>5" % value), want)
+             put(YARD_C, 20, "checkpoint>%s>5" % value), want)
     # segment and zone ids
     for value, number in (("2", 9), ("0", 9), ("1.1", 8), ("32768", 9)):
         by_line("segment id", 4, [("segment>" + value, number)])
@@ -548,7 +548,7 @@ def coordinates():
                         ("93.000000W", 8), ("+93.000000", 8)):
         by_line("longitude", 11, [("1.1.2>45.000100>" + lon, number)])
     # perimeter and spot points go the same way
-    for n, name in ((16, "2.0.1"), (20, "2.1.1")):
+    for n, name in ((16, "2.0.1"), (21, "2.1.1")):
         for lat, lon, number in (("-0.500000", "-0.000000", "ok"),
                                  ("-90.000000", "-180.000000", "ok"),
                                  ("90.000001", "0.000000", 9),
@@ -721,7 +721,7 @@ def options():
         if k % 8 == 1:          # 90 of the 720 orders
             rndf("lane options in order %d" % k, ins(base, 8, *order), "ok")
     for order in itertools.permutations(["spot_width>7", "checkpoint>2.1.2>5"]):
-        rndf("spot options %s first" % order[0], ins(YARD_C, 20, *order), "ok")
+        rndf("spot options %s first" % order[0], put(YARD_C, 20, *order), "ok")
     # given again
     for option in single + [single[0].replace("0", "1"), "left_boundary>solid_yellow"]:
         first = [o for o in single if o.split(">")[0] == option.split(">")[0]][0]
@@ -775,13 +775,13 @@ def options():
     rndf("segment_name in a zone", ins(YARD_C, 14, "segment_name>a"), "1 14 5")
     rndf("spot_width twice", ins(YARD_C, 20, "spot_width>1", "spot_width>1"), "1 21 6")
     rndf("spot_width again as 0", ins(YARD_C, 20, "spot_width>1", "spot_width>0"), "1 21 6")
-    rndf("spot checkpoint twice", ins(YARD_C, 20, "checkpoint>2.1.1>5", "checkpoint>2.1.1>5"), "1 21 6")
+    rndf("spot checkpoint twice", ins(YARD_C, 20, "checkpoint>2.1.2>5"), "1 21 6")
     rndf("spot checkpoint on both waypoints",
-         ins(YARD_C, 20, "checkpoint>2.1.1>5", "checkpoint>2.1.2>6"), "1 21 6")
+         ins(YARD_C, 21, "checkpoint>2.1.1>6"), "1 21 6")
     rndf("spot checkpoint again and malformed",
-         ins(YARD_C, 20, "checkpoint>2.1.1>5", "checkpoint"), "1 21 6")
-    rndf("spot options behind the first point", ins(YARD_C, 21, "spot_width>1"), "1 21 5")
-    rndf("spot checkpoint behind the points", ins(YARD_C, 22, "checkpoint>2.1.1>5"), "1 22 5")
+         ins(YARD_C, 21, "checkpoint"), "1 21 6")
+    rndf("spot options behind the first point", ins(YARD_C, 22, "spot_width>1"), "1 22 5")
+    rndf("spot checkpoint behind the points", ins(YARD_C, 23, "checkpoint>2.1.2>6"), "1 23 5")
     rndf("lane_width in a spot", ins(YARD_C, 20, "lane_width>1"), "1 20 5")
     rndf("spot_width in a lane", ins(YARD_C, 8, "spot_width>1"), "1 8 5")
     rndf("stop in a spot", ins(YARD_C, 20, "stop>2.1.1"), "1 20 5")
@@ -794,7 +794,7 @@ def options():
     rndf("options of one lane, again in the next",
          ins(ins(YARD_B, 34, "lane_width>0"), 25, "lane_width>9", "left_boundary>solid_white"), "ok")
     rndf("options of one spot, again in the next",
-         ins(YARD_B, 56, "spot_width>9", "checkpoint>3.2.1>32"), "ok")
+         ins(YARD_B, 56, "spot_width>9"), "ok")
     # repeats
     rndf("stop three times, equal", ins(A, 9, *["stop>1.1.1"] * 3), "ok")
     rndf("exit three times, equal", ins(A, 9, *["exit>1.1.1>1.1.2"] * 3), "ok")
@@ -812,6 +812,43 @@ def options():
     rndf("checkpoint number again in another segment",
          ins(YARD_B, 34, "checkpoint>2.1.1>1"), "1 34 13")
     rndf("no options at all", base, "ok")
+
+
+# ------------------------------------------------ L8: a spot's checkpoint
+
+def spot_checkpoints():
+    """"a spot whose options give no checkpoint is refused at its first
+    waypoint's line, and a spot's checkpoint on waypoint 1 at its own line"."""
+    C = YARD_C                              # `checkpoint>2.1.2>5` is line 20
+    bare = cut(C, 20)                       # and here the first waypoint
+    rndf("spot without options", bare, "1 20 25")
+    for line, want in ((">2.1.1>5.000000>5.000000", "25"), ("  2.1.1 5.000000 5.000000 /**/", "25"),
+                       ("2.1.1>91.000000>0.000000", "9"), ("2.1.1>x>0.000000", "8"), ("2.1.1>0.000000>x", "8"),
+                       ("2.1.2>0.000000>0.000000", "9"), ("2.1.1>0.000000>181.000000", "9"), ("2.1.1", "7"),
+                       ("2.1.1>0.000000>0.000000>0", "7"), ("end_spot", "5"), ("2.1.1>0.000000>0.000000\\", "4"),
+                       ("2.1.1/*", "3"), ("2.1.1" + " " * 508, "2"), ("spot_width>0", "9"), ("spot_width", "7")):
+        rndf("bare spot, then %s" % line[:40], put(bare, 20, line), "1 20 " + want)
+    rndf("spot with a width alone", put(C, 20, "spot_width>9"), "1 21 25")
+    rndf("spot with a width twice", put(C, 20, "spot_width>9", "spot_width>9"), "1 21 6")
+    rndf("spot with a blank line and a width", put(C, 20, "", "spot_width>9", "/**/"), "1 23 25")
+    rndf("spot checkpoint on waypoint 1", put(C, 20, "checkpoint>2.1.1>5"), "1 20 9")
+    rndf("spot checkpoint on waypoint 1, number 0", put(C, 20, "checkpoint>2.1.1>0"), "1 20 9")
+    rndf("spot checkpoint on waypoint 1, number x", put(C, 20, "checkpoint>2.1.1>x"), "1 20 8")
+    rndf("spot checkpoint on waypoint 2, number 0", put(C, 20, "checkpoint>2.1.2>0"), "1 20 9")
+    rndf("spot checkpoint on waypoint 1 behind one on 2", ins(C, 21, "checkpoint>2.1.1>8"), "1 21 6")
+    rndf("spot checkpoint on waypoint 1, number declared before", ins(put(C, 20, "checkpoint>2.1.1>5"), 8, "checkpoint>1.1.1>5"), "1 21 9")
+    rndf("text ends behind the spot line", C[:19], "1 20 10")
+    rndf("text ends behind a bare spot's width", C[:19] + ["spot_width>9"], "1 21 10")
+    rndf("text ends behind a bare first waypoint", bare[:20], "1 20 25")
+    rndf("second of two spots bare", cut(YARD_B, 56), "1 56 25")
+    rndf("first of two spots bare", cut(YARD_B, 51), "1 51 25")
+    rndf("both spots bare", cut(cut(YARD_B, 56), 51), "1 51 25")
+    rndf("9 on the line before 25", put(bare, 19, "spot>2.2"), "1 19 9")
+    rndf("9 on the line behind 25", put(bare, 21, "2.1.1>6.000000>6.000000"), "1 20 25")
+    rndf("25, and 12 on line 8", ins(bare, 8, "exit>1.1.1>9.9.9"), "1 21 25")
+    rndf("25 and no room", bare, "1 20 25", {})
+    rndf("25, and no end_file", bare[:-1], "1 20 25")
+    pair("25, and an empty MDF", bare, b"", "1 20 25")
 
 
 # ---------------------------------------------------------- easy to get wrong
@@ -835,7 +872,7 @@ def easy_to_get_wrong():
     rndf("exit of another segment", put(YARD_B, 17, "exit>2.1.1>1.1.1"), "1 17 9")
     rndf("exit of the previous lane", put(YARD_B, 25, "exit>1.1.1>1.1.1"), "1 25 9")
     rndf("minus half a degree", put(A, 10, "1.1.1>-0.500000>-0.500000"), "ok")
-    rndf("a late fault leaves no row", put(YARD_B, 67, "end"), "1 67 5")
+    rndf("a late fault leaves no row", put(YARD_B, 68, "end"), "1 68 5")
     pair("a late MDF fault leaves no row", YARD_B, put(MISSION_B, 19, "end"), "2 19 5")
     pair("a late MDF reference leaves no row", YARD_B, put(MISSION_B, 17, "5>10>10"), "2 17 16")
     rndf("width missing", A, "ok")
@@ -863,22 +900,22 @@ def easy_to_get_wrong():
                   "num_perimeterpoints>1", "exit>%d.0.1>1.1.%d" % (z, 1 + z % 2),
                   "%d.0.1>0.000000>-0.000000" % z, "end_perimeter"]
         if z % 2:
-            zones += ["spot>%d.1" % z, "%d.1.1>0.000001>-0.000001" % z,
+            zones += ["spot>%d.1" % z, "checkpoint>%d.1.2>%d" % (z, z), "%d.1.1>0.000001>-0.000001" % z,
                       "%d.1.2>0.000001>-0.000001" % z, "end_spot"]
         zones.append("end_zone")
     zones.append("end_file")
     rndf("zones without, with, without spots", zones, "ok")
     rndf("zone before the last segment",
-         YARD_B[:29] + YARD_B[59:66] + YARD_B[29:], "1 30 5")
-    rndf("segment behind a zone", YARD_C[:23] + ["segment>3"] + YARD_C[23:], "1 24 5")
+         YARD_B[:29] + YARD_B[60:67] + YARD_B[29:], "1 30 5")
+    rndf("segment behind a zone", YARD_C[:24] + ["segment>3"] + YARD_C[24:], "1 25 5")
     rndf("zone without a perimeter", YARD_C[:13] + YARD_C[18:], "1 14 5")
-    rndf("spot before the perimeter", YARD_C[:13] + YARD_C[18:22] + YARD_C[13:18] + YARD_C[22:], "1 14 5")
+    rndf("spot before the perimeter", YARD_C[:13] + YARD_C[18:23] + YARD_C[13:18] + YARD_C[23:], "1 14 5")
     rndf("two perimeters", YARD_C[:18] + YARD_C[13:], "1 19 5")
-    rndf("spot with one point", cut(YARD_C, 21), "1 21 5")
-    rndf("spot with three points", ins(YARD_C, 22, "2.1.3>1.000000>1.000000"), "1 22 5")
-    rndf("spot without points", YARD_C[:19] + YARD_C[21:], "1 20 5")
-    rndf("spots exchanged", YARD_B[:48] + YARD_B[54:58] + YARD_B[48:54] + YARD_B[58:], "1 49 9")
-    rndf("zones exchanged", YARD_B[:37] + YARD_B[59:66] + YARD_B[37:59] + YARD_B[66:], "1 38 9")
+    rndf("spot with one point", cut(YARD_C, 22), "1 22 5")
+    rndf("spot with three points", ins(YARD_C, 23, "2.1.3>1.000000>1.000000"), "1 23 5")
+    rndf("spot without points", YARD_C[:20] + YARD_C[22:], "1 21 5")
+    rndf("spots exchanged", YARD_B[:48] + YARD_B[54:59] + YARD_B[48:54] + YARD_B[59:], "1 49 9")
+    rndf("zones exchanged", YARD_B[:37] + YARD_B[60:67] + YARD_B[37:60] + YARD_B[67:], "1 38 9")
     rndf("segments exchanged", YARD_B[:5] + YARD_B[29:37] + YARD_B[5:29] + YARD_B[37:], "1 6 9")
     rndf("lanes exchanged", YARD_B[:8] + YARD_B[22:28] + YARD_B[8:22] + YARD_B[28:], "1 9 9")
     rndf("points exchanged", put(put(A, 10, A[10]), 11, A[9]), "1 10 9")
@@ -1060,7 +1097,7 @@ def systematic():
                           "end_checkpoints", "speed_limits", "num_speed_limits>1",
                           "end_speed_limits", "7", "1>0>15"):
             if statement[0].isdigit():
-                due = n in (8, 9, 16, 17, 20, 21)
+                due = n in (8, 9, 16, 17, 20, 21, 22)
                 number = (7 if statement == "7" else 8) if due else 5
             else:
                 number = 5
@@ -1073,7 +1110,7 @@ def main(directory="."):
     path = lambda name: os.path.join(directory, name)
     writer = Writer(path("cases.bin"), path("expected.txt"), path("labels.txt"))
     for part in (yard_a, lines_and_comments, spaces, after_the_end, integers, identifiers,
-                 coordinates, names_and_words, several_faults, options,
+                 coordinates, names_and_words, several_faults, options, spot_checkpoints,
                  easy_to_get_wrong, missions, rooms, systematic):
         part()
     # Refusal 1 is only described: a text of 16,777,216 bytes or more gives

@@ -64,8 +64,8 @@ def make(rng, largest=4):
     made = Made()
     segments = [[rng.randint(1, largest) for _ in range(rng.choice([1, 1, 1, 2, 3]))]
                 for _ in range(rng.choice([1, 1, 2, 3]))]
-    zones = [(rng.randint(1, largest), rng.choice([0, 0, 1, 2]))
-             for _ in range(rng.choice([0, 0, 1, 1, 2]))]
+    zones = [(rng.randint(1, largest), rng.choice([0, 1, 1, 2]))
+             for _ in range(rng.choice([0, 1, 1, 2]))]
     m, n = len(segments), len(zones)
 
     # where each entry's point stands
@@ -194,10 +194,10 @@ def make(rng, largest=4):
             if rng.random() < 0.5:
                 width = rng.choice([1, 9, 32768, rng.randint(1, 32768)])
                 options.append([b"spot_width", num(width)])
-            if rng.random() < 0.6:
-                point, number = (z, s, rng.choice([1, 2, 2])), fresh()
-                options.append([b"checkpoint", dotted(point), num(number)])
-                t_checkpoints.append((number, row[point]))
+            # L8: the second waypoint is a checkpoint
+            point, number = (z, s, 2), fresh()
+            options.append([b"checkpoint", dotted(point), num(number)])
+            t_checkpoints.append((number, row[point]))
             rng.shuffle(options)
             lines += options
             t_spots.append((len(t_points), width))
@@ -467,8 +467,28 @@ def d_option_again(rng, lines, file):
 def d_spot_checkpoint_again(rng, lines, file):
     i = pick(rng, lines, lambda f: f[0] == b"spot" and len(f) == 2)
     if i is not None:
-        for number in (b"31001", b"31002"):
-            lines.insert(i + 1, [b"checkpoint", lines[i][1] + b".1", number])
+        at = rng.choice([i + 1, i + 2])
+        lines.insert(at, [b"checkpoint", lines[i][1] + rng.choice([b".1", b".2"]), b"31001"])
+
+
+def d_spot(rng, lines, file):
+    """L8: a spot without its checkpoint, or with one on waypoint 1; now and then
+    with another fault on its first waypoint's line."""
+    i = pick(rng, lines, lambda f: f[0] == b"spot" and len(f) == 2)
+    if i is None:
+        return
+    end = next((j for j in range(i, len(lines)) if lines[j][0] == b"end_spot"), len(lines))
+    own = [j for j in range(i, end) if lines[j][0] == b"checkpoint" and len(lines[j]) == 3]
+    if own and rng.random() < 0.35:
+        lines[own[0]][1] = lines[i][1] + b".1"
+        return
+    for j in reversed(own):
+        del lines[j]
+    if rng.random() < 0.3:
+        lines.insert(i + 1, [b"spot_width", rng.choice([b"9", b"9", b"0"])])
+    first = next((j for j in range(i, len(lines)) if is_digit_line(lines[j])), None)
+    if first is not None and rng.random() < 0.3:
+        lines[first][rng.randrange(len(lines[first]))] = rng.choice([b"x", b"91.000000", b"2.1.2", b"200.000000"])
 
 
 def d_entry(rng, lines, file):
@@ -619,7 +639,7 @@ STRUCTURE = [
     (d_keyword, 2), (d_option_again, 7), (d_long_line, 5), (d_long_name, 3),
     (d_comment, 6), (d_blank, 4), (d_tail, 2),
 ]
-ONLY_RNDF = [(d_spot_checkpoint_again, 2), (d_entry, 14), (d_same_checkpoint, 9)]
+ONLY_RNDF = [(d_spot_checkpoint_again, 2), (d_spot, 8), (d_entry, 14), (d_same_checkpoint, 9)]
 ONLY_MDF = [(d_rndf_name, 9), (d_goal, 10), (d_limit_id, 10),
             (d_limit_missing, 12), (d_limit_more, 12), (d_limit_speeds, 4)]
 

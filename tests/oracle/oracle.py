@@ -460,17 +460,22 @@ def read_checkpoint(lines, form, line, m, n, points, first):
     lines.permit(line, number > 0)      # "Checkpoint numbers are > 0"
     form.checkpoints.append([number, first + waypoint[2] - 1])
     form.checkpoint_lines.append(line.number)
+    return waypoint
 
 
 def read_points(lines, form, line, m, n, points):
     """The points m.n.1 to m.n.points; `line` is the first one's."""
-    for due in range(1, points + 1):
-        if due > 1:
+    for z in range(1, points + 1):
+        if z > 1:
             _, line = lines.statement([DIGIT_LINE])
-        identifier, latitude, longitude = lines.values(
-            line, ["x.y.z", "latitude", "longitude"])
-        lines.permit(line, identifier == (m, n, due))
-        form.points.append([latitude, longitude])
+        read_point(lines, form, line, (m, n, z))
+
+
+def read_point(lines, form, line, due):
+    identifier, latitude, longitude = lines.values(
+        line, ["x.y.z", "latitude", "longitude"])
+    lines.permit(line, identifier == due)
+    form.points.append([latitude, longitude])
 
 
 def read_zone(lines, form, line, zone):
@@ -523,7 +528,9 @@ def read_zone(lines, form, line, zone):
 
 def read_spot(lines, form, line, zone, spot):
     # "Spot: `spot` m.n; options `spot_width` > 0 (feet) and one `checkpoint`
-    # on waypoint 1 or 2; two waypoints; `end_spot`."
+    # on waypoint 1 or 2; two waypoints; `end_spot`."  L8: "From now on it is a
+    # rule: a spot whose options give no checkpoint is refused at its first
+    # waypoint's line, and a spot's checkpoint on waypoint 1 at its own line".
     identifier, = lines.values(line, ["m.n"])
     lines.permit(line, identifier == (zone, spot))
 
@@ -539,10 +546,18 @@ def read_spot(lines, form, line, zone, spot):
             width, = lines.values(line, ["integer"])
             lines.permit(line, width > 0)
         else:
-            read_checkpoint(lines, form, line, zone, spot, 2, first)
+            waypoint = read_checkpoint(lines, form, line, zone, spot, 2, first)
+            # L8: "9 for a spot's checkpoint on waypoint 1"
+            lines.permit(line, waypoint[2] == 2)
         given.add(what)         # R9: a second `checkpoint` in a spot is 6
     form.spots.append([first, width])
-    read_points(lines, form, line, zone, spot, 2)
+    read_point(lines, form, line, (zone, spot, 1))
+    if b"checkpoint" not in given:
+        # L8: "25, with file 1 and the line, at a first waypoint that has no
+        # fault of 2 to 9"
+        raise Refused(1, line.number, 25)
+    _, line = lines.statement([DIGIT_LINE])
+    read_point(lines, form, line, (zone, spot, 2))
     _, line = lines.statement([b"end_spot"])
     lines.values(line, [])
 

@@ -25,6 +25,7 @@ from yards import (MDF_STATEMENTS, MISSION_B, RNDF_STATEMENTS, ROUND_1, YARD_A,
 
 WIDE = {t: 50 * STRIDE[t] for t in TABLES}
 SLOW = "--slow" in sys.argv
+FORM = [*range(2, 10), 25]          # L8: 25 "counts as form"
 
 
 def said(reply):
@@ -89,7 +90,7 @@ class Document01(unittest.TestCase):
     def test_yard_b_tables(self):
         r = text(YARD_B)
         reply = read_pair(r, text(MISSION_B), WIDE)
-        self.assertEqual(said(reply), "ok 2 2 3 14 2 3 2 5 4 4")
+        self.assertEqual(said(reply), "ok 2 2 3 14 2 4 2 5 4 4")
         net = network_of(reply, r)
         self.assertEqual(net.segments, [(0, 2, b"Main_St"), (2, 1, b"")])
         self.assertEqual(net.lanes, [(0, 3, 12, 1, 3), (3, 2, 65535, 0, 0),
@@ -98,7 +99,7 @@ class Document01(unittest.TestCase):
         self.assertEqual(net.spots, [(9, 9), (11, 65535)])
         self.assertEqual(net.points[5], (-500_000, 1))
         self.assertEqual(net.points[13], (-90_000_000, 180_000_000))
-        self.assertEqual(net.checkpoints, [(1, 1), (2, 2), (31, 10)])
+        self.assertEqual(net.checkpoints, [(1, 1), (2, 2), (31, 10), (32, 12)])
         self.assertEqual(net.stops, [(2,), (5,)])
         self.assertEqual(net.exits, [(2, 5), (2, 7), (4, 0), (6, 3), (8, 5)])
         self.assertEqual(house_rndf(net), r)        # it is house writing
@@ -378,7 +379,8 @@ class Places(unittest.TestCase):
             "lane_width left_boundary right_boundary checkpoint stop exit 0",
             "0", "end_lane", "end_segment", "zone", "num_spots",
             "zone_name perimeter", "num_perimeterpoints", "exit 0", "0",
-            "end_perimeter", "spot", "spot_width checkpoint 0", "0", "end_spot",
+            "end_perimeter", "spot", "spot_width checkpoint 0",
+            "spot_width checkpoint:again 0", "0", "end_spot",
             "end_zone", "end_file", ""]
     MDF = ["MDF_name", "RNDF", "format_version creation_date checkpoints",
            "num_checkpoints", "0", "end_checkpoints", "speed_limits",
@@ -392,7 +394,9 @@ class Places(unittest.TestCase):
                     word = statement.split(">")[0]
                     word = "0" if word[0].isdigit() else word
                     refusal = judge(text(ins(base, n, statement + tail))).refusal
-                    if word in permitted.split():
+                    if word + ":again" in permitted.split():
+                        self.assertEqual(refusal, (file, n, 6))
+                    elif word in permitted.split():
                         self.assertNotEqual(refusal, (file, n, 5))
                         if tail:
                             self.assertEqual(refusal, (file, n, 7))
@@ -461,7 +465,7 @@ class RandomNetworks(unittest.TestCase):
         while tried < 4000:
             mode, r, m, room = generate.one_case(rng)
             reply = casefile.judge(mode, r, m, room)
-            if reply.accepted or not 2 <= reply.refusal[2] <= 9:
+            if reply.accepted or reply.refusal[2] not in FORM:
                 continue
             tried += 1
             file, line, number = reply.refusal
@@ -476,7 +480,7 @@ class RandomNetworks(unittest.TestCase):
                 self.assertEqual(got.refusal, reply.refusal)
             got = casefile.judge(mode, before if file == 1 else r,
                                  before if file == 2 else m, room)
-            if got.refusal is not None and got.refusal[0] == file and 2 <= got.refusal[2] <= 10:
+            if got.refusal is not None and got.refusal[0] == file and got.refusal[2] in FORM + [10]:
                 self.assertEqual(got.refusal, (file, line, 10))
             else:       # the fault stood behind end_file
                 self.assertIn(number, (2, 3, 4, 5))
