@@ -180,7 +180,7 @@ typedef struct kastepuhm_answer {
 } kastepuhm_answer;
 
 /*
- * Refusal numbers. The RNDF is judged before the MDF; in one file 1, then the first line with a fault of 2 to 9, then 10, 11, then the first line with 12 to 18.
+ * Refusal numbers. The RNDF is judged before the MDF; in one file 1, then the first line with a fault of 2 to 9 or 25, then 10, 11, then the first line with 12 to 18.
  * In one line the lowest number is given.
  */
 enum {
@@ -207,7 +207,8 @@ enum {
     KASTEPUHM_NO_BEGINNING = 21,       /* 21 to 24: kastepuhm_check_route only, after all others, file 0: the route is empty, or does not begin at a declared start (line 0) */
     KASTEPUHM_NO_MOVE = 22,            /* a step of the route is no move, the first (line: the place in the route that it leads to, from 0) */
     KASTEPUHM_GOAL_NOT_MET = 23,       /* a goal is not met in order, the first (line: the goal's row, from 0) */
-    KASTEPUHM_WRONG_END = 24           /* the route does not end at the last goal's point (line 0) */
+    KASTEPUHM_WRONG_END = 24,          /* the route does not end at the last goal's point (line 0) */
+    KASTEPUHM_BARE_SPOT = 25           /* the spot has no checkpoint (line: its first waypoint's, where that has no fault of 2 to 9) */
 };
 
 /* An RNDF alone. */
