@@ -139,17 +139,17 @@ static void many_comments(struct text *t, struct text *mdf, uint32_t k)
 
 static void many_spots(struct text *t, struct text *mdf, uint32_t k)
 {
-    uint32_t zones = k / 8 + 1, number = 0;              /* of 8 spots, while there are checkpoint numbers for them (L8) */
+    /* of 8 spots each, for as many as have a checkpoint number (L8); a longer text has longer perimeters */
+    uint32_t wanted = k / 8 + 1, most = 32767 / 8, zones = wanted < most ? wanted : most, border = 4 + (wanted - zones) / 64, number = 0;
     PUT(t, "RNDF_name\tmany_spots\nnum_segments\t1\nnum_zones\t%\nsegment\t1\nnum_lanes\t1\nlane\t1.1\n", zones);
     PUT(t, "num_waypoints\t1\ncheckpoint\t1.1.1\t%\n1.1.1\t45.000000\t-93.000000\nend_lane\nend_segment\n", ++number);
     for (uint32_t m = 2; m <= zones + 1; m++) {
-        uint32_t spots = number + 8 <= 32768 ? 8 : 0;
-        PUT(t, "zone\t%\nnum_spots\t%\nzone_name\tLot_%\nperimeter\t%.0\nnum_perimeterpoints\t4\n", m, spots, m, m);
+        PUT(t, "zone\t%\nnum_spots\t%\nzone_name\tLot_%\nperimeter\t%.0\nnum_perimeterpoints\t%\n", m, 8, m, m, border);
         PUT(t, "exit\t%.0.1\t1.1.1\n", m);
-        for (uint32_t z = 1; z <= 4; z++)
+        for (uint32_t z = 1; z <= border; z++)
             point(t, m, 0, z, "\t", "\n");
         PUT(t, "end_perimeter\n");
-        for (uint32_t n = 1; n <= spots; n++) {
+        for (uint32_t n = 1; n <= 8; n++) {
             PUT(t, "spot\t%.%\nspot_width\t%\n", m, n, 8 + draw(5));
             PUT(t, "checkpoint\t%.%.2\t%\n", m, n, ++number);
             point(t, m, n, 1, "\t", "\n");
