@@ -25,7 +25,8 @@
  *   returns. Calls in several threads at once do not disturb each other as long as no two of them write the same tables or output; texts may be shared.
  *
  * Stack, as the kit's compiler builds it (tests/stack.py measures it)
- *   kastepuhm_read_rndf, kastepuhm_write_rndf and kastepuhm_write_map take less than 8 KiB, kastepuhm_read_pair and kastepuhm_write_mdf less than 12 KiB: 4,096 bytes of marks for each file are in it.
+ *   kastepuhm_read_rndf, kastepuhm_write_rndf and kastepuhm_write_map take less than 8 KiB, kastepuhm_read_pair, kastepuhm_write_mdf and kastepuhm_check_route less than 12 KiB: 4,096 bytes
+ *   of marks for each file are in it.
  *   kastepuhm_point_of takes a few words. Give a thread that calls them a stack to match.
  *
  * Time
