@@ -7,11 +7,11 @@
 # memory ends too. Half as many routes (request L5) are judged, good ones and damaged ones. Printed: how often each refusal number came, how often each kind of damage
 # (tests/damage/pairs.py), what the maps showed, and each case that differs, which is kept in target/damage. The last line is 'seed S: N pairs, M RNDFs alone, R routes and L maps
 # (W written), K differ'; the status is 0 if none differs and every number from 1 to 19 and from 21 to 25 came.
-# With a SORT, `pairs`, `maps` or `routes`, only that one is compared: `tests/damage.sh 200000 1 routes` judges 100,000 routes in some 4 minutes.
+# With a SORT, `pairs`, `maps` or `routes`, only that one is compared: `tests/damage.sh 200000 1 routes` judges 100,000 routes (7 minutes of processor time).
 #
 # Builds the library first (`rt staticlib yard`), unless --built is given. Needs python3 and a C compiler (Debian: gcc; on Arm gcc-x86-64-linux-gnu, and the kit's emulator runs it);
 # what is missing it installs, where it may.
-# It runs on all cores that it may use: 4,000 pairs take some 15 seconds on two, 36,000, which write over 20,000 maps, some 3 minutes, 200,000 some 15. `python3 tests/damage/compare.py --mutants COUNT SEED` tells whether these
+# It runs on all cores that it may use. Processor time on Arm, without the emulator: 4,000 pairs with their maps and routes a minute, 36,000, which write over 20,000 maps, 4, 200,000 some 20. `python3 tests/damage/compare.py --mutants COUNT SEED` tells whether these
 # pairs notice each of the small mistakes of tests/oracle/mutate.py in a copy of the oracle (4,000 notice all but two or three, 20,000 all).
 set -eu
 root=$(cd "$(dirname "$0")/.." && pwd -P)
