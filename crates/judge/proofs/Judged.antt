@@ -31,7 +31,7 @@ use Rattle.made_out.specs.Names.{behind, told-as}
 use Rattle.judge.specs.Judging.{Got, bad, blank, said, Judging, taken, valued, ofKind, known, told, formed, content, line}
 
 -- ## Counts
-same-count : (base : ℕ) (s : Bytes) (n : ℕ) → n ≤ 3 → eqb (fieldsIn s .count) n ≡ eqb (length (fieldsAt base s)) n
+pub same-count : (base : ℕ) (s : Bytes) (n : ℕ) → n ≤ 3 → eqb (fieldsIn s .count) n ≡ eqb (length (fieldsAt base s)) n
 same-count base s n h = go (fieldsIn s .count) refl (count-le s)
   where
     go : (c : ℕ) → fieldsIn s .count ≡ c → c ≤ 4 → eqb c n ≡ eqb (length (fieldsAt base s)) n
@@ -44,7 +44,7 @@ same-count base s n h = go (fieldsIn s .count) refl (count-le s)
         ne-eqb 4 n (λ q. omega arith) ∙ sym (ne-eqb (length (fieldsAt base s)) n (λ q. omega arith))
     go (suc (suc (suc (suc (suc c))))) e l = absurd (omega arith)
 
-some-field : (base : ℕ) (s : Bytes) (f : Fields) (c : ℕ) → (gs : List Field) × (listed base s f (suc c) ≡ fieldIn base s (f .a) ∷ gs)
+pub some-field : (base : ℕ) (s : Bytes) (f : Fields) (c : ℕ) → (gs : List Field) × (listed base s f (suc c) ≡ fieldIn base s (f .a) ∷ gs)
 some-field base s f zero = ([], refl)
 some-field base s f (suc zero) = (_, refl)
 some-field base s f (suc (suc zero)) = (_, refl)
@@ -125,7 +125,7 @@ module _ {L : Lang} (A : Machine L) (X : Lexis L) (J : Judging) where
     valued-is p i k (some s) none e = absurd (clash e)
 
     -- ## 5, 6 and 7
-    not-zero : (q : Place A) (k : Kind) (n : ℕ) → stands A q k ≡ some n → eqb n 0 ≡ false
+    pub not-zero : (q : Place A) (k : Kind) (n : ℕ) → stands A q k ≡ some n → eqb n 0 ≡ false
     unfolding stands
     not-zero over k n e = let z : 5 ≡ n = ap (or-else 0) e in rw (sym z)
     not-zero (inside b g) k n e = row-case (Stands.given L (A .opts b) g k) e
@@ -139,11 +139,11 @@ module _ {L : Lang} (A : Machine L) (X : Lexis L) (J : Judging) where
         row-case (some true) e = let z : 6 ≡ n = ap (or-else 0) e in rw (sym z)
         row-case (some false) e = absurd (clash (sym e))
 
-    as-behind : (w : Option Bytes) (g : Field) (gs : List Field) → args A X w g gs ≡ behind w (g ∷ gs)
+    pub as-behind : (w : Option Bytes) (g : Field) (gs : List Field) → args A X w g gs ≡ behind w (g ∷ gs)
     as-behind none g gs = refl
     as-behind (some w) g gs = refl
 
-    args-count : (w : Option Bytes) (g : Field) (gs : List Field) (n : ℕ) → eqb (length (args A X w g gs)) n ≡ eqb (length (g ∷ gs)) (keyed w n)
+    pub args-count : (w : Option Bytes) (g : Field) (gs : List Field) (n : ℕ) → eqb (length (args A X w g gs)) n ≡ eqb (length (g ∷ gs)) (keyed w n)
     args-count none g gs n = refl
     args-count (some w) g gs n = rw (compare·suc-suc (length gs) n)
 

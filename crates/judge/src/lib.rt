@@ -35,7 +35,7 @@ pub enum Verdict {
 }
 
 // The kind of a line by its first field: its column, of which a point's is the last; no kind for a word that is no keyword.
-fn kind_of(s: &[u8]) -> u8
+pub fn kind_of(s: &[u8]) -> u8
     ensures { λ r. ⌜ r ≡ rndfKind (now (s .entry)) ⌝ }
 {
     if begins_with_digit(s) {

@@ -34,7 +34,7 @@ use Rattle.law_faults.proofs.Opening.{word-kind, kind-opens, word-opens
 use Rattle.law_faults.proofs.Again.{given-before, stood-before}
 
 -- the same kind, and one answer
-one-kind : {K : Type 0} {o : Option K} {j k : K} → o ≡ some j → o ≡ some k → j ≡ k
+pub one-kind : {K : Type 0} {o : Option K} {j k : K} → o ≡ some j → o ≡ some k → j ≡ k
 one-kind {o = o} {j = j} {k = k} e f = let h : some j ≡ some k = sym e ∙ f in cc
 
 -- 25 is not told here: what the law says of it
@@ -73,19 +73,19 @@ module _ {L : Lang} (strict : Machine L) (X : Lexis L) (line-of : (k : L .Kind) 
 
     module _ (f : Field) where
       -- ## A line that may stand
-      may-to : (k : Kind) → kindAt A X p f ≡ some k → stands A p k ≡ none → (v : Pay k) × MayStand present Spells front f (law (say L k v))
+      pub may-to : (k : Kind) → kindAt A X p f ≡ some k → stands A p k ≡ none → (v : Pay k) × MayStand present Spells front f (law (say L k v))
       may-to k e s =
           let x = some-value A X line-of Said Spells first N (λ b g. tt) p values-at good-at k s in
           (x .0, record { opens = kind-opens A X line-of Said Spells first N p f k (x .0) e; follows = line-to A X line-of Said Spells first N said p (x .1) (say L k (x .0)) came (x .2) })
 
-      record Stands (line : Line) : Type 0 where
-        k : Kind
-        v : Pay k
-        is : line ≡ law (say L k v)
-        made-out : kindAt A X p f ≡ some k
-        here : stands A p k ≡ none
+      pub record Stands (line : Line) : Type 0 where
+        pub k : Kind
+        pub v : Pay k
+        pub is : line ≡ law (say L k v)
+        pub made-out : kindAt A X p f ≡ some k
+        pub here : stands A p k ≡ none
 
-      may-back : (line : Line) → MayStand present Spells front f line → Stands line
+      pub may-back : (line : Line) → MayStand present Spells front f line → Stands line
       may-back line m =
           let x = line-back A X line-of Said Spells first N said p line came (m .follows) in
           let s = x .0 in

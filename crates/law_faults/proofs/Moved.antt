@@ -32,7 +32,7 @@ same-back [] (g ∷ gs) h = absurd h
 same-back (f ∷ fs) [] h = absurd h
 same-back (f ∷ fs) (g ∷ gs) h = (sym (h .0), same-back fs gs (h .1))
 
-same-count : (fs gs : List Field) → Same fs gs → length fs ≡ length gs
+pub same-count : (fs gs : List Field) → Same fs gs → length fs ≡ length gs
 same-count [] [] h = refl
 same-count [] (g ∷ gs) h = absurd h
 same-count (f ∷ fs) [] h = absurd h
@@ -44,7 +44,7 @@ fields-at b C.nothing = ([], C.nothing, tt)
 fields-at b (C.separator h r) = let x = fields-at (suc b) r in (x .0, C.separator h (x .1), x .2)
 fields-at b (C.field {bytes = f} i p r) = let x = fields-at (b + length f) r in (at b f ∷ x .0, C.field i p (x .1), (refl, x .2))
 
-content-at : {a : ℕ} {c : Bytes} {fs : List Field} (b : ℕ) → Content a c fs → (gs : List Field) × Content b c gs × Same fs gs
+pub content-at : {a : ℕ} {c : Bytes} {fs : List Field} (b : ℕ) → Content a c fs → (gs : List Field) × Content b c gs × Same fs gs
 content-at b h =
     let x = fields-at b (h .fielded) in
     (x .0, record { outer = h .outer; note = h .note; spelled = h .spelled; short = h .short; fielded = x .1; comment = h .comment }, x .2)

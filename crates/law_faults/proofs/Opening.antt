@@ -31,13 +31,13 @@ use Rattle.law_faults.proofs.Sorts.{law-said, law-front, law-line-is}
 use Rattle.law_faults.proofs.Needs.{Listed, Values, Needs}
 
 -- ## Fields that open
-opens-word : {f : Field} {w : Bytes} {l : Line} → Opens f (word w ∷ l) → f .bytes ≡ w
+pub opens-word : {f : Field} {w : Bytes} {l : Line} → Opens f (word w ∷ l) → f .bytes ≡ w
 opens-word (keyword e) = e
 
 opens-digit : {f : Field} {i : List ℕ} {l : Line} → Opens f (numbers i ∷ l) → digit-first (f .bytes) ≡ true
 opens-digit {f} (digit {b = b} {rest = rest} e d) = ap digit-first e ∙ digit-all (b ∷ rest) d
 
-digit-opens : (f : Field) (i : List ℕ) (l : Line) → digit-first (f .bytes) ≡ true → Opens f (numbers i ∷ l)
+pub digit-opens : (f : Field) (i : List ℕ) (l : Line) → digit-first (f .bytes) ≡ true → Opens f (numbers i ∷ l)
 digit-opens f i l e = go (f .bytes) refl (digit-only (f .bytes) e)
   where
     go : (b : Bytes) → f .bytes ≡ b → BeginsWithDigit b → Opens f (numbers i ∷ l)

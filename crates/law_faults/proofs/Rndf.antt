@@ -164,7 +164,7 @@ values-after (second-of-spot-due m z n s) v t = tt
 values-after (end-spot-due m z n s) v t = tt
 
 -- ## The one kind without a keyword is a point's
-only-point : (k : Kind) → keyword k ≡ none → point ≡ k
+pub only-point : (k : Kind) → keyword k ≡ none → point ≡ k
 only-point k e =
     let h = no-row 29 rndf-keywords [] (kind-row k) e in
     let l = ltb→lt (kind-row k) 30 (short k) in

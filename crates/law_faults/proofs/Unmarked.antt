@@ -28,6 +28,16 @@ use Rattle.law_faults.proofs.Opening.{spelled-opens, opens-kind}
 use Rattle.law_faults.proofs.LineFaults.{Bare}
 use Rattle.law_faults.proofs.LineFaults as Lenient
 
+-- the kind that a field opens is the same where no option has to be given
+module _ {L : Lang} (A : Machine L) (X : Lexis L) where
+  numbered-same : (p : Place A) → numbered (Machine.lenient A) X p ≡ numbered A X p
+  unfolding numbered
+  numbered-same over = refl
+  numbered-same (inside b g) = refl
+
+  pub kind-same : (p : Place A) (f : Field) → kindAt (Machine.lenient A) X p f ≡ kindAt A X p f
+  kind-same p f = ap (λ (o : Option (L .Kind)). pick (digit-first (f .bytes)) o (X .lookup (f .bytes))) (numbered-same p)
+
 -- N: the file; M: the same where no option has to be given
 module _ {L : Lang} (A : Machine L) (X : Lexis L) (line-of : (k : L .Kind) → L .Pay k → List Said.Said) {Net : Type 0} (Said Loose : Net → List (S L) → Type 0) (Spells : Rules → Net → List Line → Type 0) (first : A .Base)
     (N : Needs present A X line-of Said Spells first) (M : Needs (lenient present) (Machine.lenient A) X line-of Loose Spells first) where
@@ -40,14 +50,6 @@ module _ {L : Lang} (A : Machine L) (X : Lexis L) (line-of : (k : L .Kind) → L
   law = law-line line-of
 
   -- ## At one place
-  numbered-same : (p : Place A) → numbered B X p ≡ numbered A X p
-  unfolding numbered
-  numbered-same over = refl
-  numbered-same (inside b g) = refl
-
-  kind-same : (p : Place A) (f : Field) → kindAt B X p f ≡ kindAt A X p f
-  kind-same p f = ap (λ (o : Option Kind). pick (digit-first (f .bytes)) o (X .lookup (f .bytes))) (numbered-same p)
-
   -- what is refused with 9 is refused so either way ..
   nine-to : (p : Place A) (s : S L) → step A p s ≡ refuse 9 → step B p s ≡ refuse 9
   nine-to p s e = go (asked A p s)
@@ -87,10 +89,10 @@ module _ {L : Lang} (A : Machine L) (X : Lexis L) (line-of : (k : L .Kind) → L
     came-lenient = run-lenient A (at A first) p said came
 
     may-to : {f : Field} {fs : List Field} {k : Kind} → MayStand A X line-of p 0 line k f fs → MayStand B X line-of p 0 line k f fs
-    may-to {f = f} {k = k} h = record { fields = h .fields; is = kind-same p f ∙ h .is; here = stands-lenient A p k ∙ h .here }
+    may-to {f = f} {k = k} h = record { fields = h .fields; is = kind-same A X p f ∙ h .is; here = stands-lenient A p k ∙ h .here }
 
     may-back : {f : Field} {fs : List Field} {k : Kind} → MayStand B X line-of p 0 line k f fs → MayStand A X line-of p 0 line k f fs
-    may-back {f = f} {k = k} h = record { fields = h .fields; is = sym (kind-same p f) ∙ h .is; here = sym (stands-lenient A p k) ∙ h .here }
+    may-back {f = f} {k = k} h = record { fields = h .fields; is = sym (kind-same A X p f) ∙ h .is; here = sym (stands-lenient A p k) ∙ h .here }
 
     -- 2 to 9 are told as if no option had to be given
     from-lenient : (n : ℕ) → Fault B X line-of p 0 line n → Law.Fault present Spells front line n
@@ -98,9 +100,9 @@ module _ {L : Lang} (A : Machine L) (X : Lexis L) (line-of : (k : L .Kind) → L
 
     pub fault-to : (n : ℕ) → Fault A X line-of p 0 line n → Law.Fault present Spells front line n
     fault-to n (form e h) = from-lenient n (form e h)
-    fault-to n (unknown {f = f} h e) = from-lenient n (unknown h (kind-same p f ∙ e))
-    fault-to n (misplaced {f = f} {k = k} h e s) = from-lenient n (misplaced h (kind-same p f ∙ e) (stands-lenient A p k ∙ s))
-    fault-to n (given-again {f = f} {k = k} h e s) = from-lenient n (given-again h (kind-same p f ∙ e) (stands-lenient A p k ∙ s))
+    fault-to n (unknown {f = f} h e) = from-lenient n (unknown h (kind-same A X p f ∙ e))
+    fault-to n (misplaced {f = f} {k = k} h e s) = from-lenient n (misplaced h (kind-same A X p f ∙ e) (stands-lenient A p k ∙ s))
+    fault-to n (given-again {f = f} {k = k} h e s) = from-lenient n (given-again h (kind-same A X p f ∙ e) (stands-lenient A p k ∙ s))
     fault-to n (miscounted h c) = from-lenient n (miscounted (may-to h) c)
     fault-to n (misspelt h c m) = from-lenient n (misspelt (may-to h) c m)
     fault-to n (forbidden {k = k} h v s e) = from-lenient n (forbidden (may-to h) v s (nine-to p (say L k v) e))
@@ -112,9 +114,9 @@ module _ {L : Lang} (A : Machine L) (X : Lexis L) (line-of : (k : L .Kind) → L
 
     to-strict : (n : ℕ) → Fault B X line-of p 0 line n → Fault A X line-of p 0 line n
     to-strict n (form e h) = form e h
-    to-strict n (unknown {f = f} h e) = unknown h (sym (kind-same p f) ∙ e)
-    to-strict n (misplaced {f = f} {k = k} h e s) = misplaced h (sym (kind-same p f) ∙ e) (sym (stands-lenient A p k) ∙ s)
-    to-strict n (given-again {f = f} {k = k} h e s) = given-again h (sym (kind-same p f) ∙ e) (sym (stands-lenient A p k) ∙ s)
+    to-strict n (unknown {f = f} h e) = unknown h (sym (kind-same A X p f) ∙ e)
+    to-strict n (misplaced {f = f} {k = k} h e s) = misplaced h (sym (kind-same A X p f) ∙ e) (sym (stands-lenient A p k) ∙ s)
+    to-strict n (given-again {f = f} {k = k} h e s) = given-again h (sym (kind-same A X p f) ∙ e) (sym (stands-lenient A p k) ∙ s)
     to-strict n (miscounted h c) = miscounted (may-back h) c
     to-strict n (misspelt h c m) = misspelt (may-back h) c m
     to-strict n (forbidden {k = k} h v s e) = forbidden (may-back h) v s (nine-back p (say L k v) e)

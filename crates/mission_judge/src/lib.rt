@@ -35,7 +35,7 @@ pub enum MissionVerdict {
 }
 
 // The kind of a line by its first field: its column, of which those of a goal and a limit are the last; no kind for a word that is no keyword.
-fn kind_of(p: MissionPlace, s: &[u8]) -> u8
+pub fn kind_of(p: MissionPlace, s: &[u8]) -> u8
     ensures { λ r. ⌜ r ≡ mdfKind p (now (s .entry)) ⌝ }
 {
     if begins_with_digit(s) {

@@ -1,0 +1,11 @@
+pub mod Bytes
+pub mod Wrong
+pub mod Taking
+pub mod Starting
+pub mod Lenient
+pub mod LineColumns
+pub mod Rndf
+pub mod Mdf
+pub mod One
+pub mod TextColumns
+pub mod Theorems
