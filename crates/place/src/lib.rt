@@ -84,7 +84,7 @@ impl Open {
     }
 
     // The first waypoint that may be a checkpoint. L8: a spot's is its second.
-    fn first_marked(self) -> u32
+    pub fn first_marked(self) -> u32
         ensures { λ r. ⌜ r ≡ firstMarkedOf self ⌝ }
     {
         match self {
@@ -130,7 +130,7 @@ impl Open {
     }
 
     // May an exit lead from this point of the part, which has w, to that one?
-    fn exits(self, w: u32, i: Id, e: Id) -> bool
+    pub fn exits(self, w: u32, i: Id, e: Id) -> bool
         ensures { λ r. ⌜ r ≡ exitsOf self w i e ⌝ }
     {
         match self {
