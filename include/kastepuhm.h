@@ -9,7 +9,7 @@
  *
  * What it does
  *   It reads the text of a route network (RNDF) and of a mission (MDF) in the format of March 14, 2007 as document 01 narrows it, and either fills the tables that you lend and
- *   accepts, or refuses with file, line and one number. It also puts the house writing of either file, or a map of the network, into an output that you lend, and tells whether a
+ *   accepts, or refuses with file, line, one number and the column in that line. It also puts the house writing of either file, or a map of the network, into an output that you lend, and tells whether a
  *   route is drivable. That it does so for all texts, all tables, all outputs and all routes is proved of its source (crates/yard, crates/replies/specs/Replies.antt,
  *   crates/writings/specs/Writes.antt, crates/pair_checks/specs/Checks.antt); the compiler, the declarations below and your calls are not part of that proof.
  *
@@ -155,12 +155,13 @@ typedef struct kastepuhm_name {
     uint32_t length;
 } kastepuhm_name;
 
-/* What a reader answers. Of an RNDF alone the fields of the MDF are 0; of a refusal every field is 0 but for file, line and number. */
+/* What a reader answers. Of an RNDF alone the fields of the MDF are 0; of a refusal every field is 0 but for file, line, number and column. */
 typedef struct kastepuhm_answer {
     uint32_t accepted;             /* 1: accepted, 0: refused */
-    uint32_t file;                 /* of a refusal: 1 the RNDF, 2 the MDF, 0 neither (from 20 on); 0 where accepted */
+    uint32_t file;                 /* of a refusal: 1 the RNDF, 2 the MDF, 0 neither (20 to 24); 0 where accepted */
     uint32_t line;                 /* of a refusal: counted from 1; 0 where there is none, and where accepted; of 22 and 23 see kastepuhm_check_route */
     uint32_t number;               /* of a refusal: see below; 0 where accepted */
+    uint32_t column;               /* of a refusal: where in its line, counted in bytes from 1 (a tab is one byte); 0 where the line is 0, for 10 and 20 to 24, and where accepted */
     uint32_t segments;             /* from here on: the rows used of each table */
     uint32_t lanes;
     uint32_t zones;
@@ -182,7 +183,8 @@ typedef struct kastepuhm_answer {
 
 /*
  * Refusal numbers. The RNDF is judged before the MDF; in one file 1, then the first line with a fault of 2 to 9 or 25, then 10, 11, then the first line with 12 to 18.
- * In one line the lowest number is given.
+ * In one line the lowest number is given. The column is 513 for 2; the place of the comment's first byte for 3; that of the first byte that is not allowed for 4; for the others
+ * where a field begins: the first one for 5, 6, 7, 18 and 25, the one at fault, leftmost first, for 8, 9 and 12 to 17 (the maximum where it is below the minimum).
  */
 enum {
     KASTEPUHM_TEXT_TOO_LONG = 1,       /* the text is over 16,777,215 bytes (line 0) */
@@ -345,6 +347,7 @@ typedef struct kastepuhm_list_answer {
     uint32_t file;                 /* 0 */
     uint32_t line;                 /* 0 */
     uint32_t number;               /* KASTEPUHM_LISTS_DIFFER where refused; 0 where accepted */
+    uint32_t column;               /* 0 */
 } kastepuhm_list_answer;
 
 /*

@@ -27,4 +27,4 @@ pub list-told-whole : (x y : ListReply) → list-answer x ≡ list-answer y → 
 list-told-whole Listed.Answered Listed.Answered e = refl
 list-told-whole Listed.Answered (Listed.Refused y) e = absurd (let z : _≡_ {A = ℕ} 1 0 = ap (λ (a : ListAnswer). a .accepted) e in omega arith)
 list-told-whole (Listed.Refused x) Listed.Answered e = absurd (let z : _≡_ {A = ℕ} 0 1 = ap (λ (a : ListAnswer). a .accepted) e in omega arith)
-list-told-whole (Listed.Refused x) (Listed.Refused y) e = ap (λ (a : ListAnswer). Listed.Refused (record { file = a .file; line = a .line; number = a .number })) e
+list-told-whole (Listed.Refused x) (Listed.Refused y) e = ap (λ (a : ListAnswer). Listed.Refused (record { file = a .file; line = a .line; number = a .number; column = a .column })) e

@@ -28,7 +28,7 @@ abbrev stretch : Name → Stretch
 stretch n = stretchOf (n .start) (n .length)
 
 abbrev why : Answer → Refusal
-why a = refusal (a .file) (a .line) (a .number)
+why a = refusal (a .file) (a .line) (a .number) (a .column)
 
 abbrev counts : Answer → Counts
 counts a = record { segments = a .segments; lanes = a .lanes; zones = a .zones; spots = a .spots; points = a .points; checkpoints = a .checkpoints; stops = a .stops; exits = a .exits }

@@ -37,13 +37,14 @@ use Rattle.answer_fields.specs.declared.ListAnswer.{ListAnswer}
 abbrev pub named : Stretch → Name
 named s = record { start = s .start; length = s .length }
 
--- the fields of an answer: whether it is an acceptance; 01: "file .., line, number"; "the rows used of each table"; "File: its name, format version, creation date, in an MDF its `RNDF` name too."
+-- the fields of an answer: whether it is an acceptance; 01: "file .., line, number"; L7: "a column"; "the rows used of each table"; "File: its name, format version, creation date, in an MDF its `RNDF` name too."
 abbrev pub laid-out : (accepted : ℕ) → Refusal → Counts → MissionCounts → FileRow → MissionFileRow → Answer
 laid-out a x c m f g = record {
   accepted = a;
   file = x .file;
   line = x .line;
   number = x .number;
+  column = x .column;
   segments = c .segments;
   lanes = c .lanes;
   zones = c .zones;
@@ -78,7 +79,7 @@ no-mission-file = record { name = stretchOf 0 0; rndf = stretchOf 0 0; version =
 
 -- 01: "Where an answer is an enum, a definition sets out this paper's number and values for each of its cases."
 abbrev pub taken : Counts → FileRow → MissionCounts → MissionFileRow → Answer
-taken c f m g = laid-out 1 (refusal 0 0 0) c m f g
+taken c f m g = laid-out 1 (refusal 0 0 0 0) c m f g
 
 abbrev pub refused : Refusal → Answer
 refused x = laid-out 0 x no-counts no-mission-counts no-file no-mission-file
@@ -140,8 +141,8 @@ pub record AnswersWriteMdf (rndf mdf : Bytes) (t : Lent) (u : MissionLent) (lent
 
 -- ## The look-up of a list of checkpoint numbers. Request L4. t: the table; numbers: the list; lent: the length of the lent list of points; left: what it then holds
 abbrev pub list-answer : ListReply → ListAnswer
-list-answer Listed.Answered = record { accepted = 1; file = 0; line = 0; number = 0 }
-list-answer (Listed.Refused x) = record { accepted = 0; file = x .file; line = x .line; number = x .number }
+list-answer Listed.Answered = record { accepted = 1; file = 0; line = 0; number = 0; column = 0 }
+list-answer (Listed.Refused x) = record { accepted = 0; file = x .file; line = x .line; number = x .number; column = x .column }
 
 pub record AnswersList (t numbers : List ℕ) (lent : ℕ) (given : ListAnswer) (left : List ℕ) : Type 0 where
   pub reply : ListReply

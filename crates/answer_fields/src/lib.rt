@@ -12,7 +12,7 @@ pub struct Name {
     pub length: u32,
 }
 
-// accepted is 1 or 0. Where it is 0, file, line and number are the refusal's and all else is 0; where it is 1, they are 0.
+// accepted is 1 or 0. Where it is 0, file, line, number and column are the refusal's and all else is 0; where it is 1, they are 0.
 // Where no MDF was read, its fields are 0.
 #[repr(C)]
 pub struct Answer {
@@ -20,6 +20,7 @@ pub struct Answer {
     pub file: u32,
     pub line: u32,
     pub number: u32,
+    pub column: u32,
     pub segments: u32,
     pub lanes: u32,
     pub zones: u32,
@@ -46,11 +47,12 @@ pub struct WriteAnswer {
     pub length: u32,
 }
 
-// What the look-up of a list answers: accepted is 1, and file, line and number are 0; or 0, and they are the refusal's.
+// What the look-up of a list answers: accepted is 1, and file, line, number and column are 0; or 0, and they are the refusal's.
 #[repr(C)]
 pub struct ListAnswer {
     pub accepted: u32,
     pub file: u32,
     pub line: u32,
     pub number: u32,
+    pub column: u32,
 }

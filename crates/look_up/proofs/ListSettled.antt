@@ -49,7 +49,7 @@ some-answer t numbers lent = go (eqb (length numbers) lent) refl
   where
     go : (b : Bool) → eqb (length numbers) lent ≡ b → Some t numbers lent
     go true e = let a = all-points t numbers in record { reply = Reply.Answered; left = a .points; right = answered (eqb-true (length numbers) lent e) refl (a .right) }
-    go false e = record { reply = Reply.Refused (record { file = 0; line = 0; number = 20 }); left = replicate lent 0; right = refused (eqb-false (length numbers) lent e) refl refl }
+    go false e = record { reply = Reply.Refused (record { file = 0; line = 0; number = 20; column = 0 }); left = replicate lent 0; right = refused (eqb-false (length numbers) lent e) refl refl }
 
 -- ## The loop: the first i numbers have their answers, and one more
 paired-more : {A B : Type 0} (R : A → B → Type 0) (l : List A) (m : List B) (a : A) (b : B) → Paired R l m → R a b → Paired R (l ++ (a ∷ [])) (m ++ (b ∷ []))

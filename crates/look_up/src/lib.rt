@@ -106,6 +106,7 @@ pub fn points_of(checkpoints: &[u32], numbers: &[u32], points: &mut [u32]) -> Li
             file: 0,
             line: 0,
             number: 20,
+            column: 0,
         });
     }
     for i in 0..numbers.len() {

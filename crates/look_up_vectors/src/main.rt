@@ -28,6 +28,7 @@ fn put_reply(reply: ListReply) {
             put_number(why.file as u32);
             put_number(why.line);
             put_number(why.number as u32);
+            put_number(why.column);
             put(b":");
         }
     }

@@ -76,7 +76,7 @@ drawn-so text t left lent c file (R.accepted n a e k) = record {
   accepts = a;
   is = sym (ap (λ (l : Lent). behind text l lent c) k ∙ ap (behind text (filled n t) lent) (ap (counts-of c) e) ∙ map-drawn text t n a (pen (O.zeros lent) 0));
 }
-drawn-so text t left lent c file (R.refused line number a e k) = absurd (never-both e)
+drawn-so text t left lent c file (R.refused line number column a e k) = absurd (never-both e)
 
 -- so an output in which it was ended is an output of that map
 ended-so : {text : Bytes} {t left : Lent} {lent : ℕ} {c : Counts} → (d : Drawn text t left lent c) → {out : Bytes} {answer : DF.Finished} → Finishes (behind text left lent c .out) (behind text left lent c .at) out answer → Output lent (geojson (d .net)) out answer

@@ -23,5 +23,5 @@ whole text segments lanes zones spots points checkpoints lent c = drawn text seg
 
 pub data Answers (read : RndfReply) (lent : ℕ) (end : Counts → Pen) (out : Bytes) (answer : WriteReply) : Type 0 where
   as-read : (why : Refusal) → read ≡ Reply.Refused why → answer ≡ Write.Refused why → out ≡ zeros lent → Answers read lent end out answer
-  over : (c : Counts) (file : FileRow) → read ≡ Reply.Accepted c file → Finishes (end c .out) (end c .at) out TooLong → answer ≡ Write.Refused (refusal 1 0 19) → Answers read lent end out answer
+  over : (c : Counts) (file : FileRow) → read ≡ Reply.Accepted c file → Finishes (end c .out) (end c .at) out TooLong → answer ≡ Write.Refused (refusal 1 0 19 0) → Answers read lent end out answer
   put : (c : Counts) (file : FileRow) (k : ℕ) → read ≡ Reply.Accepted c file → Finishes (end c .out) (end c .at) out (Written k) → answer ≡ Write.Written c file k → Answers read lent end out answer

@@ -89,6 +89,7 @@ fn write_read(
                     file: 1,
                     line: 0,
                     number: 19,
+                    column: 0,
                 }),
             }
         }

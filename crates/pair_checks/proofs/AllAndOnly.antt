@@ -25,9 +25,9 @@ module _ (start : ℕ) (route : List ℕ) (rndf mdf : Bytes) (t : Lent) (u : Mis
     where
       go : ChecksRoute present start route rndf mdf t u reply left mission-left → (pair : AcceptedPair present rndf mdf t u) × Good start route (pair .net) (pair .goals)
       go (unread why x e) = absurd (not why e)
-      go (wrong pair line number h e y z) = absurd (not (refusal 0 (fitted line) number) e)
+      go (wrong pair line number h e y z) = absurd (not (refusal 0 (fitted line) number 0) e)
       go (right pair g x) = (pair, g)
 
   pub refused-so : (pair : AcceptedPair present rndf mdf t u) (line number : ℕ) → Bad start route (pair .net) (pair .goals) line number
-      → (reply ≡ Pair.Refused (refusal 0 (fitted line) number)) × (left ≡ zeros t) × (mission-left ≡ mission-zeros u)
-  refused-so pair line number b = route-settled start route rndf mdf t u reply (Pair.Refused (refusal 0 (fitted line) number)) left (zeros t) mission-left (mission-zeros u) checked (wrong pair line number b refl refl refl)
+      → (reply ≡ Pair.Refused (refusal 0 (fitted line) number 0)) × (left ≡ zeros t) × (mission-left ≡ mission-zeros u)
+  refused-so pair line number b = route-settled start route rndf mdf t u reply (Pair.Refused (refusal 0 (fitted line) number 0)) left (zeros t) mission-left (mission-zeros u) checked (wrong pair line number b refl refl refl)

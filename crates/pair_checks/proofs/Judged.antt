@@ -66,7 +66,7 @@ module _ (rndf mdf : Bytes) (t : Lent) (u : MissionLent) where
       settled r r′ l l′ k k′ (right q h′ x) (wrong p i j h e y z) = absurd (not-both (p .net) (p .goals) i j (carried Right p q h′) h)
       settled r r′ l l′ k k′ (wrong p i j h e y z) (wrong q i′ j′ h′ e′ y′ z′) =
           let b = one-wrong (p .net) (p .goals) i j i′ j′ h (carried (λ n g. Wrong n g i′ j′) p q h′) in
-          (e ∙ (λ s. Pair.Refused (refusal 0 (fitted (b .0 s)) (b .1 s))) ∙ sym e′, y ∙ sym y′, z ∙ sym z′)
+          (e ∙ (λ s. Pair.Refused (refusal 0 (fitted (b .0 s)) (b .1 s) 0)) ∙ sym e′, y ∙ sym y′, z ∙ sym z′)
       settled r r′ l l′ k k′ (right p h x) (right q h′ x′) = pair-settled rndf mdf t u r r′ l l′ k k′ x x′
 
     -- ## One there is. 01: "`num_checkpoints` > 0": there are goals
@@ -85,12 +85,12 @@ module _ (rndf mdf : Bytes) (t : Lent) (u : MissionLent) where
 
       told : (p : Pairs) → Right (p .net) (p .goals) ⊎ ((line : ℕ) × (number : ℕ) × Wrong (p .net) (p .goals) line number) → Some
       told p (inl h) = record { reply = read-reply p; left = filled (p .net) t; mission-left = mission-filled (p .mission) u; judged = right p h (read-so p) }
-      told p (inr f) = record { reply = Pair.Refused (refusal 0 (fitted (f .0)) (f .1)); left = zeros t; mission-left = mission-zeros u; judged = wrong p (f .0) (f .1) (f .2) refl refl refl }
+      told p (inr f) = record { reply = Pair.Refused (refusal 0 (fitted (f .0)) (f .1) 0); left = zeros t; mission-left = mission-zeros u; judged = wrong p (f .0) (f .1) (f .2) refl refl refl }
 
       pub some-reply : Some
       some-reply = let s = pair-some rndf mdf t u in go (s .reply) (s .left) (s .mission-left) (s .reads)
         where
           go : (r : PairReply) (l : Lent) (k : MissionLent) → ReadsPair present rndf mdf t u r l k → Some
-          go r l k (rndf-refused line number h e y z) = record { reply = r; left = l; mission-left = k; judged = unread (refusal 1 line number) (rndf-refused line number h refl y z) e }
-          go r l k (mdf-refused n line number h h′ e y z) = record { reply = r; left = l; mission-left = k; judged = unread (refusal 2 line number) (mdf-refused n line number h h′ refl y z) e }
+          go r l k (rndf-refused line number column h e y z) = record { reply = r; left = l; mission-left = k; judged = unread (refusal 1 line number column) (rndf-refused line number column h refl y z) e }
+          go r l k (mdf-refused n line number column h h′ e y z) = record { reply = r; left = l; mission-left = k; judged = unread (refusal 2 line number column) (mdf-refused n line number column h h′ refl y z) e }
           go r l k (accepted n m h h′ e y z) = let p = the-pair n m h h′ in told p (one-is (p .net) (p .goals) (some-goals p))

@@ -27,8 +27,8 @@ module _ (rules : Rules) (rndf mdf : Bytes) (t : Lent) (u : MissionLent) where
     pub data Judges (reply : PairReply) (left : Lent) (mission-left : MissionLent) : Type 0 where
       -- 01: "reads them first and refuses as the reader does before any refusal of its own"
       unread : (why : Refusal) → ReadsPair rules rndf mdf t u (Pair.Refused why) left mission-left → reply ≡ Pair.Refused why → Judges reply left mission-left
-      -- 02: "Numbers from 20 on give file 0"; 01: "All lent tables .. are then zero over their whole length". What stands in place of the line is told in 32 bits: more is told as 4,294,967,295
-      wrong : (pair : AcceptedPair) (line number : ℕ) → Wrong (pair .net) (pair .goals) line number → reply ≡ Pair.Refused (refusal 0 (fitted line) number) → left ≡ zeros t → mission-left ≡ mission-zeros u → Judges reply left mission-left
+      -- 02: "Numbers from 20 on give file 0"; L7: "from 20 on unless said otherwise, it is 0", the column; 01: "All lent tables .. are then zero over their whole length". What stands in place of the line is told in 32 bits: more is told as 4,294,967,295
+      wrong : (pair : AcceptedPair) (line number : ℕ) → Wrong (pair .net) (pair .goals) line number → reply ≡ Pair.Refused (refusal 0 (fitted line) number 0) → left ≡ zeros t → mission-left ≡ mission-zeros u → Judges reply left mission-left
       -- the reply and the tables are the reader's
       right : (pair : AcceptedPair) → Right (pair .net) (pair .goals) → ReadsPair rules rndf mdf t u reply left mission-left → Judges reply left mission-left
 

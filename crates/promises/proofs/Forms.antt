@@ -19,7 +19,7 @@ use Rattle.law.specs.Short.{SpellsRndf, SpellsMdf}
 use Rattle.law_spelling.proofs.Texts.{rndf-to, rndf-back, mdf-to, mdf-back}
 use Rattle.law_faults.proofs.Theorems.{rndf-bad-to, rndf-bad-back, rndf-unended-to, rndf-unended-back, mdf-bad-to, mdf-bad-back, mdf-unended-to, mdf-unended-back}
 use Rattle.promises.specs.Refusals.{WellFormed, NoFormFault, Begin, RefusedLine, RefusedEnd}
-use Rattle.promises.proofs.Numbers.{refused-by}
+use Rattle.promises.proofs.Numbers.{BadAt, refused-by}
 
 -- ## Only one network, and only one mission
 pub one-spelled : (text : Bytes) (n n′ : Network Field) → SpellsRndf n text → SpellsRndf n′ text → n ≡ n′
@@ -81,16 +81,16 @@ rndf-form text line number b = go (F.rndf-two-to-nine-or-25 text line number (rn
 pub mdf-form : (text : Bytes) (line number : ℕ) → BadLine present SpellsMission text line number → OfForm number
 mdf-form text line number b = let h = F.mdf-two-to-nine text line number (mdf-bad-back text line number b) in form-within number (h .0) (h .1)
 
-pub rndf-refused-line : (text : Bytes) (line number : ℕ) → BadLine present SpellsNetwork text line number → RefusedLine present SpellsNetwork text line number
-rndf-refused-line text line number b =
-    let o = rndf-bad-back text line number b in
-    refused-by present SpellsNetwork text line number b (o .before) (o .this) (o .rest) (o .cut) (o .number) (rndf-begin-to (o .before) (F.rndf-begins-some text line number o))
+pub rndf-refused-line : (text : Bytes) (line number column : ℕ) → BadAt present SpellsNetwork text line number column → RefusedLine present SpellsNetwork text line number column
+rndf-refused-line text line number column b =
+    let o = rndf-bad-back text line number (b .0) in
+    refused-by present SpellsNetwork text line number column b (o .before) (o .this) (o .rest) (o .cut) (o .number) (rndf-begin-to (o .before) (F.rndf-begins-some text line number o))
     (λ more text′ c w. F.rndf-hopeless text line number o text′ more (w .0) c (rndf-back (w .0) text′ (w .1)))
 
-pub mdf-refused-line : (text : Bytes) (line number : ℕ) → BadLine present SpellsMission text line number → RefusedLine present SpellsMission text line number
-mdf-refused-line text line number b =
-    let o = mdf-bad-back text line number b in
-    refused-by present SpellsMission text line number b (o .before) (o .this) (o .rest) (o .cut) (o .number) (mdf-begin-to (o .before) (F.mdf-begins-some text line number o))
+pub mdf-refused-line : (text : Bytes) (line number column : ℕ) → BadAt present SpellsMission text line number column → RefusedLine present SpellsMission text line number column
+mdf-refused-line text line number column b =
+    let o = mdf-bad-back text line number (b .0) in
+    refused-by present SpellsMission text line number column b (o .before) (o .this) (o .rest) (o .cut) (o .number) (mdf-begin-to (o .before) (F.mdf-begins-some text line number o))
     (λ more text′ c w. F.mdf-hopeless text line number o text′ more (w .0) c (mdf-back (w .0) text′ (w .1)))
 
 -- ## 10: a text whose lines begin some well-formed text, and which is none, is unended; and so is no other

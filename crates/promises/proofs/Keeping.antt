@@ -89,13 +89,13 @@ module _ (earlier later : Rules) (options : (ls : List (List Line)) (l : List Li
 
     rndf-kept : (text : Bytes) (t left : Lent) (c : Counts) (file : FileRow) → ReadsRndf earlier text t (Reply.Accepted c file) left → ReadsRndf later text t (Reply.Accepted c file) left
     rndf-kept text t left c file (ReadsRndf.accepted n a e f) = ReadsRndf.accepted n (rndf-accepts text t n a) e f
-    rndf-kept text t left c file (ReadsRndf.refused line number a e f) = absurd (subst IsAccepted e tt)
+    rndf-kept text t left c file (ReadsRndf.refused line number column a e f) = absurd (subst IsAccepted e tt)
 
     pair-kept : (rndf mdf : Bytes) (t left : Lent) (u mission-left : MissionLent) (c : Counts) (file : FileRow) (d : MissionCounts) (own : MissionFileRow)
         → ReadsPair earlier rndf mdf t u (Pair.Accepted c file d own) left mission-left → ReadsPair later rndf mdf t u (Pair.Accepted c file d own) left mission-left
     pair-kept rndf mdf t left u k c file d own (ReadsPair.accepted n m a b e f g) = ReadsPair.accepted n m (rndf-accepts rndf t n a) (mdf-accepts n mdf u m b) e f g
-    pair-kept rndf mdf t left u k c file d own (ReadsPair.rndf-refused line number a e f g) = absurd (subst IsPairAccepted e tt)
-    pair-kept rndf mdf t left u k c file d own (ReadsPair.mdf-refused n line number a b e f g) = absurd (subst IsPairAccepted e tt)
+    pair-kept rndf mdf t left u k c file d own (ReadsPair.rndf-refused line number column a e f g) = absurd (subst IsPairAccepted e tt)
+    pair-kept rndf mdf t left u k c file d own (ReadsPair.mdf-refused n line number column a b e f g) = absurd (subst IsPairAccepted e tt)
 
     kept : Kept earlier later
     kept = record { rndf = rndf-kept; pair = pair-kept }

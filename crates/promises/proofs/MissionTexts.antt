@@ -47,6 +47,10 @@ use Rattle.law.specs.Faults.{BadLine, FirstFault, MdfFault}
 use Rattle.law_spelling.proofs.Texts.{mdf-to}
 use Rattle.law_faults.proofs.Theorems.{mdf-bad-to}
 use Rattle.law_tables.proofs.MdfFirst.{mdf-first-to}
+use Rattle.law_columns.specs.Columns.{Column}
+use Rattle.law_columns.specs.Finding as Finding
+use Rattle.law_columns.specs.Files.{mdf-column}
+use Rattle.law_columns.proofs.Theorems.{mdf-column-bad, mdf-column-fault}
 use Rattle.promises.specs.Yards.{round, goal-8, limit-10-5, limit-5-0, network, mission-with, mission, mission-goal-8, mission-5-0}
 
 abbrev lines-with : (g minimum maximum : ℕ) → List (Statement Field)
@@ -117,3 +121,14 @@ pub record Faults : Type 0 where
 
 pub faults : Faults
 faults = record { goal-8 = mdf-first-to network mission-goal-8 goal-8 goal-8-read 5 15 wrong-goal; limit-10-5 = mdf-bad-to limit-10-5 9 9 (mdf-bad-line-right limit-10-5 9 9 (answered .limit-10-5)) }
+
+-- ## Where it stands in its line, by computation
+columns : (mdf-column goal-8 5 15 ≡ 1) × (mdf-column limit-10-5 9 9 ≡ 6)
+unfolding ascii Answers.readText Answers.walk Lines.linesOf Judge.judge Lines.dropCr Forms.formOf Forms.closes Forms.noteOf Forms.outerOf Forms.fieldsAt Content.parted-by Allowed.separates Allowed.all Reach.two Reach.sameBytes Reach.begins Reach.first Reach.upTo Reach.stopsBy Judge.tell Judge.read Judge.numbered Number.integerOf Number.plainOf Number.plain Number.worth Number.numberOf Word.indexOf Keywords.mdf-keywords Machine.step Machine.guard Stands.stands Finding.wrongAt Finding.fieldAt Finding.columnOf Finding.columnFrom Finding.columnIn
+columns = (refl, refl)
+
+pub goal-at : Column present Law.SpellsMission (faults .goal-8 .front) (faults .goal-8 .at .this) 15 1
+goal-at = subst (Column present Law.SpellsMission (faults .goal-8 .front) (faults .goal-8 .at .this) 15) (columns .0) (mdf-column-fault network goal-8 5 15 (faults .goal-8))
+
+pub limit-at : Column present Law.SpellsMission (faults .limit-10-5 .front) (faults .limit-10-5 .this) 9 6
+limit-at = subst (Column present Law.SpellsMission (faults .limit-10-5 .front) (faults .limit-10-5 .this) 9) (columns .1) (mdf-column-bad limit-10-5 9 9 (faults .limit-10-5))

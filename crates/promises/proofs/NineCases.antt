@@ -16,7 +16,7 @@ use Rattle.promises.specs.Yards.{yard, round, goal-8, limit-10-5, limit-
 use Rattle.promises.specs.Cases.{PairRefused, nine, AllRefused}
 use Rattle.promises.proofs.PairPromises.{spelled-pair-accepted, pair-refusal-only}
 use Rattle.promises.proofs.YardA.{yard-taken, replied, room-in-used, words-are, less-room, seven}
-use Rattle.promises.proofs.MissionTexts.{spelled, faults}
+use Rattle.promises.proofs.MissionTexts.{spelled, faults, goal-at, limit-at}
 
 -- ## Its MDF
 record Small : Type 0 where
@@ -43,37 +43,37 @@ round-taken u room = record { size = small .round; spelled = spelled .round; roo
 
 -- ## Pairs that are refused
 -- by the RNDF, with any MDF
-pub rndf-refused-so : (rndf mdf : Bytes) (t : Lent) (u : MissionLent) (line number : ℕ) → RefusesRndf present rndf t line number → PairRefused rndf mdf t u 1 line number
-rndf-refused-so rndf mdf t u line number h r l k x = pair-refusal-only rndf mdf t u r l k x (refusal 1 line number) (inl (refl, h))
+pub rndf-refused-so : (rndf mdf : Bytes) (t : Lent) (u : MissionLent) (line number column : ℕ) → RefusesRndf present rndf t line number column → PairRefused rndf mdf t u 1 line number column
+rndf-refused-so rndf mdf t u line number column h r l k x = pair-refusal-only rndf mdf t u r l k x (refusal 1 line number column) (inl (refl, h))
 
 -- by the MDF, with yard A
-pub mdf-refused-so : (mdf : Bytes) (t : Lent) (u : MissionLent) (line number : ℕ) → HasRoom network t → RefusesMdf present network mdf u line number → PairRefused yard mdf t u 2 line number
-mdf-refused-so mdf t u line number room h r l k x = pair-refusal-only yard mdf t u r l k x (refusal 2 line number) (inr (refl, (network, yard-taken t room, h)))
+pub mdf-refused-so : (mdf : Bytes) (t : Lent) (u : MissionLent) (line number column : ℕ) → HasRoom network t → RefusesMdf present network mdf u line number column → PairRefused yard mdf t u 2 line number column
+mdf-refused-so mdf t u line number column room h r l k x = pair-refusal-only yard mdf t u r l k x (refusal 2 line number column) (inr (refl, (network, yard-taken t room, h)))
 
-pub goal-refused : (t : Lent) (u : MissionLent) → HasRoom network t → MissionHasRoom mission u → PairRefused yard goal-8 t u 2 5 15
-goal-refused t u room mission-room = mdf-refused-so goal-8 t u 5 15 room (bad-reference mission-goal-8 (small .goal-8) (spelled .goal-8) (record { goals = mission-room .goals; limits = mission-room .limits }) (faults .goal-8))
+pub goal-refused : (t : Lent) (u : MissionLent) → HasRoom network t → MissionHasRoom mission u → PairRefused yard goal-8 t u 2 5 15 1
+goal-refused t u room mission-room = mdf-refused-so goal-8 t u 5 15 1 room (bad-reference mission-goal-8 (small .goal-8) (spelled .goal-8) (record { goals = mission-room .goals; limits = mission-room .limits }) (faults .goal-8) goal-at)
 
 -- whatever is lent for the MDF
-pub limit-refused : (t : Lent) (u : MissionLent) → HasRoom network t → PairRefused yard limit-10-5 t u 2 9 9
-limit-refused t u room = mdf-refused-so limit-10-5 t u 9 9 room (bad-line (small .limit-10-5) (faults .limit-10-5))
+pub limit-refused : (t : Lent) (u : MissionLent) → HasRoom network t → PairRefused yard limit-10-5 t u 2 9 9 6
+limit-refused t u room = mdf-refused-so limit-10-5 t u 9 9 6 room (bad-line (small .limit-10-5) (faults .limit-10-5) limit-at)
 
 -- THE THEOREM, of whatever meets the contract, and of all lent tables with room
 pub nine-cases : (t : Lent) (u : MissionLent) → HasRoom network-twice t → MissionHasRoom mission u → AllRefused t u nine
 nine-cases t u room mission-room =
     let s = seven t room in
     let one = less-room t room .0 in (
-      rndf-refused-so _ round t u 9 12 (s .entry-3),
+      rndf-refused-so _ round t u 9 12 12 (s .entry-3),
       (
-        rndf-refused-so _ round t u 9 9 (s .exit-from-3),
+        rndf-refused-so _ round t u 9 9 6 (s .exit-from-3),
         (
-          rndf-refused-so _ round t u 12 5 (s .three-waypoints),
+          rndf-refused-so _ round t u 12 5 1 (s .three-waypoints),
           (
-            rndf-refused-so _ round t u 8 9 (s .one-waypoint),
+            rndf-refused-so _ round t u 8 9 12 (s .one-waypoint),
             (
-              rndf-refused-so _ round t u 14 10 (s .without-end),
+              rndf-refused-so _ round t u 14 10 0 (s .without-end),
               (
-                rndf-refused-so _ round t u 1 10 (s .nothing),
-                (rndf-refused-so _ round t u 9 13 (s .line-8-twice), (goal-refused t u one mission-room, (limit-refused t u one, tt))),
+                rndf-refused-so _ round t u 1 10 0 (s .nothing),
+                (rndf-refused-so _ round t u 9 13 18 (s .line-8-twice), (goal-refused t u one mission-room, (limit-refused t u one, tt))),
               ),
             ),
           ),

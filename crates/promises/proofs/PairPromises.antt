@@ -23,7 +23,7 @@ use Rattle.replies.proofs.Settled.{pair-settled}
 use Rattle.promises.specs.Accepted.{IsPairAccepted, PairAcceptable, mission-rows-used, Meant, NamesAsked, MissionNamesAsked}
 use Rattle.promises.specs.Declared.{declared, mission-declared}
 use Rattle.promises.specs.Refusals.{OneOfFive, RefusedLine, RefusedEnd, NoRoom, WrongReference, OfFile, PairRefuses}
-use Rattle.promises.proofs.Numbers.{number-by, size-by, line-by, end-by, room-by, reference-by}
+use Rattle.promises.proofs.Numbers.{number-by, size-by, line-by, end-by, room-by, reference-by, column-by}
 use Rattle.promises.proofs.Forms.{one-spelled, one-mission, rndf-form, mdf-form, rndf-refused-line, mdf-refused-line, rndf-refused-end, mdf-refused-end, rndf-end-unended, mdf-end-unended, rndf-reference, mdf-reference}
 use Rattle.promises.proofs.Counted.{network-counted, mission-counted}
 use Rattle.promises.proofs.Names as Names
@@ -57,8 +57,8 @@ module _ (rndf mdf : Bytes) (t : Lent) (u : MissionLent) where
   -- only pairs that spell a network and a mission with every reference right are accepted, and only where there is room ..
   pub pair-accepted-spelled : (c : Counts) (file : FileRow) (d : MissionCounts) (own : MissionFileRow) (l : Lent) (k : MissionLent) → ReadsPair present rndf mdf t u (Pair.Accepted c file d own) l k → PairAcceptable present rndf mdf t u
   pair-accepted-spelled c file d own l k (accepted n m a b e p q) = record { net = n; mission = m; network-accepted = a; mission-accepted = b }
-  pair-accepted-spelled c file d own l k (rndf-refused line number b e p q) = absurd (pair-not-both e)
-  pair-accepted-spelled c file d own l k (mdf-refused n line number a b e p q) = absurd (pair-not-both e)
+  pair-accepted-spelled c file d own l k (rndf-refused line number column b e p q) = absurd (pair-not-both e)
+  pair-accepted-spelled c file d own l k (mdf-refused n line number column a b e p q) = absurd (pair-not-both e)
 
   -- .. and all these are: demand 3. The reply and the tables are then the network's and the mission's: demand 2
   pub spelled-pair-accepted : (r : PairReply) (l : Lent) (k : MissionLent) → ReadsPair present rndf mdf t u r l k → (n : Network Field) (m : Mission Field) → AcceptsRndf present rndf t n → AcceptsMdf present n mdf u m
@@ -111,26 +111,26 @@ module _ (rndf mdf : Bytes) (t : Lent) (u : MissionLent) where
   -- 01: "All lent tables .. are then zero over their whole length"; "file (1 RNDF, 2 MDF)"
   pub pair-refusal-zero : (x : Refusal) (l : Lent) (k : MissionLent) → ReadsPair present rndf mdf t u (Pair.Refused x) l k → ((x .file ≡ 1) ⊎ (x .file ≡ 2)) × (l ≡ zeros t) × (k ≡ mission-zeros u)
   pair-refusal-zero x l k (accepted n m a b e p q) = absurd (pair-not-both (sym e))
-  pair-refusal-zero x l k (rndf-refused line number b e p q) = (inl (ap (λ (y : Refusal). y .file) (ap (refusal-in x) e)), p, q)
-  pair-refusal-zero x l k (mdf-refused n line number a b e p q) = (inr (ap (λ (y : Refusal). y .file) (ap (refusal-in x) e)), p, q)
+  pair-refusal-zero x l k (rndf-refused line number column b e p q) = (inl (ap (λ (y : Refusal). y .file) (ap (refusal-in x) e)), p, q)
+  pair-refusal-zero x l k (mdf-refused n line number column a b e p q) = (inr (ap (λ (y : Refusal). y .file) (ap (refusal-in x) e)), p, q)
 
-  -- file, line and number are those of the first refusal, in document 01's order: the RNDF's, else the MDF's for the network that the RNDF spells
+  -- file, line, number and column are those of the first refusal, in document 01's order: the RNDF's, else the MDF's for the network that the RNDF spells
   pub pair-refusal-right : (x : Refusal) (l : Lent) (k : MissionLent) → ReadsPair present rndf mdf t u (Pair.Refused x) l k → PairRefuses present rndf mdf t u x
   pair-refusal-right x l k (accepted n m a b e p q) = absurd (pair-not-both (sym e))
-  pair-refusal-right x l k (rndf-refused line number b e p q) = subst (PairRefuses present rndf mdf t u) (sym (ap (refusal-in x) e)) (inl (refl, b))
-  pair-refusal-right x l k (mdf-refused n line number a b e p q) = subst (PairRefuses present rndf mdf t u) (sym (ap (refusal-in x) e)) (inr (refl, (n, a, b)))
+  pair-refusal-right x l k (rndf-refused line number column b e p q) = subst (PairRefuses present rndf mdf t u) (sym (ap (refusal-in x) e)) (inl (refl, b))
+  pair-refusal-right x l k (mdf-refused n line number column a b e p q) = subst (PairRefuses present rndf mdf t u) (sym (ap (refusal-in x) e)) (inr (refl, (n, a, b)))
 
   pub pair-refusal-only : (r : PairReply) (l : Lent) (k : MissionLent) → ReadsPair present rndf mdf t u r l k → (x : Refusal) → PairRefuses present rndf mdf t u x → (r ≡ Pair.Refused x) × (l ≡ zeros t) × (k ≡ mission-zeros u)
-  pair-refusal-only r l k h x (inl b) = pair-settled rndf mdf t u r (Pair.Refused x) l (zeros t) k (mission-zeros u) h (rndf-refused (x .line) (x .number) (b .1) (ap (λ (y : ℕ). Pair.Refused (refusal y (x .line) (x .number))) (b .0)) refl refl)
-  pair-refusal-only r l k h x (inr b) = pair-settled rndf mdf t u r (Pair.Refused x) l (zeros t) k (mission-zeros u) h (mdf-refused (b .1 .0) (x .line) (x .number) (b .1 .1) (b .1 .2) (ap (λ (y : ℕ). Pair.Refused (refusal y (x .line) (x .number))) (b .0)) refl refl)
+  pair-refusal-only r l k h x (inl b) = pair-settled rndf mdf t u r (Pair.Refused x) l (zeros t) k (mission-zeros u) h (rndf-refused (x .line) (x .number) (x .column) (b .1) (ap (λ (y : ℕ). Pair.Refused (refusal y (x .line) (x .number) (x .column))) (b .0)) refl refl)
+  pair-refusal-only r l k h x (inr b) = pair-settled rndf mdf t u r (Pair.Refused x) l (zeros t) k (mission-zeros u) h (mdf-refused (b .1 .0) (x .line) (x .number) (x .column) (b .1 .1) (b .1 .2) (ap (λ (y : ℕ). Pair.Refused (refusal y (x .line) (x .number) (x .column))) (b .0)) refl refl)
 
   -- 10 is replied to every RNDF that is not too long, whose lines begin some well-formed text, and which is none; to every such MDF with an RNDF that is accepted; and to no other pair (pair-refused-end)
-  pub rndf-end-refused : (r : PairReply) (l : Lent) (k : MissionLent) (line : ℕ) → ReadsPair present rndf mdf t u r l k → length rndf ≤ most → RefusedEnd present SpellsNetwork rndf line → (r ≡ Pair.Refused (refusal 1 line 10)) × (l ≡ zeros t) × (k ≡ mission-zeros u)
-  rndf-end-refused r l k line h size e = pair-refusal-only r l k h (refusal 1 line 10) (inl (refl, unended size (rndf-end-unended rndf line e)))
+  pub rndf-end-refused : (r : PairReply) (l : Lent) (k : MissionLent) (line : ℕ) → ReadsPair present rndf mdf t u r l k → length rndf ≤ most → RefusedEnd present SpellsNetwork rndf line → (r ≡ Pair.Refused (refusal 1 line 10 0)) × (l ≡ zeros t) × (k ≡ mission-zeros u)
+  rndf-end-refused r l k line h size e = pair-refusal-only r l k h (refusal 1 line 10 0) (inl (refl, unended size (rndf-end-unended rndf line e)))
 
   pub mdf-end-refused : (r : PairReply) (l : Lent) (k : MissionLent) (line : ℕ) → ReadsPair present rndf mdf t u r l k → (n : Network Field) → AcceptsRndf present rndf t n → length mdf ≤ most → RefusedEnd present SpellsMission mdf line
-      → (r ≡ Pair.Refused (refusal 2 line 10)) × (l ≡ zeros t) × (k ≡ mission-zeros u)
-  mdf-end-refused r l k line h n a size e = pair-refusal-only r l k h (refusal 2 line 10) (inr (refl, (n, a, unended size (mdf-end-unended mdf line e))))
+      → (r ≡ Pair.Refused (refusal 2 line 10 0)) × (l ≡ zeros t) × (k ≡ mission-zeros u)
+  mdf-end-refused r l k line h n a size e = pair-refusal-only r l k h (refusal 2 line 10 0) (inr (refl, (n, a, unended size (mdf-end-unended mdf line e))))
 
   -- ## What each number tells, of the file that is named
   abbrev Roomy : Network Field → Type 0
@@ -148,46 +148,54 @@ module _ (rndf mdf : Bytes) (t : Lent) (u : MissionLent) where
     pair-refused-number = go (pair-refusal-right x l k h)
       where
         go : PairRefuses present rndf mdf t u x → OneOfFive (x .number)
-        go (inl b) = number-by present SpellsNetwork Roomy Sound RndfFault rndf (rndf-form rndf) rndf-reference (x .line) (x .number) (b .1)
-        go (inr b) = number-by present SpellsMission MissionRoomy (Fits (b .1 .0)) (Wrong (b .1 .0)) mdf (mdf-form mdf) (λ m. mdf-reference (b .1 .0)) (x .line) (x .number) (b .1 .2)
+        go (inl b) = number-by present SpellsNetwork Roomy Sound RndfFault rndf (rndf-form rndf) rndf-reference (x .line) (x .number) (x .column) (b .1)
+        go (inr b) = number-by present SpellsMission MissionRoomy (Fits (b .1 .0)) (Wrong (b .1 .0)) mdf (mdf-form mdf) (λ m. mdf-reference (b .1 .0)) (x .line) (x .number) (x .column) (b .1 .2)
 
     -- 1: that text is too long; line 0
     pub pair-refused-size : x .number ≡ 1 → OfFile x ((x .line ≡ 0) × (most < length rndf)) ((x .line ≡ 0) × (most < length mdf))
     pair-refused-size e = go (pair-refusal-right x l k h)
       where
         go : PairRefuses present rndf mdf t u x → OfFile x ((x .line ≡ 0) × (most < length rndf)) ((x .line ≡ 0) × (most < length mdf))
-        go (inl b) = inl (b .0, size-by present SpellsNetwork Roomy Sound RndfFault rndf (rndf-form rndf) rndf-reference (x .line) (x .number) (b .1) e)
-        go (inr b) = inr (b .0, size-by present SpellsMission MissionRoomy (Fits (b .1 .0)) (Wrong (b .1 .0)) mdf (mdf-form mdf) (λ m. mdf-reference (b .1 .0)) (x .line) (x .number) (b .1 .2) e)
+        go (inl b) = inl (b .0, size-by present SpellsNetwork Roomy Sound RndfFault rndf (rndf-form rndf) rndf-reference (x .line) (x .number) (x .column) (b .1) e)
+        go (inr b) = inr (b .0, size-by present SpellsMission MissionRoomy (Fits (b .1 .0)) (Wrong (b .1 .0)) mdf (mdf-form mdf) (λ m. mdf-reference (b .1 .0)) (x .line) (x .number) (x .column) (b .1 .2) e)
 
     -- a number of form: the lines before the refused line begin some well-formed text, none begins with them and it, and it has that fault
-    pub pair-refused-line : OfForm (x .number) → OfFile x (RefusedLine present SpellsNetwork rndf (x .line) (x .number)) (RefusedLine present SpellsMission mdf (x .line) (x .number))
+    pub pair-refused-line : OfForm (x .number) → OfFile x (RefusedLine present SpellsNetwork rndf (x .line) (x .number) (x .column)) (RefusedLine present SpellsMission mdf (x .line) (x .number) (x .column))
     pair-refused-line form = go (pair-refusal-right x l k h)
       where
-        go : PairRefuses present rndf mdf t u x → OfFile x (RefusedLine present SpellsNetwork rndf (x .line) (x .number)) (RefusedLine present SpellsMission mdf (x .line) (x .number))
-        go (inl b) = inl (b .0, rndf-refused-line rndf (x .line) (x .number) (line-by present SpellsNetwork Roomy Sound RndfFault rndf (rndf-form rndf) rndf-reference (x .line) (x .number) (b .1) form))
-        go (inr b) = inr (b .0, mdf-refused-line mdf (x .line) (x .number) (line-by present SpellsMission MissionRoomy (Fits (b .1 .0)) (Wrong (b .1 .0)) mdf (mdf-form mdf) (λ m. mdf-reference (b .1 .0)) (x .line) (x .number) (b .1 .2) form))
+        go : PairRefuses present rndf mdf t u x → OfFile x (RefusedLine present SpellsNetwork rndf (x .line) (x .number) (x .column)) (RefusedLine present SpellsMission mdf (x .line) (x .number) (x .column))
+        go (inl b) = inl (b .0, rndf-refused-line rndf (x .line) (x .number) (x .column) (line-by present SpellsNetwork Roomy Sound RndfFault rndf (rndf-form rndf) rndf-reference (x .line) (x .number) (x .column) (b .1) form))
+        go (inr b) = inr (b .0, mdf-refused-line mdf (x .line) (x .number) (x .column) (line-by present SpellsMission MissionRoomy (Fits (b .1 .0)) (Wrong (b .1 .0)) mdf (mdf-form mdf) (λ m. mdf-reference (b .1 .0)) (x .line) (x .number) (x .column) (b .1 .2) form))
+
+    -- L7: "Where the line is 0, for 10, .. it is 0": with no other number there is a column
+    pub pair-no-column : (OfForm (x .number) → ⊥) → (OfReference (x .number) → ⊥) → x .column ≡ 0
+    pair-no-column p q = go (pair-refusal-right x l k h)
+      where
+        go : PairRefuses present rndf mdf t u x → x .column ≡ 0
+        go (inl b) = column-by present SpellsNetwork Roomy Sound RndfFault rndf (rndf-form rndf) rndf-reference (x .line) (x .number) (x .column) (b .1) p q
+        go (inr b) = column-by present SpellsMission MissionRoomy (Fits (b .1 .0)) (Wrong (b .1 .0)) mdf (mdf-form mdf) (λ m. mdf-reference (b .1 .0)) (x .line) (x .number) (x .column) (b .1 .2) p q
 
     -- 10: the lines of that text begin some well-formed text, and it is none; the line behind its last
     pub pair-refused-end : x .number ≡ 10 → OfFile x (RefusedEnd present SpellsNetwork rndf (x .line)) (RefusedEnd present SpellsMission mdf (x .line))
     pair-refused-end e = go (pair-refusal-right x l k h)
       where
         go : PairRefuses present rndf mdf t u x → OfFile x (RefusedEnd present SpellsNetwork rndf (x .line)) (RefusedEnd present SpellsMission mdf (x .line))
-        go (inl b) = inl (b .0, rndf-refused-end rndf (x .line) (end-by present SpellsNetwork Roomy Sound RndfFault rndf (rndf-form rndf) rndf-reference (x .line) (x .number) (b .1) e))
-        go (inr b) = inr (b .0, mdf-refused-end mdf (x .line) (end-by present SpellsMission MissionRoomy (Fits (b .1 .0)) (Wrong (b .1 .0)) mdf (mdf-form mdf) (λ m. mdf-reference (b .1 .0)) (x .line) (x .number) (b .1 .2) e))
+        go (inl b) = inl (b .0, rndf-refused-end rndf (x .line) (end-by present SpellsNetwork Roomy Sound RndfFault rndf (rndf-form rndf) rndf-reference (x .line) (x .number) (x .column) (b .1) e))
+        go (inr b) = inr (b .0, mdf-refused-end mdf (x .line) (end-by present SpellsMission MissionRoomy (Fits (b .1 .0)) (Wrong (b .1 .0)) mdf (mdf-form mdf) (λ m. mdf-reference (b .1 .0)) (x .line) (x .number) (x .column) (b .1 .2) e))
 
     -- 11: well-formed, and no room for the rows of its network, or of its mission; line 0
     pub pair-refused-room : x .number ≡ 11 → OfFile x ((x .line ≡ 0) × NoRoom present SpellsNetwork (λ n. HasRoom n t) rndf) ((x .line ≡ 0) × NoRoom present SpellsMission (λ m. MissionHasRoom m u) mdf)
     pair-refused-room e = go (pair-refusal-right x l k h)
       where
         go : PairRefuses present rndf mdf t u x → OfFile x ((x .line ≡ 0) × NoRoom present SpellsNetwork Roomy rndf) ((x .line ≡ 0) × NoRoom present SpellsMission MissionRoomy mdf)
-        go (inl b) = inl (b .0, room-by present SpellsNetwork Roomy Sound RndfFault rndf (rndf-form rndf) rndf-reference (x .line) (x .number) (b .1) e)
-        go (inr b) = inr (b .0, room-by present SpellsMission MissionRoomy (Fits (b .1 .0)) (Wrong (b .1 .0)) mdf (mdf-form mdf) (λ m. mdf-reference (b .1 .0)) (x .line) (x .number) (b .1 .2) e)
+        go (inl b) = inl (b .0, room-by present SpellsNetwork Roomy Sound RndfFault rndf (rndf-form rndf) rndf-reference (x .line) (x .number) (x .column) (b .1) e)
+        go (inr b) = inr (b .0, room-by present SpellsMission MissionRoomy (Fits (b .1 .0)) (Wrong (b .1 .0)) mdf (mdf-form mdf) (λ m. mdf-reference (b .1 .0)) (x .line) (x .number) (x .column) (b .1 .2) e)
 
     -- a number of reference, of the RNDF, or of the MDF for the network of the RNDF, which is right: well-formed, there is room, and this is the first line with a wrong reference
     pub pair-refused-reference : OfReference (x .number)
-        → OfFile x (WrongReference present SpellsNetwork (λ n. HasRoom n t) RndfFault rndf (x .line) (x .number)) ((n : Network Field) × AcceptsRndf present rndf t n × WrongReference present SpellsMission (λ m. MissionHasRoom m u) (λ m. MdfFault n) mdf (x .line) (x .number))
+        → OfFile x (WrongReference present SpellsNetwork (λ n. HasRoom n t) RndfFault rndf (x .line) (x .number) (x .column)) ((n : Network Field) × AcceptsRndf present rndf t n × WrongReference present SpellsMission (λ m. MissionHasRoom m u) (λ m. MdfFault n) mdf (x .line) (x .number) (x .column))
     pair-refused-reference e = go (pair-refusal-right x l k h)
       where
-        go : PairRefuses present rndf mdf t u x → OfFile x (WrongReference present SpellsNetwork Roomy RndfFault rndf (x .line) (x .number)) ((n : Network Field) × AcceptsRndf present rndf t n × WrongReference present SpellsMission MissionRoomy (Wrong n) mdf (x .line) (x .number))
-        go (inl b) = inl (b .0, reference-by present SpellsNetwork Roomy Sound RndfFault rndf (rndf-form rndf) rndf-reference (x .line) (x .number) (b .1) e)
-        go (inr b) = inr (b .0, (b .1 .0, b .1 .1, reference-by present SpellsMission MissionRoomy (Fits (b .1 .0)) (Wrong (b .1 .0)) mdf (mdf-form mdf) (λ m. mdf-reference (b .1 .0)) (x .line) (x .number) (b .1 .2) e))
+        go : PairRefuses present rndf mdf t u x → OfFile x (WrongReference present SpellsNetwork Roomy RndfFault rndf (x .line) (x .number) (x .column)) ((n : Network Field) × AcceptsRndf present rndf t n × WrongReference present SpellsMission MissionRoomy (Wrong n) mdf (x .line) (x .number) (x .column))
+        go (inl b) = inl (b .0, reference-by present SpellsNetwork Roomy Sound RndfFault rndf (rndf-form rndf) rndf-reference (x .line) (x .number) (x .column) (b .1) e)
+        go (inr b) = inr (b .0, (b .1 .0, b .1 .1, reference-by present SpellsMission MissionRoomy (Fits (b .1 .0)) (Wrong (b .1 .0)) mdf (mdf-form mdf) (λ m. mdf-reference (b .1 .0)) (x .line) (x .number) (x .column) (b .1 .2) e))

@@ -18,6 +18,7 @@ use Rattle.replies.specs.declared.PairReply.{PairReply}
 use Rattle.replies.specs.declared.PairReply.the-variants as Pair
 use Rattle.replies.specs.Replies.{rows-used, ReadsPair}
 use Rattle.replies.proofs.Settled.{pair-some}
+use Rattle.law_columns.specs.Files.{rndf-column}
 use Rattle.promises.specs.Accepted.{IsPairAccepted, PairAcceptable, mission-rows-used}
 use Rattle.promises.specs.Cases.{PairRefused}
 use Rattle.promises.specs.Readers.{PairReader, PairMeets, done, On}
@@ -47,10 +48,10 @@ module _ (f : PairReader) where
   on-yard m = yard-a-read (done f yard round .reply) (done f yard round .left) (done f yard round .mission-left) m
 
   -- a wrong second line of the RNDF, and a wrong limit of the MDF
-  line-refused : PairRefused second-line round used mission-used 1 2 5
-  line-refused = rndf-refused-so second-line round used mission-used 2 5 (seconds used .line)
+  line-refused : PairRefused second-line round used mission-used 1 2 5 (rndf-column second-line 2 5)
+  line-refused = rndf-refused-so second-line round used mission-used 2 5 _ (seconds used .line)
 
-  wrong-limit : PairRefused yard limit-10-5 used mission-used 2 9 9
+  wrong-limit : PairRefused yard limit-10-5 used mission-used 2 9 9 6
   wrong-limit = limit-refused used mission-used room-in-used
 
   -- 01: "a reader that refuses all": it would refuse yard A
@@ -89,20 +90,20 @@ module _ (f : PairReader) where
       not (s .counted, s .mission-counted)
 
   -- 01: "one that judges only the first line, lane or segment and nods the rest through": of the RNDF; or that nods the MDF through
-  never : (rndf mdf : Bytes) (file line number : ℕ) → PairRefused rndf mdf used mission-used file line number → On f rndf mdf → IsPairAccepted (done f rndf mdf .reply) → ⊥
-  never rndf mdf file line number h m a = subst IsPairAccepted (h (done f rndf mdf .reply) (done f rndf mdf .left) (done f rndf mdf .mission-left) m .0) a
+  never : (rndf mdf : Bytes) (file line number column : ℕ) → PairRefused rndf mdf used mission-used file line number column → On f rndf mdf → IsPairAccepted (done f rndf mdf .reply) → ⊥
+  never rndf mdf file line number column h m a = subst IsPairAccepted (h (done f rndf mdf .reply) (done f rndf mdf .left) (done f rndf mdf .mission-left) m .0) a
 
   pub first-line-only : On f second-line round → IsPairAccepted (done f second-line round .reply) → ⊥
-  first-line-only = never second-line round 1 2 5 line-refused
+  first-line-only = never second-line round 1 2 5 _ line-refused
 
   pub first-lane-only : On f second-lane round → IsPairAccepted (done f second-lane round .reply) → ⊥
-  first-lane-only = never second-lane round 1 12 9 (rndf-refused-so second-lane round used mission-used 12 9 (seconds used .lane))
+  first-lane-only = never second-lane round 1 12 9 _ (rndf-refused-so second-lane round used mission-used 12 9 _ (seconds used .lane))
 
   pub first-segment-only : On f second-segment round → IsPairAccepted (done f second-segment round .reply) → ⊥
-  first-segment-only = never second-segment round 1 15 9 (rndf-refused-so second-segment round used mission-used 15 9 (seconds used .segment))
+  first-segment-only = never second-segment round 1 15 9 _ (rndf-refused-so second-segment round used mission-used 15 9 _ (seconds used .segment))
 
   pub rndf-only : On f yard limit-10-5 → IsPairAccepted (done f yard limit-10-5 .reply) → ⊥
-  rndf-only = never yard limit-10-5 2 9 9 wrong-limit
+  rndf-only = never yard limit-10-5 2 9 9 6 wrong-limit
 
   -- and in general: what it accepts spells a network and a mission to the last line
   pub all-judged : (rndf mdf : Bytes) (t : Lent) (u : MissionLent) → PairMeets f rndf mdf t u → IsPairAccepted (f rndf mdf t u .reply) → PairAcceptable present rndf mdf t u

@@ -19,7 +19,7 @@ use Rattle.replies.proofs.Settled.{rndf-settled}
 use Rattle.promises.specs.Accepted.{IsAccepted, Acceptable, NamesAsked}
 use Rattle.promises.specs.Declared.{declared}
 use Rattle.promises.specs.Refusals.{OneOfFive, RefusedLine, RefusedEnd, NoRoom, WrongReference}
-use Rattle.promises.proofs.Numbers.{number-by, size-by, line-by, end-by, room-by, reference-by}
+use Rattle.promises.proofs.Numbers.{number-by, size-by, line-by, end-by, room-by, reference-by, column-by}
 use Rattle.promises.proofs.Forms.{one-spelled, rndf-form, rndf-refused-line, rndf-refused-end, rndf-end-unended, rndf-reference}
 use Rattle.promises.proofs.Counted.{network-counted}
 use Rattle.promises.proofs.Names as Names
@@ -45,7 +45,7 @@ module _ (text : Bytes) (t : Lent) where
   -- only texts that spell a network with every reference right are accepted, and only where there is room for its rows ..
   pub accepted-spelled : (c : Counts) (file : FileRow) (l : Lent) → ReadsRndf present text t (Reply.Accepted c file) l → Acceptable present text t
   accepted-spelled c file l (accepted n a e k) = (n, a)
-  accepted-spelled c file l (refused line number a e k) = absurd (not-both e)
+  accepted-spelled c file l (refused line number column a e k) = absurd (not-both e)
 
   -- .. and all these are: demand 3. The reply and the tables are then the network's: demand 2
   pub spelled-accepted : (r : RndfReply) (l : Lent) → ReadsRndf present text t r l → (n : Network Field) → AcceptsRndf present text t n → (r ≡ Reply.Accepted (rows-used n) (network-file n)) × (l ≡ filled n t)
@@ -79,19 +79,19 @@ module _ (text : Bytes) (t : Lent) where
   -- 01: "All lent tables .. are then zero over their whole length"; "1, 11 and 19 of a part that takes no MDF give file 1"
   pub refusal-zero : (x : Refusal) (l : Lent) → ReadsRndf present text t (Reply.Refused x) l → (x .file ≡ 1) × (l ≡ zeros t)
   refusal-zero x l (accepted n a e k) = absurd (not-both (sym e))
-  refusal-zero x l (refused line number a e k) = (ap (λ (y : Refusal). y .file) (ap (refusal-in x) e), k)
+  refusal-zero x l (refused line number column a e k) = (ap (λ (y : Refusal). y .file) (ap (refusal-in x) e), k)
 
-  -- line and number are those of the first refusal, in document 01's order
-  pub refusal-right : (x : Refusal) (l : Lent) → ReadsRndf present text t (Reply.Refused x) l → RefusesRndf present text t (x .line) (x .number)
+  -- line, number and column are those of the first refusal, in document 01's order
+  pub refusal-right : (x : Refusal) (l : Lent) → ReadsRndf present text t (Reply.Refused x) l → RefusesRndf present text t (x .line) (x .number) (x .column)
   refusal-right x l (accepted n a e k) = absurd (not-both (sym e))
-  refusal-right x l (refused line number a e k) = subst (λ (y : Refusal). RefusesRndf present text t (y .line) (y .number)) (sym (ap (refusal-in x) e)) a
+  refusal-right x l (refused line number column a e k) = subst (λ (y : Refusal). RefusesRndf present text t (y .line) (y .number) (y .column)) (sym (ap (refusal-in x) e)) a
 
-  pub refusal-only : (r : RndfReply) (l : Lent) (line number : ℕ) → ReadsRndf present text t r l → RefusesRndf present text t line number → (r ≡ Reply.Refused (refusal 1 line number)) × (l ≡ zeros t)
-  refusal-only r l line number x a = rndf-settled text t r (Reply.Refused (refusal 1 line number)) l (zeros t) x (refused line number a refl refl)
+  pub refusal-only : (r : RndfReply) (l : Lent) (line number column : ℕ) → ReadsRndf present text t r l → RefusesRndf present text t line number column → (r ≡ Reply.Refused (refusal 1 line number column)) × (l ≡ zeros t)
+  refusal-only r l line number column x a = rndf-settled text t r (Reply.Refused (refusal 1 line number column)) l (zeros t) x (refused line number column a refl refl)
 
   -- 10 is replied to every text that is not too long, whose lines begin some well-formed text, and which is none; and to no other (refused-end)
-  pub end-refused : (r : RndfReply) (l : Lent) (line : ℕ) → ReadsRndf present text t r l → length text ≤ most → RefusedEnd present SpellsNetwork text line → (r ≡ Reply.Refused (refusal 1 line 10)) × (l ≡ zeros t)
-  end-refused r l line x size e = refusal-only r l line 10 x (unended size (rndf-end-unended text line e))
+  pub end-refused : (r : RndfReply) (l : Lent) (line : ℕ) → ReadsRndf present text t r l → length text ≤ most → RefusedEnd present SpellsNetwork text line → (r ≡ Reply.Refused (refusal 1 line 10 0)) × (l ≡ zeros t)
+  end-refused r l line x size e = refusal-only r l line 10 0 x (unended size (rndf-end-unended text line e))
 
   -- ## What each number tells
   abbrev Roomy : Network Field → Type 0
@@ -100,24 +100,28 @@ module _ (text : Bytes) (t : Lent) where
   module _ (x : Refusal) (l : Lent) (h : ReadsRndf present text t (Reply.Refused x) l) where
     -- no other number is replied than those that the next five tell of
     pub refused-number : OneOfFive (x .number)
-    refused-number = number-by present SpellsNetwork Roomy Sound RndfFault text (rndf-form text) rndf-reference (x .line) (x .number) (refusal-right x l h)
+    refused-number = number-by present SpellsNetwork Roomy Sound RndfFault text (rndf-form text) rndf-reference (x .line) (x .number) (x .column) (refusal-right x l h)
 
     -- 1: the text is too long; line 0
     pub refused-size : x .number ≡ 1 → (x .line ≡ 0) × (most < length text)
-    refused-size = size-by present SpellsNetwork Roomy Sound RndfFault text (rndf-form text) rndf-reference (x .line) (x .number) (refusal-right x l h)
+    refused-size = size-by present SpellsNetwork Roomy Sound RndfFault text (rndf-form text) rndf-reference (x .line) (x .number) (x .column) (refusal-right x l h)
 
     -- a number of form: the lines before the refused line begin some well-formed text, none begins with them and it, and it has that fault
-    pub refused-line : OfForm (x .number) → RefusedLine present SpellsNetwork text (x .line) (x .number)
-    refused-line form = rndf-refused-line text (x .line) (x .number) (line-by present SpellsNetwork Roomy Sound RndfFault text (rndf-form text) rndf-reference (x .line) (x .number) (refusal-right x l h) form)
+    pub refused-line : OfForm (x .number) → RefusedLine present SpellsNetwork text (x .line) (x .number) (x .column)
+    refused-line form = rndf-refused-line text (x .line) (x .number) (x .column) (line-by present SpellsNetwork Roomy Sound RndfFault text (rndf-form text) rndf-reference (x .line) (x .number) (x .column) (refusal-right x l h) form)
+
+    -- L7: "Where the line is 0, for 10, .. it is 0": with no other number there is a column
+    pub no-column : (OfForm (x .number) → ⊥) → (OfReference (x .number) → ⊥) → x .column ≡ 0
+    no-column = column-by present SpellsNetwork Roomy Sound RndfFault text (rndf-form text) rndf-reference (x .line) (x .number) (x .column) (refusal-right x l h)
 
     -- 10: the lines of the text begin some well-formed text, and it is none; the line behind its last
     pub refused-end : x .number ≡ 10 → RefusedEnd present SpellsNetwork text (x .line)
-    refused-end e = rndf-refused-end text (x .line) (end-by present SpellsNetwork Roomy Sound RndfFault text (rndf-form text) rndf-reference (x .line) (x .number) (refusal-right x l h) e)
+    refused-end e = rndf-refused-end text (x .line) (end-by present SpellsNetwork Roomy Sound RndfFault text (rndf-form text) rndf-reference (x .line) (x .number) (x .column) (refusal-right x l h) e)
 
     -- 11: well-formed, and no room for the rows of its network; line 0
     pub refused-room : x .number ≡ 11 → (x .line ≡ 0) × NoRoom present SpellsNetwork (λ n. HasRoom n t) text
-    refused-room = room-by present SpellsNetwork Roomy Sound RndfFault text (rndf-form text) rndf-reference (x .line) (x .number) (refusal-right x l h)
+    refused-room = room-by present SpellsNetwork Roomy Sound RndfFault text (rndf-form text) rndf-reference (x .line) (x .number) (x .column) (refusal-right x l h)
 
     -- a number of reference: well-formed, there is room, and this is the first line with a wrong reference
-    pub refused-reference : OfReference (x .number) → WrongReference present SpellsNetwork (λ n. HasRoom n t) RndfFault text (x .line) (x .number)
-    refused-reference = reference-by present SpellsNetwork Roomy Sound RndfFault text (rndf-form text) rndf-reference (x .line) (x .number) (refusal-right x l h)
+    pub refused-reference : OfReference (x .number) → WrongReference present SpellsNetwork (λ n. HasRoom n t) RndfFault text (x .line) (x .number) (x .column)
+    refused-reference = reference-by present SpellsNetwork Roomy Sound RndfFault text (rndf-form text) rndf-reference (x .line) (x .number) (x .column) (refusal-right x l h)

@@ -46,13 +46,13 @@ module _ (f : Reader) where
 
   -- 01: "one with a single fixed reply": it would reply the same to yard A and to a text with a wrong second line
   pub fixed-reply : Meets f yard used → Meets f second-line used → f yard used .0 ≡ f second-line used .0 → ⊥
-  fixed-reply m b e = not-both (sym (on-yard m .0) ∙ e ∙ refusal-only second-line used (f second-line used .0) (f second-line used .1) 2 5 b (seconds used .line) .0)
+  fixed-reply m b e = not-both (sym (on-yard m .0) ∙ e ∙ refusal-only second-line used (f second-line used .0) (f second-line used .1) 2 5 _ b (seconds used .line) .0)
 
   -- .. also one with a fixed refusal of all that it refuses
   pub fixed-refusal : Meets f second-line used → Meets f second-lane used → f second-line used .0 ≡ f second-lane used .0 → ⊥
   fixed-refusal a b e =
-      let p = refusal-only second-line used (f second-line used .0) (f second-line used .1) 2 5 a (seconds used .line) .0 in
-      let q = refusal-only second-lane used (f second-lane used .0) (f second-lane used .1) 12 9 b (seconds used .lane) .0 in
+      let p = refusal-only second-line used (f second-line used .0) (f second-line used .1) 2 5 _ a (seconds used .line) .0 in
+      let q = refusal-only second-lane used (f second-lane used .0) (f second-lane used .1) 12 9 _ b (seconds used .lane) .0 in
       let z : _≡_ {A = ℕ} 2 12 = ap line-in (sym p ∙ e ∙ q) in
       omega arith
 
@@ -72,17 +72,17 @@ module _ (f : Reader) where
   invents-yard-counts t m c file e not = invents-counts yard t m c file network (spelled .yard) e (λ q. not (q ∙ replied .0))
 
   -- 01: "one that judges only the first line, lane or segment and nods the rest through": it would accept a text whose first line, lane or segment is good, and whose second is not
-  never : (text : Bytes) (line number : ℕ) → RefusesRndf present text used line number → Meets f text used → IsAccepted (f text used .0) → ⊥
-  never text line number h m a = subst IsAccepted (refusal-only text used (f text used .0) (f text used .1) line number m h .0) a
+  never : (text : Bytes) (line number column : ℕ) → RefusesRndf present text used line number column → Meets f text used → IsAccepted (f text used .0) → ⊥
+  never text line number column h m a = subst IsAccepted (refusal-only text used (f text used .0) (f text used .1) line number column m h .0) a
 
   pub first-line-only : Meets f second-line used → IsAccepted (f second-line used .0) → ⊥
-  first-line-only = never second-line 2 5 (seconds used .line)
+  first-line-only = never second-line 2 5 _ (seconds used .line)
 
   pub first-lane-only : Meets f second-lane used → IsAccepted (f second-lane used .0) → ⊥
-  first-lane-only = never second-lane 12 9 (seconds used .lane)
+  first-lane-only = never second-lane 12 9 _ (seconds used .lane)
 
   pub first-segment-only : Meets f second-segment used → IsAccepted (f second-segment used .0) → ⊥
-  first-segment-only = never second-segment 15 9 (seconds used .segment)
+  first-segment-only = never second-segment 15 9 _ (seconds used .segment)
 
   -- and in general: what it accepts spells a network to the last line
   pub all-judged : (text : Bytes) (t : Lent) → Meets f text t → IsAccepted (f text t .0) → Acceptable present text t

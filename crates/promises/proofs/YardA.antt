@@ -12,10 +12,12 @@ use Rattle.law.specs.Faults.{Sound, waypoint, first}
 use Rattle.replies.specs.declared.RndfReply.{RndfReply}
 use Rattle.replies.specs.declared.RndfReply.the-variants as Reply
 use Rattle.replies.specs.Replies.{most, AcceptsRndf, RefusesRndf, bad-line, unended, bad-reference, rows-used, network-file, ReadsRndf}
+use Rattle.law_columns.specs.Files.{rndf-column}
+use Rattle.law_columns.proofs.Theorems.{rndf-column-bad}
 use Rattle.promises.specs.Yards.{yard, entry-3, exit-from-3, three-waypoints, one-waypoint, without-end, line-8-twice, second-line, second-lane, second-segment, network, network-entry-3, network-twice, counts, yard-file, used, yard-words}
 use Rattle.promises.specs.Cases.{Refused}
 use Rattle.promises.proofs.Promises.{spelled-accepted, refusal-only}
-use Rattle.promises.proofs.YardTexts.{spelled, faults}
+use Rattle.promises.proofs.YardTexts.{spelled, faults, columns, bad-at, wrong-at}
 
 -- ## Sizes
 record Small : Type 0 where
@@ -69,34 +71,38 @@ less-room t room =
 
 -- the seven cases of document 01 that are faults of the RNDF
 pub record Seven (t : Lent) : Type 0 where
-  pub entry-3 : RefusesRndf present entry-3 t 9 12
-  pub exit-from-3 : RefusesRndf present exit-from-3 t 9 9
-  pub three-waypoints : RefusesRndf present three-waypoints t 12 5
-  pub one-waypoint : RefusesRndf present one-waypoint t 8 9
-  pub without-end : RefusesRndf present without-end t 14 10
-  pub nothing : RefusesRndf present [] t 1 10
-  pub line-8-twice : RefusesRndf present line-8-twice t 9 13
+  pub entry-3 : RefusesRndf present entry-3 t 9 12 12
+  pub exit-from-3 : RefusesRndf present exit-from-3 t 9 9 6
+  pub three-waypoints : RefusesRndf present three-waypoints t 12 5 1
+  pub one-waypoint : RefusesRndf present one-waypoint t 8 9 12
+  pub without-end : RefusesRndf present without-end t 14 10 0
+  pub nothing : RefusesRndf present [] t 1 10 0
+  pub line-8-twice : RefusesRndf present line-8-twice t 9 13 18
 
 pub seven : (t : Lent) → HasRoom network-twice t → Seven t
 seven t room = record {
-  entry-3 = bad-reference network-entry-3 (small .entry-3) (spelled .entry-3) (less-room t room .1) (faults .entry-3);
-  exit-from-3 = bad-line (small .exit-from-3) (faults .exit-from-3);
-  three-waypoints = bad-line (small .three-waypoints) (faults .three-waypoints);
-  one-waypoint = bad-line (small .one-waypoint) (faults .one-waypoint);
+  entry-3 = bad-reference network-entry-3 (small .entry-3) (spelled .entry-3) (less-room t room .1) (faults .entry-3) (wrong-at network-entry-3 entry-3 9 12 12 (faults .entry-3) (columns .entry-3));
+  exit-from-3 = bad-line (small .exit-from-3) (faults .exit-from-3) (bad-at exit-from-3 9 9 6 (faults .exit-from-3) (columns .exit-from-3));
+  three-waypoints = bad-line (small .three-waypoints) (faults .three-waypoints) (bad-at three-waypoints 12 5 1 (faults .three-waypoints) (columns .three-waypoints));
+  one-waypoint = bad-line (small .one-waypoint) (faults .one-waypoint) (bad-at one-waypoint 8 9 12 (faults .one-waypoint) (columns .one-waypoint));
   without-end = unended (small .without-end) (faults .without-end);
   nothing = unended (lit≤ tt) (faults .nothing);
-  line-8-twice = bad-reference network-twice (small .line-8-twice) (spelled .line-8-twice) room (faults .line-8-twice);
+  line-8-twice = bad-reference network-twice (small .line-8-twice) (spelled .line-8-twice) room (faults .line-8-twice) (wrong-at network-twice line-8-twice 9 13 18 (faults .line-8-twice) (columns .line-8-twice));
 }
 
 -- a good first line, lane or segment does not help where the second is not, whatever is lent
 pub record Seconds (t : Lent) : Type 0 where
-  pub line : RefusesRndf present second-line t 2 5
-  pub lane : RefusesRndf present second-lane t 12 9
-  pub segment : RefusesRndf present second-segment t 15 9
+  pub line : RefusesRndf present second-line t 2 5 (rndf-column second-line 2 5)
+  pub lane : RefusesRndf present second-lane t 12 9 (rndf-column second-lane 12 9)
+  pub segment : RefusesRndf present second-segment t 15 9 (rndf-column second-segment 15 9)
 
 pub seconds : (t : Lent) → Seconds t
-seconds t = record { line = bad-line (small .second-line) (faults .second-line); lane = bad-line (small .second-lane) (faults .second-lane); segment = bad-line (small .second-segment) (faults .second-segment) }
+seconds t = record {
+  line = bad-line (small .second-line) (faults .second-line) (rndf-column-bad second-line 2 5 (faults .second-line));
+  lane = bad-line (small .second-lane) (faults .second-lane) (rndf-column-bad second-lane 12 9 (faults .second-lane));
+  segment = bad-line (small .second-segment) (faults .second-segment) (rndf-column-bad second-segment 15 9 (faults .second-segment));
+}
 
 -- what is refused so gets that reply, and leaves the lent tables zero
-pub refused : (text : Bytes) (t : Lent) (line number : ℕ) → RefusesRndf present text t line number → Refused text t line number
-refused text t line number h r l x = refusal-only text t r l line number x h
+pub refused : (text : Bytes) (t : Lent) (line number column : ℕ) → RefusesRndf present text t line number column → Refused text t line number column
+refused text t line number column h r l x = refusal-only text t r l line number column x h

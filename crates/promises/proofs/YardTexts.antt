@@ -47,6 +47,10 @@ use Rattle.law.specs.Faults.{BadLine, Unended, FirstFault, RndfFault}
 use Rattle.law_spelling.proofs.Texts.{rndf-to}
 use Rattle.law_faults.proofs.Theorems.{rndf-bad-to, rndf-unended-to}
 use Rattle.law_tables.proofs.RndfFirst.{rndf-first-to}
+use Rattle.law_columns.specs.Columns.{Column}
+use Rattle.law_columns.specs.Finding as Finding
+use Rattle.law_columns.specs.Files.{rndf-column}
+use Rattle.law_columns.proofs.Theorems.{rndf-column-bad, rndf-column-fault}
 use Rattle.promises.specs.Yards.{yard, entry-3, exit-from-3, three-waypoints, one-waypoint, without-end, line-8-twice, second-line, second-lane, second-segment, position, network, network-entry-3, network-twice}
 
 abbrev lines-with : List (Statement Field) → PointId → List (Statement Field)
@@ -157,3 +161,21 @@ faults = record {
   second-lane = bad second-lane 12 9 (answered .second-lane);
   second-segment = bad second-segment 15 9 (answered .second-segment);
 }
+
+-- ## Where it stands in its line, by computation
+pub record Columns : Type 0 where
+  pub entry-3 : rndf-column entry-3 9 12 ≡ 12
+  pub exit-from-3 : rndf-column exit-from-3 9 9 ≡ 6
+  pub three-waypoints : rndf-column three-waypoints 12 5 ≡ 1
+  pub one-waypoint : rndf-column one-waypoint 8 9 ≡ 12
+  pub line-8-twice : rndf-column line-8-twice 9 13 ≡ 18
+
+pub columns : Columns
+unfolding ascii Answers.readText Answers.walk Lines.linesOf Judge.judge Lines.dropCr Forms.formOf Forms.closes Forms.noteOf Forms.outerOf Forms.fieldsAt Content.parted-by Allowed.separates Allowed.all Reach.two Reach.sameBytes Reach.begins Reach.first Reach.upTo Reach.stopsBy Judge.tell Judge.read Judge.numbered Number.integerOf Number.plainOf Number.plain Number.worth Number.numberOf Number.pairOf Number.tripleOf Coordinate.coordinateOf Coordinate.millionthsOf Word.boundary-number Word.indexOf Keywords.rndf-keywords Keywords.boundary-words Machine.step Machine.guard Stands.stands Finding.wrongAt Finding.fieldAt Finding.columnOf Finding.columnFrom Finding.columnIn
+columns = record { entry-3 = refl; exit-from-3 = refl; three-waypoints = refl; one-waypoint = refl; line-8-twice = refl }
+
+pub bad-at : (text : Bytes) (i k c : ℕ) (b : BadLine present Law.SpellsNetwork text i k) → rndf-column text i k ≡ c → Column present Law.SpellsNetwork (b .front) (b .this) k c
+bad-at text i k c b e = subst (Column present Law.SpellsNetwork (b .front) (b .this) k) e (rndf-column-bad text i k b)
+
+pub wrong-at : (n : Network Field) (text : Bytes) (i k c : ℕ) (f : FirstFault present Law.SpellsNetwork (RndfFault n) text i k) → rndf-column text i k ≡ c → Column present Law.SpellsNetwork (f .front) (f .at .this) k c
+wrong-at n text i k c f e = subst (Column present Law.SpellsNetwork (f .front) (f .at .this) k) e (rndf-column-fault n text i k f)

@@ -1,4 +1,4 @@
--- WHAT A READER MUST BELIEVE. The table of yard A's nine cases, and what it is that a text, or a pair, is refused. Document 01, "Yard A". Assumes nothing.
+-- WHAT A READER MUST BELIEVE. The table of yard A's nine cases, and what it is that a text, or a pair, is refused. Document 01, "Yard A"; the columns: document 02, L7. Assumes nothing.
 use Rattle.terms.specs.Words.{_≡_, List, [], _∷_, ℕ, Bytes, Each}
 use Rattle.law.specs.Network.{present}
 use Rattle.law.specs.Tables.{Lent, MissionLent, zeros, mission-zeros}
@@ -10,11 +10,11 @@ use Rattle.replies.specs.Replies.{refusal, ReadsRndf, ReadsPair}
 use Rattle.promises.specs.Yards.{yard, entry-3, exit-from-3, three-waypoints, one-waypoint, without-end, line-8-twice, round, goal-8, limit-10-5}
 
 -- whatever meets the contract gives this reply, and leaves all lent tables zero
-abbrev pub Refused : Bytes → Lent → (line number : ℕ) → Type 0
-Refused text t line number = (r : RndfReply) (l : Lent) → ReadsRndf present text t r l → (r ≡ Reply.Refused (refusal 1 line number)) × (l ≡ zeros t)
+abbrev pub Refused : Bytes → Lent → (line number column : ℕ) → Type 0
+Refused text t line number column = (r : RndfReply) (l : Lent) → ReadsRndf present text t r l → (r ≡ Reply.Refused (refusal 1 line number column)) × (l ≡ zeros t)
 
-abbrev pub PairRefused : (rndf mdf : Bytes) → Lent → MissionLent → (file line number : ℕ) → Type 0
-PairRefused rndf mdf t u file line number = (r : PairReply) (l : Lent) (k : MissionLent) → ReadsPair present rndf mdf t u r l k → (r ≡ Pair.Refused (refusal file line number)) × (l ≡ zeros t) × (k ≡ mission-zeros u)
+abbrev pub PairRefused : (rndf mdf : Bytes) → Lent → MissionLent → (file line number column : ℕ) → Type 0
+PairRefused rndf mdf t u file line number column = (r : PairReply) (l : Lent) (k : MissionLent) → ReadsPair present rndf mdf t u r l k → (r ≡ Pair.Refused (refusal file line number column)) × (l ≡ zeros t) × (k ≡ mission-zeros u)
 
 pub record Case : Type 0 where
   pub rndf : Bytes
@@ -22,23 +22,24 @@ pub record Case : Type 0 where
   pub file : ℕ
   pub line : ℕ
   pub number : ℕ
+  pub column : ℕ
 
-abbrev pub case : (rndf mdf : Bytes) → (file line number : ℕ) → Case
-case rndf mdf file line number = record { rndf = rndf; mdf = mdf; file = file; line = line; number = number }
+abbrev pub case : (rndf mdf : Bytes) → (file line number column : ℕ) → Case
+case rndf mdf file line number column = record { rndf = rndf; mdf = mdf; file = file; line = line; number = number; column = column }
 
 -- 01: "The nine cases marked P stand together in a single table under one theorem": in its order, the texts, and what is printed behind `refused`
 abbrev pub nine : List Case
 nine =
-    case entry-3 round 1 9 12
-    ∷ case exit-from-3 round 1 9 9
-    ∷ case three-waypoints round 1 12 5
-    ∷ case one-waypoint round 1 8 9
-    ∷ case without-end round 1 14 10
-    ∷ case [] round 1 1 10
-    ∷ case line-8-twice round 1 9 13
-    ∷ case yard goal-8 2 5 15
-    ∷ case yard limit-10-5 2 9 9
+    case entry-3 round 1 9 12 12
+    ∷ case exit-from-3 round 1 9 9 6
+    ∷ case three-waypoints round 1 12 5 1
+    ∷ case one-waypoint round 1 8 9 12
+    ∷ case without-end round 1 14 10 0
+    ∷ case [] round 1 1 10 0
+    ∷ case line-8-twice round 1 9 13 18
+    ∷ case yard goal-8 2 5 15 1
+    ∷ case yard limit-10-5 2 9 9 6
     ∷ []
 
 abbrev pub AllRefused : Lent → MissionLent → List Case → Type 0
-AllRefused t u = Each (λ c. PairRefused (c .rndf) (c .mdf) t u (c .file) (c .line) (c .number))
+AllRefused t u = Each (λ c. PairRefused (c .rndf) (c .mdf) t u (c .file) (c .line) (c .number) (c .column))

@@ -30,6 +30,8 @@ use Rattle.replies.specs.declared.PairReply.{PairReply}
 use Rattle.replies.specs.declared.PairReply.the-variants as Pair
 use Rattle.reader.specs.ByStatements as Old
 use Rattle.replies.specs.Replies as New
+use Rattle.reader.specs.Columns.{rndfTold, mdfTold}
+use Rattle.reader.proofs.Columns.{rndf-bad-told, rndf-fault-told, rndf-told-so, mdf-bad-told, mdf-fault-told, mdf-told-so}
 
 -- ## Counts and names
 pub counts-are : (n : Network Field) → N.rows-used (sizes (tables n)) ≡ New.rows-used n
@@ -53,27 +55,29 @@ module _ (text : Bytes) (t : Lent) where
   pub accepts-back : (n : Network Field) → New.AcceptsRndf present text t n → N.AcceptsRndf text t n
   accepts-back n a = record { size = a .size; spelled = rndf-back n text (a .spelled); room = room-back n t (a .room); sound = a .right }
 
-  pub refuses-to : (line number : ℕ) → N.RefusesRndf text t line number → New.RefusesRndf present text t line number
+  pub refuses-to : (line number : ℕ) → N.RefusesRndf text t line number → New.RefusesRndf present text t line number (rndfTold text line number)
+  unfolding rndfTold
   refuses-to line number (N.too-long h) = New.too-long h
-  refuses-to line number (N.bad-line size b) = New.bad-line size (rndf-bad-to text line number b)
+  refuses-to line number (N.bad-line size b) = let x = rndf-bad-to text line number b in New.bad-line size x (rndf-bad-told text size line number x)
   refuses-to line number (N.unended size u) = New.unended size (rndf-unended-to text line u)
   refuses-to line number (N.no-room n size h f) = New.no-room n size (rndf-to n text h) (λ r. f (room-back n t r))
-  refuses-to line number (N.bad-reference n size h room f) = New.bad-reference n size (rndf-to n text h) (room-to n t room) (rndf-first-to n text h line number f)
+  refuses-to line number (N.bad-reference n size h room f) = let x = rndf-first-to n text h line number f in New.bad-reference n size (rndf-to n text h) (room-to n t room) x (rndf-fault-told text size n line number x)
 
-  pub refuses-back : (line number : ℕ) → New.RefusesRndf present text t line number → N.RefusesRndf text t line number
-  refuses-back line number (New.too-long h) = N.too-long h
-  refuses-back line number (New.bad-line size b) = N.bad-line size (rndf-bad-back text line number b)
-  refuses-back line number (New.unended size u) = N.unended size (rndf-unended-back text line u)
-  refuses-back line number (New.no-room n size h f) = N.no-room n size (rndf-back n text h) (λ r. f (room-to n t r))
-  refuses-back line number (New.bad-reference n size h room f) = N.bad-reference n size (rndf-back n text h) (room-back n t room) (rndf-first-back n text (rndf-back n text h) line number f)
+  pub refuses-back : (line number column : ℕ) → New.RefusesRndf present text t line number column → N.RefusesRndf text t line number
+  refuses-back line number column (New.too-long h) = N.too-long h
+  refuses-back line number column (New.bad-line size b x) = N.bad-line size (rndf-bad-back text line number b)
+  refuses-back line number column (New.unended size u) = N.unended size (rndf-unended-back text line u)
+  refuses-back line number column (New.no-room n size h f) = N.no-room n size (rndf-back n text h) (λ r. f (room-to n t r))
+  refuses-back line number column (New.bad-reference n size h room f x) = N.bad-reference n size (rndf-back n text h) (room-back n t room) (rndf-first-back n text (rndf-back n text h) line number f)
 
   pub rndf-reads-to : (reply : RndfReply) (left : Lent) → Old.ReadsRndf text t reply left → New.ReadsRndf present text t reply left
   rndf-reads-to reply left (Old.accepted n a e k) = New.accepted n (accepts-to n a) (e ∙ ap₂ Reply.Accepted (counts-are n) (file-is n)) (k ∙ filled-same n (a .sound) t)
-  rndf-reads-to reply left (Old.refused line number a e k) = New.refused line number (refuses-to line number a) e k
+  rndf-reads-to reply left (Old.refused line number a e k) = New.refused line number (rndfTold text line number) (refuses-to line number a) e k
 
   pub rndf-reads-back : (reply : RndfReply) (left : Lent) → New.ReadsRndf present text t reply left → Old.ReadsRndf text t reply left
   rndf-reads-back reply left (New.accepted n a e k) = Old.accepted n (accepts-back n a) (e ∙ sym (ap₂ Reply.Accepted (counts-are n) (file-is n))) (k ∙ sym (filled-same n (a .right) t))
-  rndf-reads-back reply left (New.refused line number a e k) = Old.refused line number (refuses-back line number a) e k
+  rndf-reads-back reply left (New.refused line number column a e k) =
+      Old.refused line number (refuses-back line number column a) (e ∙ ap (λ (x : ℕ). Reply.Refused (New.refusal 1 line number x)) (rndf-told-so text t line number column a)) k
 
 -- ## An MDF for a network
 module _ (n : Network Field) (mdf : Bytes) (u : MissionLent) where
@@ -83,19 +87,20 @@ module _ (n : Network Field) (mdf : Bytes) (u : MissionLent) where
   pub mdf-accepts-back : (m : Mission Field) → New.AcceptsMdf present n mdf u m → M.AcceptsMdf n mdf u m
   mdf-accepts-back m a = record { size = a .size; spelled = mdf-back m mdf (a .spelled); room = mission-room-back m u (a .room); fits = fits-back n m (a .right) }
 
-  pub mdf-refuses-to : (line number : ℕ) → M.RefusesMdf n mdf u line number → New.RefusesMdf present n mdf u line number
+  pub mdf-refuses-to : (line number : ℕ) → M.RefusesMdf n mdf u line number → New.RefusesMdf present n mdf u line number (mdfTold mdf line number)
+  unfolding mdfTold
   mdf-refuses-to line number (M.too-long h) = New.too-long h
-  mdf-refuses-to line number (M.bad-line size b) = New.bad-line size (mdf-bad-to mdf line number b)
+  mdf-refuses-to line number (M.bad-line size b) = let x = mdf-bad-to mdf line number b in New.bad-line size x (mdf-bad-told mdf size line number x)
   mdf-refuses-to line number (M.unended size x) = New.unended size (mdf-unended-to mdf line x)
   mdf-refuses-to line number (M.no-room {m} size h f) = New.no-room m size (mdf-to m mdf h) (λ r. f (mission-room-back m u r))
-  mdf-refuses-to line number (M.bad-reference {m} size h room f) = New.bad-reference m size (mdf-to m mdf h) (mission-room-to m u room) (mdf-first-to n m mdf h line number f)
+  mdf-refuses-to line number (M.bad-reference {m} size h room f) = let x = mdf-first-to n m mdf h line number f in New.bad-reference m size (mdf-to m mdf h) (mission-room-to m u room) x (mdf-fault-told mdf size n line number x)
 
-  pub mdf-refuses-back : (line number : ℕ) → New.RefusesMdf present n mdf u line number → M.RefusesMdf n mdf u line number
-  mdf-refuses-back line number (New.too-long h) = M.too-long h
-  mdf-refuses-back line number (New.bad-line size b) = M.bad-line size (mdf-bad-back mdf line number b)
-  mdf-refuses-back line number (New.unended size x) = M.unended size (mdf-unended-back mdf line x)
-  mdf-refuses-back line number (New.no-room m size h f) = M.no-room {m = m} size (mdf-back m mdf h) (λ r. f (mission-room-to m u r))
-  mdf-refuses-back line number (New.bad-reference m size h room f) = M.bad-reference {m = m} size (mdf-back m mdf h) (mission-room-back m u room) (mdf-first-back n m mdf (mdf-back m mdf h) line number f)
+  pub mdf-refuses-back : (line number column : ℕ) → New.RefusesMdf present n mdf u line number column → M.RefusesMdf n mdf u line number
+  mdf-refuses-back line number column (New.too-long h) = M.too-long h
+  mdf-refuses-back line number column (New.bad-line size b x) = M.bad-line size (mdf-bad-back mdf line number b)
+  mdf-refuses-back line number column (New.unended size x) = M.unended size (mdf-unended-back mdf line x)
+  mdf-refuses-back line number column (New.no-room m size h f) = M.no-room {m = m} size (mdf-back m mdf h) (λ r. f (mission-room-to m u r))
+  mdf-refuses-back line number column (New.bad-reference m size h room f x) = M.bad-reference {m = m} size (mdf-back m mdf h) (mission-room-back m u room) (mdf-first-back n m mdf (mdf-back m mdf h) line number f)
 
 -- ## A pair
 module _ (rndf mdf : Bytes) (t : Lent) (u : MissionLent) where
@@ -104,10 +109,12 @@ module _ (rndf mdf : Bytes) (t : Lent) (u : MissionLent) where
 
   pub pair-reads-to : (reply : PairReply) (left : Lent) (mission-left : MissionLent) → Old.ReadsPair rndf mdf t u reply left mission-left → New.ReadsPair present rndf mdf t u reply left mission-left
   pair-reads-to reply left mission-left (Old.accepted n m a b e k l) = New.accepted n m (accepts-to rndf t n a) (mdf-accepts-to n mdf u m b) (e ∙ replied n m) (k ∙ filled-same n (a .sound) t) (l ∙ mission-filled-same m u)
-  pair-reads-to reply left mission-left (Old.rndf-refused line number a e k l) = New.rndf-refused line number (refuses-to rndf t line number a) e k l
-  pair-reads-to reply left mission-left (Old.mdf-refused n line number a b e k l) = New.mdf-refused n line number (accepts-to rndf t n a) (mdf-refuses-to n mdf u line number b) e k l
+  pair-reads-to reply left mission-left (Old.rndf-refused line number a e k l) = New.rndf-refused line number (rndfTold rndf line number) (refuses-to rndf t line number a) e k l
+  pair-reads-to reply left mission-left (Old.mdf-refused n line number a b e k l) = New.mdf-refused n line number (mdfTold mdf line number) (accepts-to rndf t n a) (mdf-refuses-to n mdf u line number b) e k l
 
   pub pair-reads-back : (reply : PairReply) (left : Lent) (mission-left : MissionLent) → New.ReadsPair present rndf mdf t u reply left mission-left → Old.ReadsPair rndf mdf t u reply left mission-left
   pair-reads-back reply left mission-left (New.accepted n m a b e k l) = Old.accepted n m (accepts-back rndf t n a) (mdf-accepts-back n mdf u m b) (e ∙ sym (replied n m)) (k ∙ sym (filled-same n (a .right) t)) (l ∙ sym (mission-filled-same m u))
-  pair-reads-back reply left mission-left (New.rndf-refused line number a e k l) = Old.rndf-refused line number (refuses-back rndf t line number a) e k l
-  pair-reads-back reply left mission-left (New.mdf-refused n line number a b e k l) = Old.mdf-refused n line number (accepts-back rndf t n a) (mdf-refuses-back n mdf u line number b) e k l
+  pair-reads-back reply left mission-left (New.rndf-refused line number column a e k l) =
+      Old.rndf-refused line number (refuses-back rndf t line number column a) (e ∙ ap (λ (x : ℕ). Pair.Refused (New.refusal 1 line number x)) (rndf-told-so rndf t line number column a)) k l
+  pair-reads-back reply left mission-left (New.mdf-refused n line number column a b e k l) =
+      Old.mdf-refused n line number (accepts-back rndf t n a) (mdf-refuses-back n mdf u line number column b) (e ∙ ap (λ (x : ℕ). Pair.Refused (New.refusal 2 line number x)) (mdf-told-so n mdf u line number column b)) k l

@@ -1,4 +1,5 @@
 -- Laws of the entry points.
+pub mod Columns
 pub mod Lawful
 pub mod Steps
 pub mod Pairing

@@ -37,27 +37,29 @@ use Rattle.mission_reader.proofs.References.{accepted-rndf}
 use Rattle.mission_reader.proofs.Theorems as MT
 use Rattle.replies.specs.declared.PairReply as DP
 use Rattle.replies.specs.declared.PairReply.the-variants as Pair
-use Rattle.reader.specs.ByStatements.{refusal, mission-lent, accepted, rndf-refused, mdf-refused}
+use Rattle.refusal.specs.declared.Refusal.{Refusal}
+use Rattle.reader.specs.Columns.{rndf-refusal, mdf-refusal}
+use Rattle.reader.specs.ByStatements.{mission-lent, accepted, rndf-refused, mdf-refused}
 use Rattle.replies.specs.Replies.{ReadsPair}
 use Rattle.reader.proofs.Lawful.{pair-reads-to}
 use Rattle.reader.specs.Pairs.{joinedOf, Read, outcome, from-mission, from-network, pairOf}
 use Rattle.reader.specs.Pairs as P
 
 -- ## What the program does
-joined-told : (c : Counts) (file : FileRow) (left : Lent) (reply : DM.MissionReply) (g l : List ℕ) → outcome (joinedOf c file reply) left (mission-lent g l) ≡ from-mission c file left (M.outcome reply g l)
-joined-told c file left (MissionReply.Accepted m f) g l = refl
-joined-told c file left (MissionReply.Refused f) g l = refl
+joined-told : (mdf : Bytes) (c : Counts) (file : FileRow) (left : Lent) (reply : DM.MissionReply) (g l : List ℕ) → outcome (joinedOf mdf c file reply) left (mission-lent g l) ≡ from-mission mdf c file left (M.outcome reply g l)
+joined-told mdf c file left (MissionReply.Accepted m f) g l = refl
+joined-told mdf c file left (MissionReply.Refused f) g l = refl
 
 pub both-accepted : (rndf mdf : Bytes) (t left : Lent) (u : MissionLent) (c : Counts) (file : FileRow) (k : ℕ) (reply : DM.MissionReply) (g l : List ℕ) (r : DP.PairReply) → N.accepted c file left ≡ readOf rndf t → k ≡ fitted (c .segments + c .zones)
-    → M.outcome reply g l ≡ missionOf (rndf-of rndf (file .name) (left .checkpoints) (c .checkpoints) k) mdf (u .goals) (u .limits) → r ≡ joinedOf c file reply → outcome r left (mission-lent g l) ≡ pairOf rndf mdf t u
+    → M.outcome reply g l ≡ missionOf (rndf-of rndf (file .name) (left .checkpoints) (c .checkpoints) k) mdf (u .goals) (u .limits) → r ≡ joinedOf mdf c file reply → outcome r left (mission-lent g l) ≡ pairOf rndf mdf t u
 unfolding pairOf
 both-accepted rndf mdf t left u c file k reply g l r e p m j =
     ap (λ (x : DP.PairReply). outcome x left (mission-lent g l)) j
-    ∙ joined-told c file left reply g l
-    ∙ ap (from-mission c file left) (m ∙ ap (λ (x : ℕ). missionOf (rndf-of rndf (file .name) (left .checkpoints) (c .checkpoints) x) mdf (u .goals) (u .limits)) p)
+    ∙ joined-told mdf c file left reply g l
+    ∙ ap (from-mission mdf c file left) (m ∙ ap (λ (x : ℕ). missionOf (rndf-of rndf (file .name) (left .checkpoints) (c .checkpoints) x) mdf (u .goals) (u .limits)) p)
     ∙ ap (from-network rndf mdf u) e
 
-pub both-refused : (rndf mdf : Bytes) (t left : Lent) (u mission-left : MissionLent) (line number : ℕ) → N.refused line number ≡ readOf rndf t → outcome (Pair.Refused (refusal 1 line number)) left mission-left ≡ pairOf rndf mdf t u
+pub both-refused : (rndf mdf : Bytes) (t left : Lent) (u mission-left : MissionLent) (line number : ℕ) → N.refused line number ≡ readOf rndf t → outcome (Pair.Refused (rndf-refusal rndf line number)) left mission-left ≡ pairOf rndf mdf t u
 unfolding pairOf
 both-refused rndf mdf t left u mission-left line number e = ap (from-network rndf mdf u) e
 
@@ -71,12 +73,12 @@ pub record Accepted (rndf mdf : Bytes) (t : Lent) (u : MissionLent) (c : Counts)
   pub holds : left ≡ network-filled net t
   pub mission-holds : mission-left ≡ mission-filled (mission-tables mission) u
 
-pub data Refused (rndf mdf : Bytes) (t : Lent) (u : MissionLent) (file line number : ℕ) : Type 0 where
-  by-rndf : RefusesRndf rndf t line number → file ≡ 1 → Refused rndf mdf t u file line number
-  by-mdf : (n : Network Field) → AcceptsRndf rndf t n → RefusesMdf n mdf u line number → file ≡ 2 → Refused rndf mdf t u file line number
+pub data Refused (rndf mdf : Bytes) (t : Lent) (u : MissionLent) (why : Refusal) : Type 0 where
+  by-rndf : (line number : ℕ) → RefusesRndf rndf t line number → why ≡ rndf-refusal rndf line number → Refused rndf mdf t u why
+  by-mdf : (n : Network Field) (line number : ℕ) → AcceptsRndf rndf t n → RefusesMdf n mdf u line number → why ≡ mdf-refusal mdf line number → Refused rndf mdf t u why
 
 abbrev pub Meant : (rndf mdf : Bytes) → Lent → MissionLent → Read → Type 0
-Meant rndf mdf t u (P.refused file line number) = Refused rndf mdf t u file line number
+Meant rndf mdf t u (P.refused why) = Refused rndf mdf t u why
 Meant rndf mdf t u (P.accepted c f m g left mission-left) = Accepted rndf mdf t u c f m g left mission-left
 
 -- what the MDF's reader is told of the RNDF is the network's
@@ -89,8 +91,8 @@ told-so rndf t n a c file left p q r =
     rw (p, q, r, parts) refl
 
 module _ (rndf mdf : Bytes) (t : Lent) (u : MissionLent) (n : Network Field) (a : AcceptsRndf rndf t n) (c : Counts) (file : FileRow) (left : Lent) (p : c ≡ rows-used (sizes (tables n))) (q : file ≡ network-file n) (r : left ≡ network-filled n t) where
-  mission-so : (x : M.Read) → MT.Replies n mdf u x → Meant rndf mdf t u (from-mission c file left x)
-  mission-so (M.refused line number) h = by-mdf n a h refl
+  mission-so : (x : M.Read) → MT.Replies n mdf u x → Meant rndf mdf t u (from-mission mdf c file left x)
+  mission-so (M.refused line number) h = by-mdf n line number a h refl
   mission-so (M.accepted m g goals limits) h = record {
     net = n;
     mission = h .mission;
@@ -110,7 +112,7 @@ unfolding pairOf
 meant rndf mdf t u = go (readOf rndf t) (NT.meant rndf t)
   where
     go : (x : N.Read) → NT.Meant rndf t x → Meant rndf mdf t u (from-network rndf mdf u x)
-    go (N.refused line number) h = by-rndf h refl
+    go (N.refused line number) h = by-rndf line number h refl
     go (N.accepted c file left) h = network-so rndf mdf t u (h .net) (h .accepts) c file left (h .rows) (h .row) (h .holds)
 
 -- ## The contract
@@ -120,10 +122,10 @@ pair-accepted rndf mdf t left u mission-left c file m g e =
     let h = subst (Meant rndf mdf t u) (sym e) (meant rndf mdf t u) in
     pair-reads-to rndf mdf t u (Pair.Accepted c file m g) left mission-left (accepted (h .net) (h .mission) (h .accepts) (h .takes) (h .reply) (h .holds) (h .mission-holds))
 
-pub pair-refused : (rndf mdf : Bytes) (t behind left : Lent) (u mission-behind mission-left : MissionLent) (file line number : ℕ) → P.refused file line number ≡ pairOf rndf mdf t u
-    → left ≡ zeros behind → zeros behind ≡ zeros t → mission-left ≡ mission-zeros mission-behind → mission-zeros mission-behind ≡ mission-zeros u → ReadsPair present rndf mdf t u (Pair.Refused (refusal file line number)) left mission-left
-pair-refused rndf mdf t behind left u mission-behind mission-left file line number e z k y j = go (subst (Meant rndf mdf t u) (sym e) (meant rndf mdf t u))
+pub pair-refused : (rndf mdf : Bytes) (t behind left : Lent) (u mission-behind mission-left : MissionLent) (why : Refusal) → P.refused why ≡ pairOf rndf mdf t u
+    → left ≡ zeros behind → zeros behind ≡ zeros t → mission-left ≡ mission-zeros mission-behind → mission-zeros mission-behind ≡ mission-zeros u → ReadsPair present rndf mdf t u (Pair.Refused why) left mission-left
+pair-refused rndf mdf t behind left u mission-behind mission-left why e z k y j = go (subst (Meant rndf mdf t u) (sym e) (meant rndf mdf t u))
   where
-    go : Refused rndf mdf t u file line number → ReadsPair present rndf mdf t u (Pair.Refused (refusal file line number)) left mission-left
-    go (by-rndf h f) = pair-reads-to rndf mdf t u (Pair.Refused (refusal file line number)) left mission-left (rndf-refused line number h (ap (λ (x : ℕ). Pair.Refused (refusal x line number)) f) (z ∙ k) (y ∙ j))
-    go (by-mdf n a h f) = pair-reads-to rndf mdf t u (Pair.Refused (refusal file line number)) left mission-left (mdf-refused n line number a h (ap (λ (x : ℕ). Pair.Refused (refusal x line number)) f) (z ∙ k) (y ∙ j))
+    go : Refused rndf mdf t u why → ReadsPair present rndf mdf t u (Pair.Refused why) left mission-left
+    go (by-rndf line number h f) = pair-reads-to rndf mdf t u (Pair.Refused why) left mission-left (rndf-refused line number h (ap Pair.Refused f) (z ∙ k) (y ∙ j))
+    go (by-mdf n line number a h f) = pair-reads-to rndf mdf t u (Pair.Refused why) left mission-left (mdf-refused n line number a h (ap Pair.Refused f) (z ∙ k) (y ∙ j))

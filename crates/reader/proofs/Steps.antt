@@ -9,8 +9,9 @@ use Rattle.counts.specs.declared.Counts.{Counts}
 use Rattle.network_reader.specs.Reading as N
 use Rattle.network_reader.proofs.Theorems.{Meant, meant}
 use Rattle.replies.specs.declared.RndfReply.the-variants as Reply
+use Rattle.reader.specs.Columns.{rndf-refusal}
 use Rattle.reader.specs.ByStatements.{accepted, refused}
-use Rattle.replies.specs.Replies.{refusal, ReadsRndf}
+use Rattle.replies.specs.Replies.{ReadsRndf}
 use Rattle.reader.proofs.Lawful.{rndf-reads-to}
 
 pub accepted-so : (text : Bytes) (t left : Lent) (c : Counts) (file : FileRow) → N.accepted c file left ≡ N.readOf text t → ReadsRndf present text t (Reply.Accepted c file) left
@@ -19,5 +20,5 @@ accepted-so text t left c file e =
     rndf-reads-to text t (Reply.Accepted c file) left (accepted (m .net) (m .accepts) (ap₂ (λ (x : Counts) (y : FileRow). Reply.Accepted x y) (m .rows) (m .row)) (m .holds))
 
 -- behind is what the reader of the file left, which is then cleared
-pub refused-so : (text : Bytes) (t behind left : Lent) (line number : ℕ) → N.refused line number ≡ N.readOf text t → left ≡ zeros behind → zeros behind ≡ zeros t → ReadsRndf present text t (Reply.Refused (refusal 1 line number)) left
-refused-so text t behind left line number e z k = rndf-reads-to text t (Reply.Refused (refusal 1 line number)) left (refused line number (subst (Meant text t) (sym e) (meant text t)) refl (z ∙ k))
+pub refused-so : (text : Bytes) (t behind left : Lent) (line number : ℕ) → N.refused line number ≡ N.readOf text t → left ≡ zeros behind → zeros behind ≡ zeros t → ReadsRndf present text t (Reply.Refused (rndf-refusal text line number)) left
+refused-so text t behind left line number e z k = rndf-reads-to text t (Reply.Refused (rndf-refusal text line number)) left (refused line number (subst (Meant text t) (sym e) (meant text t)) refl (z ∙ k))

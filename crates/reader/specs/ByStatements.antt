@@ -18,22 +18,22 @@ use Rattle.replies.specs.declared.RndfReply.{RndfReply}
 use Rattle.replies.specs.declared.RndfReply.the-variants as Reply
 use Rattle.replies.specs.declared.PairReply.{PairReply}
 use Rattle.replies.specs.declared.PairReply.the-variants as Pair
+use Rattle.reader.specs.Columns.{rndf-refusal, mdf-refusal}
 pub use Rattle.law.specs.Tables.{mission-lent}
-pub use Rattle.replies.specs.Replies.{refusal}
 
 -- ## An RNDF alone: the reply, and what is left in the lent tables. t: these tables as they were lent
 pub data ReadsRndf (text : Bytes) (t : Lent) (reply : RndfReply) (left : Lent) : Type 0 where
   -- 01: "Acceptance replies with the rows used of each table; rows beyond are zero."
   accepted : (n : Network Field) → AcceptsRndf text t n → reply ≡ Reply.Accepted (rows-used (sizes (tables n))) (network-file n) → left ≡ network-filled n t → ReadsRndf text t reply left
   -- 01: "All lent tables .. are then zero over their whole length"
-  refused : (line number : ℕ) → RefusesRndf text t line number → reply ≡ Reply.Refused (refusal 1 line number) → left ≡ zeros t → ReadsRndf text t reply left
+  refused : (line number : ℕ) → RefusesRndf text t line number → reply ≡ Reply.Refused (rndf-refusal text line number) → left ≡ zeros t → ReadsRndf text t reply left
 
 -- ## An RNDF with its MDF. u: the goals and limits as they were lent
 pub data ReadsPair (rndf mdf : Bytes) (t : Lent) (u : MissionLent) (reply : PairReply) (left : Lent) (mission-left : MissionLent) : Type 0 where
   accepted : (n : Network Field) (m : Mission Field) → AcceptsRndf rndf t n → AcceptsMdf n mdf u m → reply ≡ Pair.Accepted (rows-used (sizes (tables n))) (network-file n) (M.rows-used m) (mission-file m)
       → left ≡ network-filled n t → mission-left ≡ mission-filled (mission-tables m) u → ReadsPair rndf mdf t u reply left mission-left
   -- 01: "for the RNDF 1; ..": everything about the RNDF comes first
-  rndf-refused : (line number : ℕ) → RefusesRndf rndf t line number → reply ≡ Pair.Refused (refusal 1 line number) → left ≡ zeros t → mission-left ≡ mission-zeros u → ReadsPair rndf mdf t u reply left mission-left
+  rndf-refused : (line number : ℕ) → RefusesRndf rndf t line number → reply ≡ Pair.Refused (rndf-refusal rndf line number) → left ≡ zeros t → mission-left ≡ mission-zeros u → ReadsPair rndf mdf t u reply left mission-left
   -- 01: "Then the MDF likewise"
-  mdf-refused : (n : Network Field) (line number : ℕ) → AcceptsRndf rndf t n → RefusesMdf n mdf u line number → reply ≡ Pair.Refused (refusal 2 line number)
+  mdf-refused : (n : Network Field) (line number : ℕ) → AcceptsRndf rndf t n → RefusesMdf n mdf u line number → reply ≡ Pair.Refused (mdf-refusal mdf line number)
       → left ≡ zeros t → mission-left ≡ mission-zeros u → ReadsPair rndf mdf t u reply left mission-left

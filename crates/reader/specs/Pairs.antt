@@ -1,5 +1,5 @@
 -- Executable: what a pair gets, and what the lent tables then hold where it is accepted. Assumes nothing.
-use Prim.Native.Nat.{ℕ, _+_}
+use Prim.Native.Nat.{_+_}
 use Rattle.terms.specs.Ascii.{Bytes}
 use Rattle.rows.specs.declared.FileRow.{FileRow}
 use Rattle.rows.specs.declared.MissionFileRow.{MissionFileRow}
@@ -14,29 +14,30 @@ use Rattle.mission_reader.specs.declared.MissionReply.the-variants as Mission
 use Rattle.mission_reader.specs.MissionReading as M
 use Rattle.mission_reader.specs.MissionReading.{rndf-of, missionOf}
 use Rattle.law.specs.Tables.{mission-lent}
-use Rattle.replies.specs.Replies.{refusal}
+use Rattle.refusal.specs.declared.Refusal.{Refusal}
 use Rattle.replies.specs.declared.PairReply as DP
 use Rattle.replies.specs.declared.PairReply.the-variants as Pair
+use Rattle.reader.specs.Columns.{rndf-refusal, mdf-refusal}
 
-abbrev pub joinedOf : Counts → FileRow → DM.MissionReply → DP.PairReply
-joinedOf c file (Mission.Accepted m f) = Pair.Accepted c file m f
-joinedOf c file (Mission.Refused f) = Pair.Refused (refusal 2 (f .line) (f .number))
+abbrev pub joinedOf : Bytes → Counts → FileRow → DM.MissionReply → DP.PairReply
+joinedOf mdf c file (Mission.Accepted m f) = Pair.Accepted c file m f
+joinedOf mdf c file (Mission.Refused f) = Pair.Refused (mdf-refusal mdf (f .line) (f .number))
 
 pub data Read : Type 0 where
-  refused : (file line number : ℕ) → Read
+  refused : Refusal → Read
   accepted : Counts → FileRow → MissionCounts → MissionFileRow → Lent → MissionLent → Read
 
 abbrev pub outcome : DP.PairReply → Lent → MissionLent → Read
 outcome (Pair.Accepted c f m g) left mission-left = accepted c f m g left mission-left
-outcome (Pair.Refused x) left mission-left = refused (x .file) (x .line) (x .number)
+outcome (Pair.Refused x) left mission-left = refused x
 
-abbrev pub from-mission : Counts → FileRow → Lent → M.Read → Read
-from-mission c f left (M.refused line number) = refused 2 line number
-from-mission c f left (M.accepted m g goals limits) = accepted c f m g left (mission-lent goals limits)
+abbrev pub from-mission : Bytes → Counts → FileRow → Lent → M.Read → Read
+from-mission mdf c f left (M.refused line number) = refused (mdf-refusal mdf line number)
+from-mission mdf c f left (M.accepted m g goals limits) = accepted c f m g left (mission-lent goals limits)
 
 abbrev pub from-network : Bytes → Bytes → MissionLent → N.Read → Read
-from-network rndf mdf u (N.refused line number) = refused 1 line number
-from-network rndf mdf u (N.accepted c f left) = from-mission c f left (missionOf (rndf-of rndf (f .name) (left .checkpoints) (c .checkpoints) (fitted (c .segments + c .zones))) mdf (u .goals) (u .limits))
+from-network rndf mdf u (N.refused line number) = refused (rndf-refusal rndf line number)
+from-network rndf mdf u (N.accepted c f left) = from-mission mdf c f left (missionOf (rndf-of rndf (f .name) (left .checkpoints) (c .checkpoints) (fitted (c .segments + c .zones))) mdf (u .goals) (u .limits))
 
 unfoldable pub pairOf : (rndf mdf : Bytes) → Lent → MissionLent → Read
 pairOf rndf mdf t u = from-network rndf mdf u (readOf rndf t)

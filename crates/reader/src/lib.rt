@@ -2,15 +2,19 @@
 // and all tables. Nothing is required. A refusal leaves every lent table zero.
 //
 // specs/ByStatements: the contracts over statements and typed rows, as the proofs have it; proofs/Lawful: that both say the same. specs/Pairs: what a pair gets, executable.
+// specs/Columns: the refusal that is replied: its column is found once the text is refused (`column`), so that a good text pays nothing; proofs/Columns: that it is the law's.
 // That no second reply and no second memory satisfies the contracts is proved in `replies`, without the code. What follows from the contracts alone is the crate `promises`.
 //
-// Rests on `replies`, `network_reader`, `mission_reader`, `room` and what they rest on. Beside it: `look_up` (a checkpoint number's point), `rows` (names, and how rows lie in a table).
+// Rests on `replies`, `network_reader`, `mission_reader`, `column`, `room` and what they rest on. Beside it: `look_up` (a checkpoint number's point), `rows` (names, and how rows lie in a table).
+use column::rndf_column;
 use counts::Counts;
 use counts::MissionCounts;
+use mission_column::mdf_column;
 use mission_reader::MissionReply;
 use mission_reader::read_mission;
 use network_reader::NetworkReply;
 use network_reader::read_network;
+use refusal::Fault;
 use refusal::Refusal;
 use replies::PairReply;
 use replies::RndfReply;
@@ -24,7 +28,57 @@ ghost use Rattle.law.specs.Network.{present};
 ghost use Rattle.law.specs.Tables.{lent, mission-lent};
 ghost use Rattle.replies.specs.Replies.{ReadsRndf, ReadsPair};
 ghost use Prim.Native.Nat.{_+_};
+ghost use Rattle.reader.specs.Columns.{rndfTold, mdfTold, rndf-refusal, mdf-refusal};
 ghost use Rattle.reader.specs.Pairs.{joinedOf, outcome, pairOf};
+
+// The column of a refused RNDF: 0 without a line, and for 10.
+fn rndf_told(text: &[u8], fault: Fault) -> u32
+    ensures { λ r. ⌜ r ≡ rndfTold (now (text .entry)) (fault .line) (fault .number) ⌝ }
+{
+    if fault.number == 10 {
+        return 0;
+    }
+    if fault.line == 0 {
+        return 0;
+    }
+    rndf_column(text, fault.line, fault.number)
+}
+
+fn mdf_told(text: &[u8], fault: Fault) -> u32
+    ensures { λ r. ⌜ r ≡ mdfTold (now (text .entry)) (fault .line) (fault .number) ⌝ }
+{
+    if fault.number == 10 {
+        return 0;
+    }
+    if fault.line == 0 {
+        return 0;
+    }
+    mdf_column(text, fault.line, fault.number)
+}
+
+fn rndf_refused(text: &[u8], fault: Fault) -> Refusal
+    ensures { λ r. ⌜ r ≡ rndf-refusal (now (text .entry)) (fault .line) (fault .number) ⌝ }
+{
+    let column = rndf_told(text, fault);
+    Refusal {
+        file: 1,
+        line: fault.line,
+        number: fault.number,
+        column,
+    }
+}
+
+fn mdf_refused(text: &[u8], fault: Fault) -> Refusal
+    ensures { λ r. ⌜ r ≡ mdf-refusal (now (text .entry)) (fault .line) (fault .number) ⌝ }
+{
+    let column = mdf_told(text, fault);
+    Refusal {
+        file: 2,
+        line: fault.line,
+        number: fault.number,
+        column,
+    }
+}
 
 // An RNDF alone.
 pub fn read_rndf(
@@ -64,11 +118,7 @@ pub fn read_rndf(
                 stops,
                 exits,
             );
-            RndfReply::Refused(Refusal {
-                file: 1,
-                line: fault.line,
-                number: fault.number,
-            })
+            RndfReply::Refused(rndf_refused(text, fault))
         }
     }
 }
@@ -81,16 +131,12 @@ fn parts(c: Counts) -> u32
 }
 
 // What the reader of the MDF answers, with what the RNDF gave.
-fn joined(c: Counts, file: FileRow, mission: MissionReply) -> PairReply
-    ensures { λ r. ⌜ r ≡ joinedOf c file mission ⌝ }
+fn joined(mdf: &[u8], c: Counts, file: FileRow, mission: MissionReply) -> PairReply
+    ensures { λ r. ⌜ r ≡ joinedOf (now (mdf .entry)) c file mission ⌝ }
 {
     match mission {
         MissionReply::Accepted(m, mission_file) => PairReply::Accepted(c, file, m, mission_file),
-        MissionReply::Refused(fault) => PairReply::Refused(Refusal {
-            file: 2,
-            line: fault.line,
-            number: fault.number,
-        }),
+        MissionReply::Refused(fault) => PairReply::Refused(mdf_refused(mdf, fault)),
     }
 }
 
@@ -134,13 +180,9 @@ fn read_both(
                 goals,
                 limits,
             );
-            joined(c, file, mission)
+            joined(mdf, c, file, mission)
         }
-        NetworkReply::Refused(fault) => PairReply::Refused(Refusal {
-            file: 1,
-            line: fault.line,
-            number: fault.number,
-        }),
+        NetworkReply::Refused(fault) => PairReply::Refused(rndf_refused(rndf, fault)),
     }
 }
 

@@ -13,6 +13,8 @@ use Rattle.fault_lines.proofs.RndfFaults.{reference-line-one, line-not-sound}
 use Rattle.fault_lines.proofs.MdfFaults.{mission-line-one, line-not-fits}
 use Rattle.law_spelling.proofs.Texts.{rndf-back, mdf-back}
 use Rattle.law_faults.proofs.Theorems.{rndf-bad-back, rndf-unended-back, mdf-bad-back, mdf-unended-back}
+use Rattle.law_columns.specs.Files.{rndf-column, mdf-column}
+use Rattle.law_columns.proofs.Theorems.{rndf-column-bad, rndf-column-fault, rndf-column-one, mdf-column-bad, mdf-column-fault, mdf-column-one}
 use Rattle.law_tables.proofs.SameFits.{fits-back}
 use Rattle.law_tables.proofs.RndfFirst.{rndf-first-back}
 use Rattle.law_tables.proofs.MdfFirst.{mdf-first-back}
@@ -27,6 +29,9 @@ rndf-alone text t = record {
   bad-or-spelled = λ i k n b s. F.rndf-bad-or-spelled text i k n (rndf-bad-back text i k b) (rndf-back n text s);
   unended-or-spelled = λ i n u s. F.rndf-unended-or-spelled text i n (rndf-unended-back text i u) (rndf-back n text s);
   wrong-one = λ n n′ s s′ i k i′ k′ f f′. reference-line-one n text i i′ k k′ (rndf-first-back n text (rndf-back n text s) i k f) (rndf-first-back n text (rndf-back n text s) i′ k′ (of-one n n′ s s′ i′ k′ f′));
+  column = rndf-column text;
+  bad-column = λ i k c b x. rndf-column-one (b .front) (b .this) k c (rndf-column text i k) x (rndf-column-bad text i k b);
+  wrong-column = λ n i k c f x. rndf-column-one (f .front) (f .at .this) k c (rndf-column text i k) x (rndf-column-fault n text i k f);
   wrong-or-right = λ n n′ s s′ i k f r. line-not-sound n text (rndf-back n text s) i k (rndf-first-back n text (rndf-back n text s) i k f) (subst Sound (sym (same n n′ s s′)) r);
 }
   where
@@ -49,6 +54,9 @@ mdf-alone n text u = record {
   bad-or-spelled = λ i k m b s. F.mdf-bad-or-spelled text i k m (mdf-bad-back text i k b) (mdf-back m text s);
   unended-or-spelled = λ i m x s. F.mdf-unended-or-spelled text i m (mdf-unended-back text i x) (mdf-back m text s);
   wrong-one = λ m m′ s s′ i k i′ k′ f f′. mission-line-one n text i i′ k k′ (first-back m s i k f) (first-back m′ s′ i′ k′ f′);
+  column = mdf-column text;
+  bad-column = λ i k c b x. mdf-column-one (b .front) (b .this) k c (mdf-column text i k) x (mdf-column-bad text i k b);
+  wrong-column = λ m i k c f x. mdf-column-one (f .front) (f .at .this) k c (mdf-column text i k) x (mdf-column-fault n text i k f);
   wrong-or-right = λ m m′ s s′ i k f r. line-not-fits n m′ text (mdf-back m′ text s′) i k (first-back m s i k f) (fits-back n m′ r);
 }
   where

@@ -1,5 +1,5 @@
--- One file, RNDF or MDF: where each fault alone is settled, no text is accepted as two things, accepted and refused, or refused with two lines or numbers. Assumes nothing.
-use mathlib.Core.Path.{_≡_, refl, subst}
+-- One file, RNDF or MDF: where each fault alone is settled, no text is accepted as two things, accepted and refused, or refused with two lines, numbers or columns. Assumes nothing.
+use mathlib.Core.Path.{_≡_, refl, sym, ap₂, subst, _∙_}
 use mathlib.Core.List.{List}
 use Prim.Native.Nat.{ℕ, _≤_, _<_}
 use native.Mathlib.Omega.{arith}
@@ -7,6 +7,7 @@ use lib.ListN.{length}
 use Rattle.terms.specs.Ascii.{Bytes}
 use Rattle.law.specs.Network.{Line, SpellsText, Rules}
 use Rattle.law.specs.Faults.{BadLine, Unended, FirstFault}
+use Rattle.law_columns.specs.Columns.{Column}
 use Rattle.replies.specs.Replies.{most, Accepts, Refuses, too-long, bad-line, unended, no-room, bad-reference}
 
 module _ (rules : Rules) {Net : Type 0} (Spells : Rules → Net → List Line → Type 0) (Roomy Right : Net → Type 0) (Wrong : Net → List Line → Line → ℕ → Type 0) (text : Bytes) where
@@ -18,13 +19,17 @@ module _ (rules : Rules) {Net : Type 0} (Spells : Rules → Net → List Line �
     pub bad-or-spelled : (i k : ℕ) (n : Net) → BadLine rules Spells text i k → SpellsText rules Spells n text → ⊥
     pub unended-or-spelled : (i : ℕ) (n : Net) → Unended rules Spells text i → SpellsText rules Spells n text → ⊥
     pub wrong-one : (n n′ : Net) → SpellsText rules Spells n text → SpellsText rules Spells n′ text → (i k i′ k′ : ℕ) → FirstFault rules Spells (Wrong n) text i k → FirstFault rules Spells (Wrong n′) text i′ k′ → (i ≡ i′) × (k ≡ k′)
+    -- the column hangs on line and number alone
+    pub column : (i k : ℕ) → ℕ
+    pub bad-column : (i k c : ℕ) (b : BadLine rules Spells text i k) → Column rules Spells (b .front) (b .this) k c → c ≡ column i k
+    pub wrong-column : (n : Net) (i k c : ℕ) (f : FirstFault rules Spells (Wrong n) text i k) → Column rules Spells (f .front) (f .at .this) k c → c ≡ column i k
     pub wrong-or-right : (n n′ : Net) → SpellsText rules Spells n text → SpellsText rules Spells n′ text → (i k : ℕ) → FirstFault rules Spells (Wrong n) text i k → Right n′ → ⊥
 
   module _ (s : Alone) where
     abbrev Taken : Net → Type 0
     Taken = Accepts rules Spells Roomy Right Wrong text
 
-    abbrev Left : (line number : ℕ) → Type 0
+    abbrev Left : (line number column : ℕ) → Type 0
     Left = Refuses rules Spells Roomy Right Wrong text
 
     sizes-clash : {X : Type 0} → most < length text → length text ≤ most → X
@@ -33,36 +38,43 @@ module _ (rules : Rules) {Net : Type 0} (Spells : Rules → Net → List Line �
     pub accepts-one : (n n′ : Net) → Taken n → Taken n′ → n ≡ n′
     accepts-one n n′ a b = s .one n n′ (a .spelled) (b .spelled)
 
-    pub never-both : (n : Net) (i k : ℕ) → Taken n → Left i k → ⊥
-    never-both n i k a (too-long h) = sizes-clash h (a .size)
-    never-both n i k a (bad-line h b) = s .bad-or-spelled i k n b (a .spelled)
-    never-both n i k a (unended h b) = s .unended-or-spelled i n b (a .spelled)
-    never-both n i k a (no-room n′ h p r) = r (subst Roomy (s .one n n′ (a .spelled) p) (a .room))
-    never-both n i k a (bad-reference n′ h p r f) = s .wrong-or-right n′ n p (a .spelled) i k f (a .right)
+    pub never-both : (n : Net) (i k c : ℕ) → Taken n → Left i k c → ⊥
+    never-both n i k c a (too-long h) = sizes-clash h (a .size)
+    never-both n i k c a (bad-line h b x) = s .bad-or-spelled i k n b (a .spelled)
+    never-both n i k c a (unended h b) = s .unended-or-spelled i n b (a .spelled)
+    never-both n i k c a (no-room n′ h p r) = r (subst Roomy (s .one n n′ (a .spelled) p) (a .room))
+    never-both n i k c a (bad-reference n′ h p r f x) = s .wrong-or-right n′ n p (a .spelled) i k f (a .right)
 
-    pub refuses-one : (i k i′ k′ : ℕ) → Left i k → Left i′ k′ → (i ≡ i′) × (k ≡ k′)
-    refuses-one i k i′ k′ (too-long h) (too-long h′) = (refl, refl)
-    refuses-one i k i′ k′ (too-long h) (bad-line h′ b) = sizes-clash h h′
-    refuses-one i k i′ k′ (too-long h) (unended h′ b) = sizes-clash h h′
-    refuses-one i k i′ k′ (too-long h) (no-room n h′ p r) = sizes-clash h h′
-    refuses-one i k i′ k′ (too-long h) (bad-reference n h′ p r f) = sizes-clash h h′
-    refuses-one i k i′ k′ (bad-line h b) (too-long h′) = sizes-clash h′ h
-    refuses-one i k i′ k′ (bad-line h b) (bad-line h′ b′) = s .bad-one i k i′ k′ b b′
-    refuses-one i k i′ k′ (bad-line h b) (unended h′ b′) = absurd (s .bad-or-unended i k i′ b b′)
-    refuses-one i k i′ k′ (bad-line h b) (no-room n h′ p r) = absurd (s .bad-or-spelled i k n b p)
-    refuses-one i k i′ k′ (bad-line h b) (bad-reference n h′ p r f) = absurd (s .bad-or-spelled i k n b p)
-    refuses-one i k i′ k′ (unended h b) (too-long h′) = sizes-clash h′ h
-    refuses-one i k i′ k′ (unended h b) (bad-line h′ b′) = absurd (s .bad-or-unended i′ k′ i b′ b)
-    refuses-one i k i′ k′ (unended h b) (unended h′ b′) = (s .unended-one i i′ b b′, refl)
-    refuses-one i k i′ k′ (unended h b) (no-room n h′ p r) = absurd (s .unended-or-spelled i n b p)
-    refuses-one i k i′ k′ (unended h b) (bad-reference n h′ p r f) = absurd (s .unended-or-spelled i n b p)
-    refuses-one i k i′ k′ (no-room n h p r) (too-long h′) = sizes-clash h′ h
-    refuses-one i k i′ k′ (no-room n h p r) (bad-line h′ b) = absurd (s .bad-or-spelled i′ k′ n b p)
-    refuses-one i k i′ k′ (no-room n h p r) (unended h′ b) = absurd (s .unended-or-spelled i′ n b p)
-    refuses-one i k i′ k′ (no-room n h p r) (no-room n′ h′ p′ r′) = (refl, refl)
-    refuses-one i k i′ k′ (no-room n h p r) (bad-reference n′ h′ p′ r′ f) = absurd (r (subst Roomy (s .one n′ n p′ p) r′))
-    refuses-one i k i′ k′ (bad-reference n h p r f) (too-long h′) = sizes-clash h′ h
-    refuses-one i k i′ k′ (bad-reference n h p r f) (bad-line h′ b) = absurd (s .bad-or-spelled i′ k′ n b p)
-    refuses-one i k i′ k′ (bad-reference n h p r f) (unended h′ b) = absurd (s .unended-or-spelled i′ n b p)
-    refuses-one i k i′ k′ (bad-reference n h p r f) (no-room n′ h′ p′ r′) = absurd (r′ (subst Roomy (s .one n n′ p p′) r))
-    refuses-one i k i′ k′ (bad-reference n h p r f) (bad-reference n′ h′ p′ r′ f′) = s .wrong-one n n′ p p′ i k i′ k′ f f′
+    abbrev Equal : (i k c i′ k′ c′ : ℕ) → Type 0
+    Equal i k c i′ k′ c′ = (i ≡ i′) × (k ≡ k′) × (c ≡ c′)
+
+    -- one line and number have one column
+    by-column : (i k c i′ k′ c′ : ℕ) → c ≡ s .column i k → c′ ≡ s .column i′ k′ → (i ≡ i′) × (k ≡ k′) → Equal i k c i′ k′ c′
+    by-column i k c i′ k′ c′ p p′ q = (q .0, q .1, p ∙ ap₂ (s .column) (q .0) (q .1) ∙ sym p′)
+
+    pub refuses-one : (i k c i′ k′ c′ : ℕ) → Left i k c → Left i′ k′ c′ → Equal i k c i′ k′ c′
+    refuses-one i k c i′ k′ c′ (too-long h) (too-long h′) = (refl, refl, refl)
+    refuses-one i k c i′ k′ c′ (too-long h) (bad-line h′ b x′) = sizes-clash h h′
+    refuses-one i k c i′ k′ c′ (too-long h) (unended h′ b) = sizes-clash h h′
+    refuses-one i k c i′ k′ c′ (too-long h) (no-room n h′ p r) = sizes-clash h h′
+    refuses-one i k c i′ k′ c′ (too-long h) (bad-reference n h′ p r f x′) = sizes-clash h h′
+    refuses-one i k c i′ k′ c′ (bad-line h b x) (too-long h′) = sizes-clash h′ h
+    refuses-one i k c i′ k′ c′ (bad-line h b x) (bad-line h′ b′ x′) = by-column i k c i′ k′ c′ (s .bad-column i k c b x) (s .bad-column i′ k′ c′ b′ x′) (s .bad-one i k i′ k′ b b′)
+    refuses-one i k c i′ k′ c′ (bad-line h b x) (unended h′ b′) = absurd (s .bad-or-unended i k i′ b b′)
+    refuses-one i k c i′ k′ c′ (bad-line h b x) (no-room n h′ p r) = absurd (s .bad-or-spelled i k n b p)
+    refuses-one i k c i′ k′ c′ (bad-line h b x) (bad-reference n h′ p r f x′) = absurd (s .bad-or-spelled i k n b p)
+    refuses-one i k c i′ k′ c′ (unended h b) (too-long h′) = sizes-clash h′ h
+    refuses-one i k c i′ k′ c′ (unended h b) (bad-line h′ b′ x′) = absurd (s .bad-or-unended i′ k′ i b′ b)
+    refuses-one i k c i′ k′ c′ (unended h b) (unended h′ b′) = (s .unended-one i i′ b b′, refl, refl)
+    refuses-one i k c i′ k′ c′ (unended h b) (no-room n h′ p r) = absurd (s .unended-or-spelled i n b p)
+    refuses-one i k c i′ k′ c′ (unended h b) (bad-reference n h′ p r f x′) = absurd (s .unended-or-spelled i n b p)
+    refuses-one i k c i′ k′ c′ (no-room n h p r) (too-long h′) = sizes-clash h′ h
+    refuses-one i k c i′ k′ c′ (no-room n h p r) (bad-line h′ b x′) = absurd (s .bad-or-spelled i′ k′ n b p)
+    refuses-one i k c i′ k′ c′ (no-room n h p r) (unended h′ b) = absurd (s .unended-or-spelled i′ n b p)
+    refuses-one i k c i′ k′ c′ (no-room n h p r) (no-room n′ h′ p′ r′) = (refl, refl, refl)
+    refuses-one i k c i′ k′ c′ (no-room n h p r) (bad-reference n′ h′ p′ r′ f x′) = absurd (r (subst Roomy (s .one n′ n p′ p) r′))
+    refuses-one i k c i′ k′ c′ (bad-reference n h p r f x) (too-long h′) = sizes-clash h′ h
+    refuses-one i k c i′ k′ c′ (bad-reference n h p r f x) (bad-line h′ b x′) = absurd (s .bad-or-spelled i′ k′ n b p)
+    refuses-one i k c i′ k′ c′ (bad-reference n h p r f x) (unended h′ b) = absurd (s .unended-or-spelled i′ n b p)
+    refuses-one i k c i′ k′ c′ (bad-reference n h p r f x) (no-room n′ h′ p′ r′) = absurd (r′ (subst Roomy (s .one n n′ p p′) r))
+    refuses-one i k c i′ k′ c′ (bad-reference n h p r f x) (bad-reference n′ h′ p′ r′ f′ x′) = by-column i k c i′ k′ c′ (s .wrong-column n i k c f x) (s .wrong-column n′ i′ k′ c′ f′ x′) (s .wrong-one n n′ p p′ i k i′ k′ f f′)

@@ -1,9 +1,10 @@
--- WHAT A READER MUST BELIEVE. What the entry points reply, and what the lent tables then hold. Document 01, "Refusal numbers", "Tables". Assumes nothing.
+-- WHAT A READER MUST BELIEVE. What the entry points reply, and what the lent tables then hold. Document 01, "Refusal numbers", "Tables"; document 02, L7. Assumes nothing.
 use Rattle.terms.specs.Words.{_≡_, List, Option, none, some, ℕ, _≤_, _<_, length, Bytes}
 use Rattle.line.specs.Line.{Field}
 use Rattle.law.specs.Network.{Network, Mission, Line, Rules, SpellsNetwork, SpellsMission, SpellsText}
 use Rattle.law.specs.Tables.{Lent, MissionLent, segment-rows, lane-rows, zone-rows, spot-rows, point-rows, checkpoint-rows, stop-rows, exit-rows, HasRoom, MissionHasRoom, filled, mission-filled, zeros, mission-zeros}
 use Rattle.law.specs.Faults.{BadLine, Unended, FirstFault, RndfFault, MdfFault, Sound, Fits}
+use Rattle.law_columns.specs.Columns.{Column}
 use Rattle.rows.specs.declared.Stretch.{Stretch}
 use Rattle.rows.specs.declared.FileRow.{FileRow}
 use Rattle.rows.specs.declared.MissionFileRow.{MissionFileRow}
@@ -27,32 +28,33 @@ module _ (rules : Rules) {Net : Type 0} (Spells : Rules → Net → List Line �
     pub right : Right n
 
   -- 01: "Order: for the RNDF 1; then the first line with a fault of 2 to 9, ..; then 10; 11; then the first line with 12 or 13. Then the MDF likewise, 14 to 18 by first line"
-  pub data Refuses : (line number : ℕ) → Type 0 where
-    too-long : most < length text → Refuses 0 1
-    bad-line : {line number : ℕ} → length text ≤ most → BadLine rules Spells text line number → Refuses line number
-    unended : {line : ℕ} → length text ≤ most → Unended rules Spells text line → Refuses line 10
-    no-room : (n : Net) → length text ≤ most → SpellsText rules Spells n text → (Roomy n → ⊥) → Refuses 0 11
-    bad-reference : (n : Net) {line number : ℕ} → length text ≤ most → SpellsText rules Spells n text → Roomy n → FirstFault rules Spells (Wrong n) text line number → Refuses line number
+  -- L7: "Where the line is 0, for 10, .. it is 0": the column
+  pub data Refuses : (line number column : ℕ) → Type 0 where
+    too-long : most < length text → Refuses 0 1 0
+    bad-line : {line number column : ℕ} → length text ≤ most → (bad : BadLine rules Spells text line number) → Column rules Spells (bad .front) (bad .this) number column → Refuses line number column
+    unended : {line : ℕ} → length text ≤ most → Unended rules Spells text line → Refuses line 10 0
+    no-room : (n : Net) → length text ≤ most → SpellsText rules Spells n text → (Roomy n → ⊥) → Refuses 0 11 0
+    bad-reference : (n : Net) {line number column : ℕ} → length text ≤ most → SpellsText rules Spells n text → Roomy n → (bad : FirstFault rules Spells (Wrong n) text line number) → Column rules Spells (bad .front) (bad .at .this) number column → Refuses line number column
 
 -- rules: those of the entry points are `present`; t: the tables as they were lent; u: those of the MDF; n: the network of the RNDF, which was accepted before
 module _ (rules : Rules) (text : Bytes) (t : Lent) where
   abbrev pub AcceptsRndf : Network Field → Type 0
   AcceptsRndf = Accepts rules SpellsNetwork (λ n. HasRoom n t) Sound RndfFault text
 
-  abbrev pub RefusesRndf : (line number : ℕ) → Type 0
+  abbrev pub RefusesRndf : (line number column : ℕ) → Type 0
   RefusesRndf = Refuses rules SpellsNetwork (λ n. HasRoom n t) Sound RndfFault text
 
 module _ (rules : Rules) (n : Network Field) (text : Bytes) (u : MissionLent) where
   abbrev pub AcceptsMdf : Mission Field → Type 0
   AcceptsMdf = Accepts rules SpellsMission (λ m. MissionHasRoom m u) (Fits n) (λ m. MdfFault n) text
 
-  abbrev pub RefusesMdf : (line number : ℕ) → Type 0
+  abbrev pub RefusesMdf : (line number column : ℕ) → Type 0
   RefusesMdf = Refuses rules SpellsMission (λ m. MissionHasRoom m u) (Fits n) (λ m. MdfFault n) text
 
 -- ## What is replied
--- 01: "Each gives file (1 RNDF, 2 MDF), line, number."
-abbrev pub refusal : (file line number : ℕ) → Refusal
-refusal file line number = record { file = file; line = line; number = number }
+-- 01: "Each gives file (1 RNDF, 2 MDF), line, number."; L7: "Add a column to the refusal record"
+abbrev pub refusal : (file line number column : ℕ) → Refusal
+refusal file line number column = record { file = file; line = line; number = number; column = column }
 
 -- 01: "Acceptance replies with the rows used of each table"
 abbrev pub rows-used : Network Field → Counts
@@ -75,14 +77,14 @@ pub data ReadsRndf (rules : Rules) (text : Bytes) (t : Lent) (reply : RndfReply)
   -- 01: "rows beyond are zero"
   accepted : (n : Network Field) → AcceptsRndf rules text t n → reply ≡ Reply.Accepted (rows-used n) (network-file n) → left ≡ filled n t → ReadsRndf rules text t reply left
   -- 01: "All lent tables .. are then zero over their whole length"
-  refused : (line number : ℕ) → RefusesRndf rules text t line number → reply ≡ Reply.Refused (refusal 1 line number) → left ≡ zeros t → ReadsRndf rules text t reply left
+  refused : (line number column : ℕ) → RefusesRndf rules text t line number column → reply ≡ Reply.Refused (refusal 1 line number column) → left ≡ zeros t → ReadsRndf rules text t reply left
 
 -- ## An RNDF with its MDF
 pub data ReadsPair (rules : Rules) (rndf mdf : Bytes) (t : Lent) (u : MissionLent) (reply : PairReply) (left : Lent) (mission-left : MissionLent) : Type 0 where
   accepted : (n : Network Field) (m : Mission Field) → AcceptsRndf rules rndf t n → AcceptsMdf rules n mdf u m → reply ≡ Pair.Accepted (rows-used n) (network-file n) (record { goals = length (m .goals); limits = length (m .limits) }) (mission-file m)
       → left ≡ filled n t → mission-left ≡ mission-filled m u → ReadsPair rules rndf mdf t u reply left mission-left
   -- 01: "for the RNDF 1; ..": everything about the RNDF comes first
-  rndf-refused : (line number : ℕ) → RefusesRndf rules rndf t line number → reply ≡ Pair.Refused (refusal 1 line number) → left ≡ zeros t → mission-left ≡ mission-zeros u → ReadsPair rules rndf mdf t u reply left mission-left
+  rndf-refused : (line number column : ℕ) → RefusesRndf rules rndf t line number column → reply ≡ Pair.Refused (refusal 1 line number column) → left ≡ zeros t → mission-left ≡ mission-zeros u → ReadsPair rules rndf mdf t u reply left mission-left
   -- 01: "Then the MDF likewise"
-  mdf-refused : (n : Network Field) (line number : ℕ) → AcceptsRndf rules rndf t n → RefusesMdf rules n mdf u line number → reply ≡ Pair.Refused (refusal 2 line number)
+  mdf-refused : (n : Network Field) (line number column : ℕ) → AcceptsRndf rules rndf t n → RefusesMdf rules n mdf u line number column → reply ≡ Pair.Refused (refusal 2 line number column)
       → left ≡ zeros t → mission-left ≡ mission-zeros u → ReadsPair rules rndf mdf t u reply left mission-left

@@ -44,7 +44,7 @@ module _ (start : ℕ) (route : List ℕ) (rndf mdf : Bytes) (t : Lent) (u : Mis
     judged : (v : Verdict) → Says (points n) (Move n) start route (goals rndf t n a mdf u m b) v → Lawful (filled n t) (mission-filled m u) (replied reply v)
     unfolding pair
     judged Verdict.Good s = right pair s (accepted n m a b refl refl refl)
-    judged (Verdict.Wrong line number) s = wrong pair (s .0) number (s .2) (ap (λ (l : ℕ). Pair.Refused (refusal 0 l number)) (s .1)) refl refl
+    judged (Verdict.Wrong line number) s = wrong pair (s .0) number (s .2) (ap (λ (l : ℕ). Pair.Refused (refusal 0 l number 0)) (s .1)) refl refl
 
     accepted-ruled : Lawful (filled n t) (mission-filled m u) (ruled-of (filled n t) (mission-filled m u) reply)
     unfolding ruled
@@ -59,8 +59,8 @@ module _ (start : ℕ) (route : List ℕ) (rndf mdf : Bytes) (t : Lent) (u : Mis
   pub lawful : (read : PairReply) (left : Lent) (mission-left : MissionLent) → ReadsPair present rndf mdf t u read left mission-left → Lawful left mission-left (ruled-of left mission-left read)
   unfolding ruled
   lawful read left mission-left (accepted n m a b e l k) = subst (λ (x : PairReply × Lent × MissionLent). Lawful (x .1) (x .2) (ruled-of (x .1) (x .2) (x .0))) (λ i. (sym e i, sym l i, sym k i)) (accepted-ruled n m a b)
-  lawful read left mission-left (rndf-refused line number h e l k) = subst (λ (x : PairReply). Lawful left mission-left (ruled-of left mission-left x)) (sym e) (unread (refusal 1 line number) (rndf-refused line number h refl refl refl) refl)
-  lawful read left mission-left (mdf-refused n line number a h e l k) = subst (λ (x : PairReply). Lawful left mission-left (ruled-of left mission-left x)) (sym e) (unread (refusal 2 line number) (mdf-refused n line number a h refl refl refl) refl)
+  lawful read left mission-left (rndf-refused line number column h e l k) = subst (λ (x : PairReply). Lawful left mission-left (ruled-of left mission-left x)) (sym e) (unread (refusal 1 line number column) (rndf-refused line number column h refl refl refl) refl)
+  lawful read left mission-left (mdf-refused n line number column a h e l k) = subst (λ (x : PairReply). Lawful left mission-left (ruled-of left mission-left x)) (sym e) (unread (refusal 2 line number column) (mdf-refused n line number column a h refl refl refl) refl)
 
   -- ## As the function goes on: an acceptance is handed on, at a refusal all that was lent is cleared
   pub accepted-so : (read reply : PairReply) (left : Lent) (mission-left : MissionLent) → ReadsPair present rndf mdf t u read left mission-left → reply ≡ ruled-of left mission-left read

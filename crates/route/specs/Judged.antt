@@ -49,7 +49,7 @@ verdict move point points count start route = pick (begins points start route)
 -- the reply: the reader's, or the refusal of the route
 abbrev pub replied : PairReply → Verdict → PairReply
 replied reply Verdict.Good = reply
-replied reply (Verdict.Wrong line number) = Pair.Refused (refusal 0 line number)
+replied reply (Verdict.Wrong line number) = Pair.Refused (refusal 0 line number 0)
 
 unfoldable pub ruled : (lanes zones checkpoints exits goals : List ℕ) → (start : ℕ) → (route : List ℕ) → PairReply → PairReply
 ruled lanes zones checkpoints exits goals start route (Pair.Accepted c file m own) = replied (Pair.Accepted c file m own) (verdict (is-move lanes zones exits c) (goal-point checkpoints goals) (c .points) (m .goals) start route)

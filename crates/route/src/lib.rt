@@ -178,6 +178,7 @@ fn ruled(
                     file: 0,
                     line: line,
                     number: number,
+                    column: 0,
                 }),
             }
         }

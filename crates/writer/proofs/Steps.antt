@@ -103,12 +103,12 @@ module _ (lent : ℕ) (x out : Bytes) where
     pub put-so : (k : ℕ) → Output lent x out (Written k) → Answers (Reply.Accepted c file) lent x out (Write.Written c file k)
     put-so k o = let w = answered-written o in A.put c file refl (w .0) (ap (Write.Written c file) (w .1)) (w .2)
 
-    pub over-so : Output lent x out TooLong → Answers (Reply.Accepted c file) lent x out (Write.Refused (refusal 1 0 19))
+    pub over-so : Output lent x out TooLong → Answers (Reply.Accepted c file) lent x out (Write.Refused (refusal 1 0 19 0))
     over-so o = let w = answered-too-long o in A.over c file refl (w .0) refl (w .1)
 
     module _ (d : MissionCounts) (row : MissionFileRow) where
       pub mdf-put-so : (k : ℕ) → Output lent x out (Written k) → AnswersMdf (Pair.Accepted c file d row) lent x out (WriteMdf.Written c file d row k)
       mdf-put-so k o = let w = answered-written o in A.put c file d row refl (w .0) (ap (WriteMdf.Written c file d row) (w .1)) (w .2)
 
-      pub mdf-over-so : Output lent x out TooLong → AnswersMdf (Pair.Accepted c file d row) lent x out (WriteMdf.Refused (refusal 2 0 19))
+      pub mdf-over-so : Output lent x out TooLong → AnswersMdf (Pair.Accepted c file d row) lent x out (WriteMdf.Refused (refusal 2 0 19 0))
       mdf-over-so o = let w = answered-too-long o in A.over c file d row refl (w .0) refl (w .1)

@@ -31,7 +31,7 @@ pub data WritesRndf (text : Bytes) (t : Lent) (lent : ℕ) (reply : WriteReply) 
   refused : (why : Refusal) → ReadsRndf present text t (Reply.Refused why) left → reply ≡ Write.Refused why → out ≡ zeros lent → WritesRndf text t lent reply left out
   -- 01: 19 "house writing over 16,777,215 bytes or longer than the lent output"; "All lent tables, and the writer's lent output, are then zero over their whole length"
   too-long : (n : Network Field) (c : Counts) (file : FileRow) (read : Lent) → ReadsRndf present text t (Reply.Accepted c file) read → SpellsRndf n text → (Fits lent (house-rndf n) → ⊥)
-      → reply ≡ Write.Refused (refusal 1 0 19) → left ≡ Tables.zeros t → out ≡ zeros lent → WritesRndf text t lent reply left out
+      → reply ≡ Write.Refused (refusal 1 0 19 0) → left ≡ Tables.zeros t → out ≡ zeros lent → WritesRndf text t lent reply left out
   -- the tables hold what the reader leaves. 01: "A lent output is zero behind what was written."
   written : (n : Network Field) (c : Counts) (file : FileRow) → ReadsRndf present text t (Reply.Accepted c file) left → SpellsRndf n text → Fits lent (house-rndf n)
       → reply ≡ Write.Written c file (length (house-rndf n)) → out ≡ filled lent (house-rndf n) → WritesRndf text t lent reply left out
@@ -42,7 +42,7 @@ pub data WritesMdf (rndf mdf : Bytes) (t : Lent) (u : MissionLent) (lent : ℕ) 
   -- 01: "19 gives the file written"
   too-long : (m : Mission Field) (c : Counts) (file : FileRow) (d : MissionCounts) (mission-row : MissionFileRow) (read : Lent) (mission-read : MissionLent)
       → ReadsPair present rndf mdf t u (Pair.Accepted c file d mission-row) read mission-read → SpellsMdf m mdf → (Fits lent (house-mdf m) → ⊥)
-      → reply ≡ WriteMdf.Refused (refusal 2 0 19) → left ≡ Tables.zeros t → mission-left ≡ mission-zeros u → out ≡ zeros lent → WritesMdf rndf mdf t u lent reply left mission-left out
+      → reply ≡ WriteMdf.Refused (refusal 2 0 19 0) → left ≡ Tables.zeros t → mission-left ≡ mission-zeros u → out ≡ zeros lent → WritesMdf rndf mdf t u lent reply left mission-left out
   written : (m : Mission Field) (c : Counts) (file : FileRow) (d : MissionCounts) (mission-row : MissionFileRow)
       → ReadsPair present rndf mdf t u (Pair.Accepted c file d mission-row) left mission-left → SpellsMdf m mdf → Fits lent (house-mdf m)
       → reply ≡ WriteMdf.Written c file d mission-row (length (house-mdf m)) → out ≡ filled lent (house-mdf m) → WritesMdf rndf mdf t u lent reply left mission-left out

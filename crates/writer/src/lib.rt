@@ -57,6 +57,7 @@ fn write_read(text: &[u8], read: RndfReply, out: &mut [u8]) -> WriteReply
                     file: 1,
                     line: 0,
                     number: 19,
+                    column: 0,
                 }),
             }
         }
@@ -79,6 +80,7 @@ fn write_mdf_read(mdf: &[u8], read: PairReply, out: &mut [u8]) -> WriteMdfReply
                     file: 2,
                     line: 0,
                     number: 19,
+                    column: 0,
                 }),
             }
         }

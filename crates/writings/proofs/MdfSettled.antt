@@ -60,7 +60,7 @@ module _ (rndf mdf : Bytes) (t : Lent) (u : MissionLent) (lent : ℕ) where
 
   by-room : (x : MdfWriting mdf) (c : Counts) (file : FileRow) (d : MissionCounts) (row : MissionFileRow) (left : Lent) (mission-left : MissionLent) → ReadsPair present rndf mdf t u (Pair.Accepted c file d row) left mission-left → Fits lent (x .writing) ⊎ (Fits lent (x .writing) → ⊥) → MdfSome
   by-room x c file d row left mission-left h (inl f) = record { reply = Write.Written c file d row (length (x .writing)); left = left; mission-left = mission-left; out = filled lent (x .writing); writes = W.written (x .mission) (x .writing) c file d row h (x .spelled) (x .house) f refl refl }
-  by-room x c file d row left mission-left h (inr f) = record { reply = Write.Refused (refusal 2 0 19); left = Tables.zeros t; mission-left = mission-zeros u; out = zeros lent; writes = W.too-long (x .mission) (x .writing) c file d row left mission-left h (x .spelled) (x .house) f refl refl refl refl }
+  by-room x c file d row left mission-left h (inr f) = record { reply = Write.Refused (refusal 2 0 19 0); left = Tables.zeros t; mission-left = mission-zeros u; out = zeros lent; writes = W.too-long (x .mission) (x .writing) c file d row left mission-left h (x .spelled) (x .house) f refl refl refl refl }
 
   by-reply : (r : PairReply) (left : Lent) (mission-left : MissionLent) → ReadsPair present rndf mdf t u r left mission-left → MdfSome
   by-reply (Pair.Accepted c file d row) left mission-left h = let x = pair-written rndf mdf t left u mission-left c file d row h in by-room x c file d row left mission-left h (fits-or-not lent (x .writing))

@@ -59,7 +59,7 @@ module _ (Writing : Network Field → Bytes → Type 0) (one : OneWriting Writin
 
   by-room : (x : WritingOf Writing text) (c : Counts) (file : FileRow) (left : Lent) → ReadsRndf present text t (Reply.Accepted c file) left → Fits lent (x .writing) ⊎ (Fits lent (x .writing) → ⊥) → Some
   by-room x c file left h (inl f) = record { reply = Write.Written c file (length (x .writing)); left = left; out = filled lent (x .writing); writes = W.written (x .net) (x .writing) c file h (x .spelled) (x .house) f refl refl }
-  by-room x c file left h (inr f) = record { reply = Write.Refused (refusal 1 0 19); left = Tables.zeros t; out = zeros lent; writes = W.too-long (x .net) (x .writing) c file left h (x .spelled) (x .house) f refl refl refl }
+  by-room x c file left h (inr f) = record { reply = Write.Refused (refusal 1 0 19 0); left = Tables.zeros t; out = zeros lent; writes = W.too-long (x .net) (x .writing) c file left h (x .spelled) (x .house) f refl refl refl }
 
   by-reply : (r : RndfReply) (left : Lent) → ReadsRndf present text t r left → Some
   by-reply (Reply.Accepted c file) left h = let x = accepted-written one text t left c file h in by-room x c file left h (fits-or-not lent (x .writing))

@@ -26,7 +26,7 @@ pub data Writes (rules : Rules) (Writing : Network Field → Bytes → Type 0) (
   refused : (why : Refusal) → ReadsRndf rules text t (Reply.Refused why) left → reply ≡ Write.Refused why → out ≡ zeros lent → Writes rules Writing text t lent reply left out
   -- 01: 19 "house writing over 16,777,215 bytes or longer than the lent output"; "All lent tables, and the writer's lent output, are then zero over their whole length". L2: "19, with its zeros, where this or a later request's output is over 16,777,215 bytes or longer than the lent one"
   too-long : (n : Network Field) (writing : Bytes) (c : Counts) (file : FileRow) (read : Lent) → ReadsRndf rules text t (Reply.Accepted c file) read → SpellsText rules SpellsNetwork n text → Writing n writing → (Fits lent writing → ⊥)
-      → reply ≡ Write.Refused (refusal 1 0 19) → left ≡ Tables.zeros t → out ≡ zeros lent → Writes rules Writing text t lent reply left out
+      → reply ≡ Write.Refused (refusal 1 0 19 0) → left ≡ Tables.zeros t → out ≡ zeros lent → Writes rules Writing text t lent reply left out
   -- the tables hold what the reader leaves. 01: "A lent output is zero behind what was written."
   written : (n : Network Field) (writing : Bytes) (c : Counts) (file : FileRow) → ReadsRndf rules text t (Reply.Accepted c file) left → SpellsText rules SpellsNetwork n text → Writing n writing → Fits lent writing
       → reply ≡ Write.Written c file (length writing) → out ≡ filled lent writing → Writes rules Writing text t lent reply left out
@@ -48,7 +48,7 @@ pub data WritesMdf (rules : Rules) (rndf mdf : Bytes) (t : Lent) (u : MissionLen
   -- 01: "19 gives the file written"
   too-long : (m : Mission Field) (writing : Bytes) (c : Counts) (file : FileRow) (d : MissionCounts) (mission-row : MissionFileRow) (read : Lent) (mission-read : MissionLent)
       → ReadsPair rules rndf mdf t u (Pair.Accepted c file d mission-row) read mission-read → SpellsText rules SpellsMission m mdf → HouseMdf m writing → (Fits lent writing → ⊥)
-      → reply ≡ WriteMdf.Refused (refusal 2 0 19) → left ≡ Tables.zeros t → mission-left ≡ mission-zeros u → out ≡ zeros lent → WritesMdf rules rndf mdf t u lent reply left mission-left out
+      → reply ≡ WriteMdf.Refused (refusal 2 0 19 0) → left ≡ Tables.zeros t → mission-left ≡ mission-zeros u → out ≡ zeros lent → WritesMdf rules rndf mdf t u lent reply left mission-left out
   written : (m : Mission Field) (writing : Bytes) (c : Counts) (file : FileRow) (d : MissionCounts) (mission-row : MissionFileRow)
       → ReadsPair rules rndf mdf t u (Pair.Accepted c file d mission-row) left mission-left → SpellsText rules SpellsMission m mdf → HouseMdf m writing → Fits lent writing
       → reply ≡ WriteMdf.Written c file d mission-row (length writing) → out ≡ filled lent writing → WritesMdf rules rndf mdf t u lent reply left mission-left out

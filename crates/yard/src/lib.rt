@@ -60,6 +60,7 @@ fn laid_out(
         file: why.file as u32,
         line: why.line,
         number: why.number as u32,
+        column: why.column,
         segments: c.segments,
         lanes: c.lanes,
         zones: c.zones,
@@ -104,6 +105,7 @@ fn taken(c: Counts, file: FileRow, m: MissionCounts, mission_file: MissionFileRo
         file: 0,
         line: 0,
         number: 0,
+        column: 0,
     };
     laid_out(1, nothing, c, m, file, mission_file)
 }
@@ -186,12 +188,14 @@ fn list_answer(reply: ListReply) -> ListAnswer
             file: 0,
             line: 0,
             number: 0,
+            column: 0,
         },
         ListReply::Refused(why) => ListAnswer {
             accepted: 0,
             file: why.file as u32,
             line: why.line,
             number: why.number as u32,
+            column: why.column,
         },
     }
 }

@@ -124,7 +124,7 @@ same-length-20 c = c .before .before .clear2 .kept .0 ∙ c .before .before .bef
 
 -- src/lib.rt:135:1
 returns-2 : tie.Need-returns-2
-returns-2 c = let A = c .before .before .before .before .before .before .before .before .before .before .before .before .before .before .before .before .before .before .before .before .before .before .before .before .before .before .before .before .before .before .before .before .before .before .before .before .before .before .before .before .before .before .before .before .before .before .before .before .before .before .before .before .before .before .before .before .before .before .before .before .before .before .before .before .before .before .before .before .before .before .before .before .before .before .before .before .args in let n = c .before .before .before .before .before .before .before .before .before .before .before .before .before .before .before .before .before .before .before .before .before .before .before .before .before .before .before .before .before .before .before .before .before .before .before .before .before .before .before .before .before .before .before .before .before .before .before .before .before .before .before .before .before .before .read-both in let k = c .before .before .before .before .before .before .before .before .before .before .before .before .before .before .before .before .before .before .before .before .before .before .before .clear-tables in pair-refused (A .rndf .now) (A .mdf .now) (lent (A .segments .now) (A .lanes .now) (A .zones .now) (A .spots .now) (A .points .now) (A .checkpoints .now) (A .stops .now) (A .exits .now)) (lent (n .last .1 .1 .0) (n .last .1 .1 .1 .0) (n .last .1 .1 .1 .1 .0) (n .last .1 .1 .1 .1 .1 .0) (n .last .1 .1 .1 .1 .1 .1 .0) (n .last .1 .1 .1 .1 .1 .1 .1 .0) (n .last .1 .1 .1 .1 .1 .1 .1 .1 .0) (n .last .1 .1 .1 .1 .1 .1 .1 .1 .1 .0)) (lent (k .last .0) (k .last .1 .0) (k .last .1 .1 .0) (k .last .1 .1 .1 .0) (k .last .1 .1 .1 .1 .0) (k .last .1 .1 .1 .1 .1 .0) (k .last .1 .1 .1 .1 .1 .1 .0) (k .last .1 .1 .1 .1 .1 .1 .1 .0)) (mission-lent (A .goals .now) (A .limits .now)) (mission-lent (n .last .1 .1 .1 .1 .1 .1 .1 .1 .1 .1 .0) (n .last .1 .1 .1 .1 .1 .1 .1 .1 .1 .1 .1 .0)) (mission-lent (c .before .before .before .before .before .before .clear .last .0) (c .before .before .clear2 .last .0)) _ _ _ (rw (c .before .before .before .before .before .before .before .before .before .before .before .before .before .before .before .before .before .before .before .before .before .before .before .before .before .before .before .before .before .before .before .before .before .reply2 .given .1) at (n .ensures)) (k .ensures) (λ i. lent (replicate (n .kept .1 .1 .0 i) 0) (replicate (n .kept .1 .1 .1 .0 i) 0) (replicate (n .kept .1 .1 .1 .1 .0 i) 0) (replicate (n .kept .1 .1 .1 .1 .1 .0 i) 0) (replicate (n .kept .1 .1 .1 .1 .1 .1 .0 i) (pos 0)) (replicate (n .kept .1 .1 .1 .1 .1 .1 .1 .0 i) 0) (replicate (n .kept .1 .1 .1 .1 .1 .1 .1 .1 .0 i) 0) (replicate (n .kept .1 .1 .1 .1 .1 .1 .1 .1 .1 .0 i) 0)) (λ i. mission-lent (c .before .before .before .before .before .before .clear .ensures i) (c .before .before .clear2 .ensures i)) (λ i. mission-lent (replicate (n .kept .1 .1 .1 .1 .1 .1 .1 .1 .1 .1 .0 i) 0) (replicate (n .kept .1 .1 .1 .1 .1 .1 .1 .1 .1 .1 .1 .0 i) 0))
+returns-2 c = let A = c .before .before .before .before .before .before .before .before .before .before .before .before .before .before .before .before .before .before .before .before .before .before .before .before .before .before .before .before .before .before .before .before .before .before .before .before .before .before .before .before .before .before .before .before .before .before .before .before .before .before .before .before .before .before .before .before .before .before .before .before .before .before .before .before .before .before .before .before .before .before .before .before .before .before .before .before .args in let n = c .before .before .before .before .before .before .before .before .before .before .before .before .before .before .before .before .before .before .before .before .before .before .before .before .before .before .before .before .before .before .before .before .before .before .before .before .before .before .before .before .before .before .before .before .before .before .before .before .before .before .before .before .before .before .read-both in let k = c .before .before .before .before .before .before .before .before .before .before .before .before .before .before .before .before .before .before .before .before .before .before .before .clear-tables in pair-refused (A .rndf .now) (A .mdf .now) (lent (A .segments .now) (A .lanes .now) (A .zones .now) (A .spots .now) (A .points .now) (A .checkpoints .now) (A .stops .now) (A .exits .now)) (lent (n .last .1 .1 .0) (n .last .1 .1 .1 .0) (n .last .1 .1 .1 .1 .0) (n .last .1 .1 .1 .1 .1 .0) (n .last .1 .1 .1 .1 .1 .1 .0) (n .last .1 .1 .1 .1 .1 .1 .1 .0) (n .last .1 .1 .1 .1 .1 .1 .1 .1 .0) (n .last .1 .1 .1 .1 .1 .1 .1 .1 .1 .0)) (lent (k .last .0) (k .last .1 .0) (k .last .1 .1 .0) (k .last .1 .1 .1 .0) (k .last .1 .1 .1 .1 .0) (k .last .1 .1 .1 .1 .1 .0) (k .last .1 .1 .1 .1 .1 .1 .0) (k .last .1 .1 .1 .1 .1 .1 .1 .0)) (mission-lent (A .goals .now) (A .limits .now)) (mission-lent (n .last .1 .1 .1 .1 .1 .1 .1 .1 .1 .1 .0) (n .last .1 .1 .1 .1 .1 .1 .1 .1 .1 .1 .1 .0)) (mission-lent (c .before .before .before .before .before .before .clear .last .0) (c .before .before .clear2 .last .0)) _ (rw (c .before .before .before .before .before .before .before .before .before .before .before .before .before .before .before .before .before .before .before .before .before .before .before .before .before .before .before .before .before .before .before .before .before .reply2 .given .1) at (n .ensures)) (k .ensures) (λ i. lent (replicate (n .kept .1 .1 .0 i) 0) (replicate (n .kept .1 .1 .1 .0 i) 0) (replicate (n .kept .1 .1 .1 .1 .0 i) 0) (replicate (n .kept .1 .1 .1 .1 .1 .0 i) 0) (replicate (n .kept .1 .1 .1 .1 .1 .1 .0 i) (pos 0)) (replicate (n .kept .1 .1 .1 .1 .1 .1 .1 .0 i) 0) (replicate (n .kept .1 .1 .1 .1 .1 .1 .1 .1 .0 i) 0) (replicate (n .kept .1 .1 .1 .1 .1 .1 .1 .1 .1 .0 i) 0)) (λ i. mission-lent (c .before .before .before .before .before .before .clear .ensures i) (c .before .before .clear2 .ensures i)) (λ i. mission-lent (replicate (n .kept .1 .1 .1 .1 .1 .1 .1 .1 .1 .1 .0 i) 0) (replicate (n .kept .1 .1 .1 .1 .1 .1 .1 .1 .1 .1 .1 .0 i) 0))
 
 pub read-pair-spec : {M : Type 1} → statement M
 read-pair-spec =
