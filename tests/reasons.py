@@ -19,7 +19,7 @@ def lines_of(path, pattern):
 
 def of_readme():
     """{number: words}"""
-    return {int(number): words for number, words in lines_of("README.md", r"^\| (\d+) \| (.+?) \| [^|]+ \|$")}
+    return {int(number): words for number, words in lines_of("README.md", r"^\| (\d+) \| ([^|]+?) \| [^|]+ \| [^|]+ \|$")}
 
 
 def of_definition():

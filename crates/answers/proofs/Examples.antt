@@ -1,17 +1,25 @@
 -- Sentences as they come out, letter by letter. Assumes nothing.
 use mathlib.Core.Path.{_≡_, refl}
+use mathlib.Core.List.{[]}
 use Rattle.terms.specs.Ascii.{ascii}
 use Rattle.number.specs.Decimal.{spell, decimal}
 use Rattle.number.specs.House.{houseInteger}
+use Rattle.scan.specs.Reach.{sameBytes}
+use Rattle.line.specs.Lines.{linesOf, dropCr}
+use Rattle.shown.specs.Shown.{shown-byte, shown, blank, blanks, picture, line-in, byte-from-42, byte-alone, byte-words}
 use Rattle.answers.specs.Reasons.{reason, reasons}
-use Rattle.answers.specs.Answers.{at-line, sentence, counted, next}
+use Rattle.answers.specs.Answers.{place, detail, why-of, sentence, counted, next}
 
-a-line : sentence (ascii "network.rndf") 9 12 ≡ ascii "network.rndf, line 9: the entry is no declared lane waypoint or perimeter point (12)\n"
-unfolding ascii sentence at-line reason reasons houseInteger decimal spell
+a-line : sentence (ascii "n.rndf") (ascii "a\n\tb  c\r\n") 2 12 5 ≡ ascii "n.rndf:2:5: the entry is no declared lane waypoint or perimeter point (12)\n\tb  c\n\t   ^\n"
+unfolding ascii sentence why-of detail place reason reasons houseInteger decimal spell line-in linesOf dropCr picture shown shown-byte blanks blank
 a-line = refl
 
-no-line : sentence (ascii "network.rndf") 0 1 ≡ ascii "network.rndf: the text is over 16,777,215 bytes (1)\n"
-unfolding ascii sentence at-line reason reasons houseInteger decimal spell
+a-byte : sentence (ascii "n.rndf") (ascii "a\\b") 1 4 2 ≡ ascii "n.rndf:1:2: a byte that is not allowed: a backslash (4)\na\\b\n ^\n"
+unfolding ascii sentence why-of detail place reason reasons houseInteger decimal spell line-in linesOf dropCr picture shown shown-byte blanks blank byte-words byte-alone byte-from-42 sameBytes
+a-byte = refl
+
+no-line : sentence (ascii "network.rndf") [] 0 1 0 ≡ ascii "network.rndf: the text is over 16,777,215 bytes (1)\n"
+unfolding ascii sentence why-of detail place reason reasons houseInteger decimal spell picture
 no-line = refl
 
 one-lane : counted 1 (ascii "lane") ≡ ascii "1 lane"

@@ -39,13 +39,13 @@ pub reason-settled : (number : ℕ) → SettledBy (reason number)
 reason-settled number = settled (reason number)
 
 -- `put_sentence`
-pub sentence-settled : (name : Bytes) (line number : ℕ) → SettledBy (sentence name line number)
-sentence-settled name line number = settled (sentence name line number)
+pub sentence-settled : (name text : Bytes) (line number column : ℕ) → SettledBy (sentence name text line number column)
+sentence-settled name text line number column = settled (sentence name text line number column)
 
 -- `put_rndf_answer`
-pub rndf-answer-settled : (name : Bytes) (reply : RndfReply) → SettledBy (rndf-answer name reply)
-rndf-answer-settled name reply = settled (rndf-answer name reply)
+pub rndf-answer-settled : (name text trouble : Bytes) (reply : RndfReply) → SettledBy (rndf-answer name text trouble reply)
+rndf-answer-settled name text trouble reply = settled (rndf-answer name text trouble reply)
 
 -- `put_pair_answer`
-pub pair-answer-settled : (rndf mdf : Bytes) (reply : PairReply) → SettledBy (pair-answer rndf mdf reply)
-pair-answer-settled rndf mdf reply = settled (pair-answer rndf mdf reply)
+pub pair-answer-settled : (rndf mdf rndf-text mdf-text : Bytes) (reply : PairReply) → SettledBy (pair-answer rndf mdf rndf-text mdf-text reply)
+pair-answer-settled rndf mdf rndf-text mdf-text reply = settled (pair-answer rndf mdf rndf-text mdf-text reply)

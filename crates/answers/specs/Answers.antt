@@ -1,7 +1,8 @@
--- WHAT A READER MUST BELIEVE. What a planner is told of a reply: one sentence, with the names of the files. Assumes nothing.
+-- WHAT A READER MUST BELIEVE. What a planner is told of a reply: one sentence, with the names of the files, and of a refusal the line. Assumes nothing.
 use mathlib.Core.List.{[], _++_}
-use Prim.Native.Nat.{ℕ}
-use lib.Dec.{eqb}
+use Prim.Native.Nat.{ℕ, _-_}
+use lib.Dec.{eqb, ltb}
+use lib.ListN.{length, drop}
 use Rattle.terms.specs.Ascii.{Bytes, ascii}
 use Rattle.terms.specs.Words.{pick}
 use Rattle.number.specs.House.{houseInteger}
@@ -12,20 +13,30 @@ use Rattle.replies.specs.declared.RndfReply.{RndfReply}
 use Rattle.replies.specs.declared.RndfReply.the-variants as Rndf
 use Rattle.replies.specs.declared.PairReply.{PairReply}
 use Rattle.replies.specs.declared.PairReply.the-variants as Pair
+use Rattle.shown.specs.Shown.{picture, line-in, byte-words}
 use Rattle.answers.specs.Reasons.{reason}
 
 -- ## A refusal
--- 01: 1, 11 and 19 have the line 0: no line is named
-unfoldable pub at-line : ℕ → Bytes
-at-line line = pick (eqb line 0) [] (ascii ", line " ++ houseInteger line)
+-- 01: 1, 11 and 19 have the line 0, and L7: they and 10 the column 0: what is 0 is not named
+unfoldable pub place : ℕ → Bytes
+place n = pick (eqb n 0) [] (ascii ":" ++ houseInteger n)
 
--- `network.rndf, line 9: the entry is no declared lane waypoint or perimeter point (12)`
-unfoldable pub sentence : (name : Bytes) (line number : ℕ) → Bytes
-sentence name line number = name ++ at-line line ++ ascii ": " ++ reason number ++ ascii " (" ++ houseInteger number ++ ascii ")\n"
+-- "for 4 the byte in words": `: a backslash`
+unfoldable pub detail : (line : Bytes) (number column : ℕ) → Bytes
+detail line number column = pick (eqb number 4) (ascii ": " ++ byte-words (drop (column - 1) line)) []
 
--- 01: "Each gives file (1 RNDF, 2 MDF), line, number."
-unfoldable pub refused : (rndf mdf : Bytes) → Refusal → Bytes
-refused rndf mdf why = sentence (pick (eqb (why .file) 1) rndf mdf) (why .line) (why .number)
+-- the reason and its number, and below them the line with a caret under the column
+unfoldable pub why-of : (line : Bytes) (number column : ℕ) → Bytes
+why-of line number column = reason number ++ detail line number column ++ ascii " (" ++ houseInteger number ++ ascii ")\n" ++ picture line column
+
+-- as compilers print it: `network.rndf:9:12: the entry is no declared lane waypoint or perimeter point (12)`, and the line of the file's text
+unfoldable pub sentence : (name text : Bytes) (line number column : ℕ) → Bytes
+sentence name text line number column = name ++ place line ++ place column ++ ascii ": " ++ why-of (line-in text line) number column
+
+-- 01: "Each gives file (1 RNDF, 2 MDF), line, number."; L7: "a column"
+unfoldable pub refused : (rndf mdf rndf-text mdf-text : Bytes) → Refusal → Bytes
+refused rndf mdf rndf-text mdf-text why =
+    pick (eqb (why .file) 1) (sentence rndf rndf-text (why .line) (why .number) (why .column)) (sentence mdf mdf-text (why .line) (why .number) (why .column))
 
 -- ## The rows used
 -- `1 lane`, `2 lanes`
@@ -51,10 +62,14 @@ unfoldable pub mission-counts : MissionCounts → Bytes
 mission-counts m = next (m .goals) (ascii "goal") ++ next (m .limits) (ascii "speed limit")
 
 -- ## The two replies
-unfoldable pub rndf-answer : (name : Bytes) → RndfReply → Bytes
-rndf-answer name (Rndf.Accepted c file) = name ++ ascii ": accepted; " ++ network-counts c ++ ascii "\n"
-rndf-answer name (Rndf.Refused why) = sentence name (why .line) (why .number)
+-- an RNDF, where this sentence says what is the matter with its MDF (none: nothing, or no MDF is asked for): what is wrong with the RNDF is told first
+unfoldable pub rndf-accepted : (name trouble : Bytes) → Counts → Bytes
+rndf-accepted name trouble c = pick (ltb 0 (length trouble)) trouble (name ++ ascii ": accepted; " ++ network-counts c ++ ascii "\n")
 
-unfoldable pub pair-answer : (rndf mdf : Bytes) → PairReply → Bytes
-pair-answer rndf mdf (Pair.Accepted c file m mission-file) = rndf ++ ascii " with " ++ mdf ++ ascii ": accepted; " ++ network-counts c ++ mission-counts m ++ ascii "\n"
-pair-answer rndf mdf (Pair.Refused why) = refused rndf mdf why
+unfoldable pub rndf-answer : (name text trouble : Bytes) → RndfReply → Bytes
+rndf-answer name text trouble (Rndf.Accepted c file) = rndf-accepted name trouble c
+rndf-answer name text trouble (Rndf.Refused why) = sentence name text (why .line) (why .number) (why .column)
+
+unfoldable pub pair-answer : (rndf mdf rndf-text mdf-text : Bytes) → PairReply → Bytes
+pair-answer rndf mdf rndf-text mdf-text (Pair.Accepted c file m mission-file) = rndf ++ ascii " with " ++ mdf ++ ascii ": accepted; " ++ network-counts c ++ mission-counts m ++ ascii "\n"
+pair-answer rndf mdf rndf-text mdf-text (Pair.Refused why) = refused rndf mdf rndf-text mdf-text why

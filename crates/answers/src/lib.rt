@@ -1,6 +1,6 @@
-// The readers' replies in plain words, one sentence each: `network.rndf, line 9: the entry is no declared lane waypoint or perimeter point (12)`, or
-// the rows used. What is put are the definitions of specs/ (Reasons: the words of each refusal number; Answers: the sentences), for every name and
-// every reply; nothing is required. Rests on `output` (each put ensures `Wrote`) and `replies`.
+// The readers' replies in plain words, one sentence each: `network.rndf:9:12: the entry is no declared lane waypoint or perimeter point (12)` with the
+// line and a caret below it, or the rows used. What is put are the definitions of specs/ (Reasons: the words of each refusal number; Answers: the sentences),
+// for every name, text and reply; nothing is required. Rests on `output` (each put ensures `Wrote`), `shown` and `replies`.
 use counts::Counts;
 use counts::MissionCounts;
 use output::put_byte;
@@ -9,12 +9,16 @@ use output::put_integer;
 use refusal::Refusal;
 use replies::PairReply;
 use replies::RndfReply;
+use shown::from_column;
+use shown::line_of;
+use shown::put_byte_words;
+use shown::put_picture;
 ghost use mathlib.Core.List.{_++_};
 ghost use Rattle.terms.specs.Ascii.{ascii};
 ghost use Rattle.output.specs.Pen.{pen, Wrote};
 ghost use Rattle.answers.specs.Reasons.{reason};
 ghost use Rattle.answers.specs.Parts.{reason-from};
-ghost use Rattle.answers.specs.Answers.{at-line, sentence, refused, counted, next, network-counts, mission-counts, rndf-answer, pair-answer};
+ghost use Rattle.answers.specs.Answers.{place, detail, why-of, sentence, refused, counted, next, network-counts, mission-counts, rndf-accepted, rndf-answer, pair-answer};
 
 // ## Refusals
 
@@ -128,38 +132,75 @@ fn put_reason_from_25(out: &mut [u8], at: usize, number: u8) -> usize
     }
 }
 
-// `, line 9`, and nothing for line 0.
-fn put_at_line(out: &mut [u8], at: usize, line: u32) -> usize
-    ensures { λ r. ⌜ Wrote (pen (now (out .entry)) at) (at-line line) (pen (now (out .exit)) r) ⌝ }
+// `:9`, and nothing for 0.
+fn put_place(out: &mut [u8], at: usize, n: u32) -> usize
+    ensures { λ r. ⌜ Wrote (pen (now (out .entry)) at) (place n) (pen (now (out .exit)) r) ⌝ }
 {
-    if line == 0 {
+    if n == 0 {
         return at;
     }
-    let a = put_bytes(out, at, b", line ");
-    put_integer(out, a, line)
+    let a = put_bytes(out, at, b":");
+    put_integer(out, a, n)
 }
 
-// The sentence of a refusal: the file's name, the line, the reason and the number.
-pub fn put_sentence(out: &mut [u8], at: usize, name: &[u8], line: u32, number: u8) -> usize
-    ensures { λ r. ⌜ Wrote (pen (now (out .entry)) at) (sentence (now (name .entry)) line number) (pen (now (out .exit)) r) ⌝ }
+// `: a backslash`, for 4 alone: the byte of the line at this column.
+fn put_detail(out: &mut [u8], at: usize, line: &[u8], number: u8, column: u32) -> usize
+    ensures { λ r. ⌜ Wrote (pen (now (out .entry)) at) (detail (now (line .entry)) number column) (pen (now (out .exit)) r) ⌝ }
+{
+    if number != 4 {
+        return at;
+    }
+    let a = put_bytes(out, at, b": ");
+    put_byte_words(out, a, from_column(line, column))
+}
+
+// The reason and the number, and below them the line with a caret.
+fn put_why(out: &mut [u8], at: usize, line: &[u8], number: u8, column: u32) -> usize
+    ensures { λ r. ⌜ Wrote (pen (now (out .entry)) at) (why-of (now (line .entry)) number column) (pen (now (out .exit)) r) ⌝ }
+{
+    let a = put_reason(out, at, number);
+    let b = put_detail(out, a, line, number, column);
+    let c = put_bytes(out, b, b" (");
+    let d = put_integer(out, c, number as u32);
+    let e = put_bytes(out, d, b")\n");
+    put_picture(out, e, line, column)
+}
+
+// The sentence of a refusal: the file's name, the line, the column, the reason, and the line of the file's text.
+pub fn put_sentence(
+    out: &mut [u8],
+    at: usize,
+    name: &[u8],
+    text: &[u8],
+    line: u32,
+    number: u8,
+    column: u32,
+) -> usize
+    ensures { λ r. ⌜ Wrote (pen (now (out .entry)) at) (sentence (now (name .entry)) (now (text .entry)) line number column) (pen (now (out .exit)) r) ⌝ }
 {
     let a = put_bytes(out, at, name);
-    let b = put_at_line(out, a, line);
-    let c = put_bytes(out, b, b": ");
-    let d = put_reason(out, c, number);
-    let e = put_bytes(out, d, b" (");
-    let f = put_integer(out, e, number as u32);
-    put_bytes(out, f, b")\n")
+    let b = put_place(out, a, line);
+    let c = put_place(out, b, column);
+    let d = put_bytes(out, c, b": ");
+    put_why(out, d, line_of(text, line), number, column)
 }
 
 // The sentence of a pair's refusal, with the name of the file that it is about.
-fn put_refused(out: &mut [u8], at: usize, rndf: &[u8], mdf: &[u8], why: Refusal) -> usize
-    ensures { λ r. ⌜ Wrote (pen (now (out .entry)) at) (refused (now (rndf .entry)) (now (mdf .entry)) why) (pen (now (out .exit)) r) ⌝ }
+fn put_refused(
+    out: &mut [u8],
+    at: usize,
+    rndf: &[u8],
+    mdf: &[u8],
+    rndf_text: &[u8],
+    mdf_text: &[u8],
+    why: Refusal,
+) -> usize
+    ensures { λ r. ⌜ Wrote (pen (now (out .entry)) at) (refused (now (rndf .entry)) (now (mdf .entry)) (now («rndf_text» .entry)) (now («mdf_text» .entry)) why) (pen (now (out .exit)) r) ⌝ }
 {
     if why.file == 1 {
-        return put_sentence(out, at, rndf, why.line, why.number);
+        return put_sentence(out, at, rndf, rndf_text, why.line, why.number, why.column);
     }
-    put_sentence(out, at, mdf, why.line, why.number)
+    put_sentence(out, at, mdf, mdf_text, why.line, why.number, why.column)
 }
 
 // ## Rows used
@@ -207,22 +248,34 @@ fn put_mission_counts(out: &mut [u8], at: usize, m: MissionCounts) -> usize
 
 // ## Replies
 
-fn put_rndf_accepted(out: &mut [u8], at: usize, name: &[u8], c: Counts) -> usize
-    ensures { λ r. ⌜ Wrote (pen (now (out .entry)) at) (now (name .entry) ++ ascii ": accepted; " ++ network-counts c ++ ascii "\n") (pen (now (out .exit)) r) ⌝ }
+fn put_rndf_accepted(out: &mut [u8], at: usize, name: &[u8], trouble: &[u8], c: Counts) -> usize
+    ensures { λ r. ⌜ Wrote (pen (now (out .entry)) at) (rndf-accepted (now (name .entry)) (now (trouble .entry)) c) (pen (now (out .exit)) r) ⌝ }
 {
+    if 0 < trouble.len() {
+        return put_bytes(out, at, trouble);
+    }
     let a = put_bytes(out, at, name);
     let b = put_bytes(out, a, b": accepted; ");
     let d = put_network_counts(out, b, c);
     put_byte(out, d, b'\n')
 }
 
-// What an RNDF of this name gets.
-pub fn put_rndf_answer(out: &mut [u8], at: usize, name: &[u8], reply: RndfReply) -> usize
-    ensures { λ r. ⌜ Wrote (pen (now (out .entry)) at) (rndf-answer (now (name .entry)) reply) (pen (now (out .exit)) r) ⌝ }
+// What an RNDF of this name and text gets. `trouble` is the sentence of what is the matter with its MDF, empty where nothing is or none is asked for.
+pub fn put_rndf_answer(
+    out: &mut [u8],
+    at: usize,
+    name: &[u8],
+    text: &[u8],
+    trouble: &[u8],
+    reply: RndfReply,
+) -> usize
+    ensures { λ r. ⌜ Wrote (pen (now (out .entry)) at) (rndf-answer (now (name .entry)) (now (text .entry)) (now (trouble .entry)) reply) (pen (now (out .exit)) r) ⌝ }
 {
     match reply {
-        RndfReply::Accepted(c, _) => put_rndf_accepted(out, at, name, c),
-        RndfReply::Refused(why) => put_sentence(out, at, name, why.line, why.number),
+        RndfReply::Accepted(c, _) => put_rndf_accepted(out, at, name, trouble, c),
+        RndfReply::Refused(why) => {
+            put_sentence(out, at, name, text, why.line, why.number, why.column)
+        }
     }
 }
 
@@ -245,18 +298,20 @@ fn put_pair_accepted(
     put_byte(out, g, b'\n')
 }
 
-// What an RNDF and an MDF of these names get.
+// What an RNDF and an MDF of these names and texts get.
 pub fn put_pair_answer(
     out: &mut [u8],
     at: usize,
     rndf: &[u8],
     mdf: &[u8],
+    rndf_text: &[u8],
+    mdf_text: &[u8],
     reply: PairReply,
 ) -> usize
-    ensures { λ r. ⌜ Wrote (pen (now (out .entry)) at) (pair-answer (now (rndf .entry)) (now (mdf .entry)) reply) (pen (now (out .exit)) r) ⌝ }
+    ensures { λ r. ⌜ Wrote (pen (now (out .entry)) at) (pair-answer (now (rndf .entry)) (now (mdf .entry)) (now («rndf_text» .entry)) (now («mdf_text» .entry)) reply) (pen (now (out .exit)) r) ⌝ }
 {
     match reply {
         PairReply::Accepted(c, _, m, _) => put_pair_accepted(out, at, rndf, mdf, c, m),
-        PairReply::Refused(why) => put_refused(out, at, rndf, mdf, why),
+        PairReply::Refused(why) => put_refused(out, at, rndf, mdf, rndf_text, mdf_text, why),
     }
 }

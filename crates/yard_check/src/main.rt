@@ -1,8 +1,9 @@
-// The planners' program: `yard_check RNDF`, or `yard_check RNDF MDF`, names of files. It answers in one sentence on standard output: what is wrong, with the
-// file's name, the line, the reason and its number, or the rows used; or why a file could not be checked. `run-check` builds and runs it, and adds a status.
+// The planners' program: `yard_check RNDF`, or `yard_check RNDF MDF`, names of files. It answers on standard output: what is wrong, with the file's name, the
+// line, the column, the reason and its number, and below it the line with a caret; or the rows used; or why a file could not be checked. What is wrong with the
+// RNDF is told before anything about the MDF. `run-check` builds and runs it, and adds a status.
 //
-// Proved is what goes into the output: the sentence (crate `answers`) of what the readers (crate `reader`) reply to these bytes, specs/Tells. That the
-// bytes are the file's, and that the output is what is printed, no contract can say.
+// Proved is what goes into the output: the sentence (crate `answers`) of what the readers (crate `reader`) reply to these bytes, specs/Tells, and that of a file
+// that can't be taken (crate `files`). That the bytes are the file's, and that the output is what is printed, no contract can say.
 //
 // Memory: there is no heap, a program can't raise its stack, and the usual stack has 8 MiB. So a text may have 1,048,576 bytes, and every table has the
 // rows that a text of so many bytes can fill, so 11 should never come of it (counted by hand below, not proved; if it came, it would be told). A larger file is too big for this program; of an RNDF over 16,777,215 bytes the
@@ -10,9 +11,15 @@
 use answers::put_pair_answer;
 use answers::put_rndf_answer;
 use answers::put_sentence;
+use files::Loaded;
+use files::load;
+use files::load_rndf;
+use files::put_trouble;
 use libc::STDOUT_FILENO;
 use reader::read_pair;
 use reader::read_rndf;
+use scan::same;
+use shown::first;
 ghost use Rattle.law.specs.Tables.{lent, mission-lent};
 ghost use Rattle.yard_check.specs.Tells.{TellsRndf, TellsPair};
 
@@ -21,7 +28,7 @@ const MOST_BYTES: usize = 1048576;
 // The longest name that a system opens.
 const MOST_NAME: usize = 4095;
 
-// Room for two names (8,190 bytes) and ten counts with their words, or one name and a reason.
+// Room for two names (8,190 bytes) and ten counts with their words; or for one name, a reason, and a line of 513 bytes with what stands below it, four to each.
 const MOST_ANSWER: usize = 8704;
 
 // The words of each table: so many to a row, and as many rows as the shortest lines that give one leave room for, with their LFs. The shortest point
@@ -49,11 +56,12 @@ const LIMIT_WORDS: usize = 3 * 32768;
 
 // ## What is told of texts
 
-// An RNDF alone.
+// An RNDF without an MDF; `trouble` is the sentence of what is the matter with the MDF, if one is asked for.
 fn tell_rndf(
     out: &mut [u8],
     name: &[u8],
     text: &[u8],
+    trouble: &[u8],
     segments: &mut [u32; SEGMENT_WORDS],
     lanes: &mut [u32; LANE_WORDS],
     zones: &mut [u32; ZONE_WORDS],
@@ -63,7 +71,7 @@ fn tell_rndf(
     stops: &mut [u32; STOP_WORDS],
     exits: &mut [u32; EXIT_WORDS],
 ) -> usize
-    ensures { λ r. ⌜ TellsRndf (now (name .entry)) (now (text .entry)) (lent (now (segments .entry)) (now (lanes .entry)) (now (zones .entry)) (now (spots .entry)) (now (points .entry)) (now (checkpoints .entry)) (now (stops .entry)) (now (exits .entry))) (lent (now (segments .exit)) (now (lanes .exit)) (now (zones .exit)) (now (spots .exit)) (now (points .exit)) (now (checkpoints .exit)) (now (stops .exit)) (now (exits .exit))) (now (out .entry)) (now (out .exit)) r ⌝ }
+    ensures { λ r. ⌜ TellsRndf (now (name .entry)) (now (text .entry)) (now (trouble .entry)) (lent (now (segments .entry)) (now (lanes .entry)) (now (zones .entry)) (now (spots .entry)) (now (points .entry)) (now (checkpoints .entry)) (now (stops .entry)) (now (exits .entry))) (lent (now (segments .exit)) (now (lanes .exit)) (now (zones .exit)) (now (spots .exit)) (now (points .exit)) (now (checkpoints .exit)) (now (stops .exit)) (now (exits .exit))) (now (out .entry)) (now (out .exit)) r ⌝ }
 {
     let reply = read_rndf(
         text,
@@ -76,7 +84,7 @@ fn tell_rndf(
         stops,
         exits,
     );
-    put_rndf_answer(out, 0, name, reply)
+    put_rndf_answer(out, 0, name, text, trouble, reply)
 }
 
 // An RNDF with its MDF.
@@ -113,75 +121,38 @@ fn tell_pair(
         goals,
         limits,
     );
-    put_pair_answer(out, 0, rndf_name, mdf_name, reply)
+    put_pair_answer(out, 0, rndf_name, mdf_name, rndf, mdf, reply)
 }
 
 // ## Files
-
-// What came of a file: so many bytes of it, or why there are none.
-enum Loaded {
-    Bytes(usize),
-    NotAsked,
-    OverLimit,
-    TooBig,
-    Unreadable,
-}
 
 fn say(s: &[u8]) {
     io::write_all(STDOUT_FILENO, s);
 }
 
-// The first n bytes, or all of them.
-fn first(s: &[u8], n: usize) -> &[u8] {
-    if n < s.len() { &s[..n] } else { s }
+// What is the matter with a file, as `files` says it.
+fn put_matter(out: &mut [u8], name: &[u8], loaded: Loaded) -> usize {
+    put_trouble(
+        out,
+        0,
+        name,
+        b": the file is too big for this check, which takes up to 1,048,576 bytes\n",
+        loaded,
+    )
 }
 
-// Fills the lent text from an open file. A byte that is left over behind a full text makes it too big; where the file ends tells whether it is over
-// the readers' limit too (of a pipe that is not told).
-fn load_open(fd: i32, text: &mut [u8]) -> Loaded {
-    let n = io::read_full(fd, text);
-    let mut more = [0u8; 1];
-    let got = libc::read(fd, &mut more);
-    if got < 0 {
-        return Loaded::Unreadable;
-    }
-    if got == 0 {
-        return Loaded::Bytes(n);
-    }
-    if libc::lseek(fd, 0, libc::SEEK_END) > 16777215 {
-        Loaded::OverLimit
-    } else {
-        Loaded::TooBig
-    }
-}
-
-fn load(path: &[u8], text: &mut [u8]) -> Loaded {
-    let fd = os::open_read(path);
-    if fd < 0 {
-        return Loaded::Unreadable;
-    }
-    let loaded = load_open(fd, text);
-    libc::close(fd);
-    loaded
-}
-
-fn say_too_big(name: &[u8]) {
-    say(name);
-    say(b": the file is too big for this check, which takes up to 1,048,576 bytes\n");
-}
-
-fn say_unreadable(name: &[u8]) {
-    say(name);
-    say(b": the file can't be read\n");
-}
-
-fn say_over_limit(name: &[u8]) {
+fn say_matter(name: &[u8], loaded: Loaded) {
     let mut out = [0u8; MOST_ANSWER];
-    let n = put_sentence(&mut out, 0, name, 0, 1);
+    let n = put_matter(&mut out, name, loaded);
     say(first(&out, n));
 }
 
-// ## What is asked
+// Of an RNDF over the readers' limit.
+fn say_over_limit(name: &[u8]) {
+    let mut out = [0u8; MOST_ANSWER];
+    let n = put_sentence(&mut out, 0, name, b"", 0, 1, 0);
+    say(first(&out, n));
+}
 
 // The MDF, if it is asked for.
 fn load_asked(asked: bool, path: &[u8], text: &mut [u8]) -> Loaded {
@@ -191,8 +162,17 @@ fn load_asked(asked: bool, path: &[u8], text: &mut [u8]) -> Loaded {
     Loaded::NotAsked
 }
 
-// The RNDF's text, the MDF's room, and what came of the MDF.
-fn judge(rndf_name: &[u8], mdf_name: &[u8], rndf: &[u8], mdf: &[u8], loaded: Loaded) {
+// ## What is asked
+
+// The RNDF's text, the MDF's room, and what came of the MDF: its bytes, or what is the matter with it.
+fn judge(
+    rndf_name: &[u8],
+    mdf_name: &[u8],
+    rndf: &[u8],
+    mdf: &[u8],
+    loaded: Loaded,
+    trouble: &[u8],
+) {
     let mut segments = [0u32; SEGMENT_WORDS];
     let mut lanes = [0u32; LANE_WORDS];
     let mut zones = [0u32; ZONE_WORDS];
@@ -230,6 +210,7 @@ fn judge(rndf_name: &[u8], mdf_name: &[u8], rndf: &[u8], mdf: &[u8], loaded: Loa
                 &mut out,
                 rndf_name,
                 rndf,
+                trouble,
                 &mut segments,
                 &mut lanes,
                 &mut zones,
@@ -247,22 +228,42 @@ fn judge(rndf_name: &[u8], mdf_name: &[u8], rndf: &[u8], mdf: &[u8], loaded: Loa
 fn with_network(rndf_name: &[u8], mdf_name: &[u8], rndf: &[u8], asked: bool) {
     let mut mission = [0u8; MOST_BYTES];
     let loaded = load_asked(asked, mdf_name, &mut mission);
-    match loaded {
-        Loaded::TooBig | Loaded::OverLimit => say_too_big(mdf_name),
-        Loaded::Unreadable => say_unreadable(mdf_name),
-        _ => judge(rndf_name, mdf_name, rndf, &mission, loaded),
-    }
+    let mut trouble = [0u8; MOST_ANSWER];
+    let n = put_matter(&mut trouble, mdf_name, loaded);
+    judge(
+        rndf_name,
+        mdf_name,
+        rndf,
+        &mission,
+        loaded,
+        first(&trouble, n),
+    );
 }
 
 fn with_names(rndf_name: &[u8], mdf_name: &[u8], asked: bool) {
     let mut network = [0u8; MOST_BYTES];
-    let loaded = load(rndf_name, &mut network);
+    let loaded = load_rndf(rndf_name, &mut network);
     match loaded {
         Loaded::Bytes(n) => with_network(rndf_name, mdf_name, first(&network, n), asked),
         Loaded::OverLimit => say_over_limit(rndf_name),
-        Loaded::TooBig => say_too_big(rndf_name),
-        _ => say_unreadable(rndf_name),
+        _ => say_matter(rndf_name, loaded),
     }
+}
+
+fn is_help(name: &[u8]) -> bool {
+    same(name, b"--help") | same(name, b"-h")
+}
+
+fn say_help() {
+    say(
+        b"Name an RNDF file, and behind it an MDF file if both are to be checked: run-check RNDF [MDF]\n",
+    );
+    say(
+        b"The answer is what is wrong first, as FILE:LINE:COLUMN: reason (NUMBER) and that line with a caret under the column; or what the files hold.\n",
+    );
+    say(
+        b"A file may have up to 1,048,576 bytes. The status is 0 accepted, 1 refused, 2 not checked.\n",
+    );
 }
 
 fn with_arguments(asked: bool) {
@@ -276,6 +277,8 @@ fn with_arguments(asked: bool) {
         say(b"The RNDF file's name is over 4,095 bytes.\n");
     } else if mdf_error == libc::ENAMETOOLONG {
         say(b"The MDF file's name is over 4,095 bytes.\n");
+    } else if is_help(first(&rndf_name, n)) {
+        say_help();
     } else {
         with_names(first(&rndf_name, n), first(&mdf_name, m), asked);
     }

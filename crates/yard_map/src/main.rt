@@ -1,5 +1,5 @@
-// The planners' map: `yard_map RNDF`, the name of a file. It prints the network's map (GeoJSON, docs/GEOJSON.md) on standard output; or, on standard error, one sentence:
-// what is wrong, with the file's name, the line, the reason and its number, in the words of `yard_check`; or why the file could not be read. Standard output is then
+// The planners' map: `yard_map RNDF`, the name of a file. It prints the network's map (GeoJSON, docs/GEOJSON.md) on standard output; or, on standard error, what
+// is wrong, with the file's name, the line, the column, the reason and its number, in the words of `yard_check`; or why the file could not be taken. Standard output is then
 // empty. `run-map` builds and runs it, and adds a status.
 //
 // Nothing is promised of what is printed (no contract can say it); what is written is `write_map`'s, and proved there.
@@ -8,9 +8,13 @@
 // output has eight bytes to each of the text: 11 and 19 should never come of it (counted by hand, not proved; if they came, they would be told). A larger file is too big for
 // this program; of one over 16,777,215 bytes the answer is known without it: 1.
 use answers::put_sentence;
+use files::Loaded;
+use files::load;
+use files::put_trouble;
 use libc::STDERR_FILENO;
 use libc::STDOUT_FILENO;
 use map_writer::write_map;
+use shown::first;
 use writings::WriteReply;
 
 const MOST_BYTES: usize = 524288;
@@ -21,8 +25,8 @@ const MOST_MAP: usize = 8 * MOST_BYTES;
 // The longest name that a system opens.
 const MOST_NAME: usize = 4095;
 
-// Room for a name and a reason.
-const MOST_ANSWER: usize = 4608;
+// Room for a name, a reason, and a line of 513 bytes with what stands below it, four to each.
+const MOST_ANSWER: usize = 8704;
 
 // The words of each table, as in `yard_check`.
 const SEGMENT_WORDS: usize = 4 * (MOST_BYTES / 92 + 1);
@@ -41,64 +45,28 @@ const STOP_WORDS: usize = MOST_BYTES / 11 + 1;
 
 const EXIT_WORDS: usize = 2 * (MOST_BYTES / 17 + 1);
 
-// ## Files
-
-// What came of a file: so many bytes of it, or why there are none.
-enum Loaded {
-    Bytes(usize),
-    OverLimit,
-    TooBig,
-    Unreadable,
-}
-
-// The first n bytes, or all of them.
-fn first(s: &[u8], n: usize) -> &[u8] {
-    if n < s.len() { &s[..n] } else { s }
-}
-
-// Fills the lent text from an open file. A byte that is left over behind a full text makes it too big; where the file ends tells whether it is over
-// the readers' limit too (of a pipe that is not told).
-fn load_open(fd: i32, text: &mut [u8]) -> Loaded {
-    let n = io::read_full(fd, text);
-    let mut more = [0u8; 1];
-    let got = libc::read(fd, &mut more);
-    if got < 0 {
-        return Loaded::Unreadable;
-    }
-    if got == 0 {
-        return Loaded::Bytes(n);
-    }
-    if libc::lseek(fd, 0, libc::SEEK_END) > 16777215 {
-        Loaded::OverLimit
-    } else {
-        Loaded::TooBig
-    }
-}
-
-fn load(path: &[u8], text: &mut [u8]) -> Loaded {
-    let fd = os::open_read(path);
-    if fd < 0 {
-        return Loaded::Unreadable;
-    }
-    let loaded = load_open(fd, text);
-    libc::close(fd);
-    loaded
-}
-
 // ## What is said instead of a map
 
 fn say(s: &[u8]) {
     io::write_all(STDERR_FILENO, s);
 }
 
-fn say_of(name: &[u8], s: &[u8]) {
-    say(name);
-    say(s);
+fn say_refused(name: &[u8], text: &[u8], line: u32, number: u8, column: u32) {
+    let mut out = [0u8; MOST_ANSWER];
+    let n = put_sentence(&mut out, 0, name, text, line, number, column);
+    say(first(&out, n));
 }
 
-fn say_refused(name: &[u8], line: u32, number: u8) {
+// What is the matter with the file.
+fn say_matter(name: &[u8], loaded: Loaded) {
     let mut out = [0u8; MOST_ANSWER];
-    let n = put_sentence(&mut out, 0, name, line, number);
+    let n = put_trouble(
+        &mut out,
+        0,
+        name,
+        b": the file is too big for this program, which takes up to 524,288 bytes\n",
+        loaded,
+    );
     say(first(&out, n));
 }
 
@@ -159,7 +127,7 @@ fn show(name: &[u8], text: &[u8]) {
     );
     match reply {
         WriteReply::Written(_, _, n) => print(&out, n),
-        WriteReply::Refused(why) => say_refused(name, why.line, why.number),
+        WriteReply::Refused(why) => say_refused(name, text, why.line, why.number, why.column),
     }
 }
 
@@ -168,12 +136,8 @@ fn with_name(name: &[u8]) {
     let loaded = load(name, &mut text);
     match loaded {
         Loaded::Bytes(n) => show(name, first(&text, n)),
-        Loaded::OverLimit => say_refused(name, 0, 1),
-        Loaded::TooBig => say_of(
-            name,
-            b": the file is too big for this program, which takes up to 524,288 bytes\n",
-        ),
-        Loaded::Unreadable => say_of(name, b": the file can't be read\n"),
+        Loaded::OverLimit => say_refused(name, b"", 0, 1, 0),
+        _ => say_matter(name, loaded),
     }
 }
 

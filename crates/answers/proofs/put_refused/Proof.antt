@@ -14,7 +14,7 @@ same-length : tie.Need-same-length
 same-length c = c .before .before .put-sentence .kept .0
 
 returns : tie.Need-returns
-returns c = same (of-rndf _ _ (c .before .before .before .before .before .before .before .before .before .args .why) (c .before .before .before .before .if1 .taken)) (c .before .before .put-sentence .ensures)
+returns c = same (of-rndf _ _ _ _ (c .before .before .before .before .before .before .before .before .before .before .before .args .why) (c .before .before .before .before .if1 .taken)) (c .before .before .put-sentence .ensures)
 
 put-sentence-requires-2 : tie.Need-put-sentence-requires-2
 put-sentence-requires-2 c κs = tt
@@ -23,7 +23,7 @@ same-length-2 : tie.Need-same-length-2
 same-length-2 c = c .before .before .put-sentence2 .kept .0
 
 returns-2 : tie.Need-returns-2
-returns-2 c = same (of-mdf _ _ (c .before .before .before .before .before .before .before .before .before .args .why) (c .before .before .before .before .if1 .left)) (c .before .before .put-sentence2 .ensures)
+returns-2 c = same (of-mdf _ _ _ _ (c .before .before .before .before .before .before .before .before .before .before .before .args .why) (c .before .before .before .before .if1 .left)) (c .before .before .put-sentence2 .ensures)
 
 pub put-refused-spec : {M : Type 1} → statement M
 put-refused-spec =

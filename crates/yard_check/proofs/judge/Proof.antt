@@ -7,7 +7,7 @@ use Rattle.yard_check.proofs.judge.Statement.{statement}
 use Rattle.yard_check.proofs.judge.Tie as tie
 use Rattle.yard_check.proofs.judge.Reads as reads
 use Rattle.yard_check.proofs.judge.Lts as lts
-use Rattle.yard_check.proofs.first.Reads as first-reads
+use Rattle.shown.proofs.first.Reads as first-reads
 use Rattle.yard_check.proofs.say.Reads as say-reads
 use Rattle.yard_check.proofs.tell_pair.Reads as tell-pair-reads
 use Rattle.yard_check.proofs.tell_rndf.Reads as tell-rndf-reads

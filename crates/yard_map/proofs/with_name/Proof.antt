@@ -26,26 +26,14 @@ show-requires c κs = tt
 enum-told : tie.Need-enum-told
 enum-told c = c .match .keys2
 
+slice-aggregate-say-refused : tie.Need-slice-aggregate-say-refused
+slice-aggregate-say-refused c = refl
+
 say-refused-requires : tie.Need-say-refused-requires
 say-refused-requires c κs = tt
 
-enum-told-2 : tie.Need-enum-told-2
-enum-told-2 c = c .match .keys3
-
-slice-aggregate-say-of : tie.Need-slice-aggregate-say-of
-slice-aggregate-say-of c = refl
-
-say-of-requires : tie.Need-say-of-requires
-say-of-requires c κs = tt
-
-enum-told-3 : tie.Need-enum-told-3
-enum-told-3 c = c .match .keys4
-
-slice-aggregate-say-of-2 : tie.Need-slice-aggregate-say-of-2
-slice-aggregate-say-of-2 c = refl
-
-say-of-requires-2 : tie.Need-say-of-requires-2
-say-of-requires-2 c κs = tt
+say-matter-requires : tie.Need-say-matter-requires
+say-matter-requires c κs = tt
 
 returns : tie.Need-returns
 returns c = tt
@@ -55,9 +43,6 @@ returns-2 c = tt
 
 returns-3 : tie.Need-returns-3
 returns-3 c = tt
-
-returns-4 : tie.Need-returns-4
-returns-4 c = tt
 
 pub with-name-spec : {M : Type 1} → statement M
 with-name-spec =
@@ -70,14 +55,9 @@ with-name-spec =
     first-requires
     show-requires
     enum-told
+    slice-aggregate-say-refused
     say-refused-requires
-    enum-told-2
-    slice-aggregate-say-of
-    say-of-requires
-    enum-told-3
-    slice-aggregate-say-of-2
-    say-of-requires-2
+    say-matter-requires
     returns
     returns-2
-    returns-3
-    returns-4)
+    returns-3)

@@ -1,0 +1,2 @@
+-- What is told of a file that can't be taken.
+pub mod Troubles

@@ -1,0 +1,2 @@
+-- A line as planners see it, and a byte in words.
+pub mod Shown
