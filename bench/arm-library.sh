@@ -34,7 +34,7 @@ chmod +x "$shadow/on/$machine/toolchain/bin/clang"
 "$real" -x ir "$work/library.bc" -S -emit-llvm -O0 -Xclang -disable-llvm-passes -o "$work/library.ll"
 sed -e "s/^target triple = .*/target triple = \"$machine-unknown-linux-gnu\"/" -e '/^target datalayout/d' -e 's/"target-cpu"="[^"]*"//g; s/"target-features"="[^"]*"//g; s/"tune-cpu"="[^"]*"//g' \
     "$work/library.ll" | awk '
-    /^define noundef ptr @kastepuhm_/ { sub(/noundef ptr/, "void"); sub(/ptr noundef %a0/, "ptr sret([29 x i32]) align 4 %a0"); answers = 1 }
+    /^define noundef ptr @kastepuhm_/ { sub(/noundef ptr/, "void"); sub(/ptr noundef %a0/, "ptr sret([30 x i32]) align 4 %a0"); answers = 1 }
     /^}/ { answers = 0 }
     answers && /^ *ret ptr/ { print "  ret void"; next }
     { print }' >"$work/arm.ll"

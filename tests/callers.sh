@@ -75,8 +75,8 @@ untidy "$a/mission.mdf" >"$work/untidy.mdf"
 spaced() { awk '{ line = ""; while ((at = index($0, "\t")) > 0) { line = line substr($0, 1, at - 1) substr("        ", 1, 1 + n++ % 8); $0 = substr($0, at + 1) } print line $0 }' "$1"; }
 spaced "$a/network.rndf" >"$work/spaced.rndf"
 spaced "$a/mission.mdf" >"$work/spaced.mdf"
-echo 'refused 1 9 12' >"$work/entry"
-echo 'refused 2 5 15' >"$work/goal"
+echo 'refused 1 9 12 12' >"$work/entry"
+echo 'refused 2 5 15 1' >"$work/goal"
 echo 'no file' >"$work/missing"
 
 compare 'yard A' "$here/expected/yard_a" "$a/network.rndf" "$a/mission.mdf"
@@ -101,21 +101,21 @@ once='ok 1 0 1 2 0 1 0 1 1 1' twice='ok 1 0 1 2 0 1 0 1 2 1'
 route "$a/mission.mdf" "$once" 0 0 1
 route "$a/mission.mdf" "$once" 0 0 1 0 1
 route "$a/mission.mdf" "$once" 1 1
-route "$a/mission.mdf" 'refused 0 0 21' 0
-route "$a/mission.mdf" 'refused 0 0 21' 0 1
-route "$a/mission.mdf" 'refused 0 0 21' 2 2
-route "$a/mission.mdf" 'refused 0 1 22' 0 0 0
-route "$a/mission.mdf" 'refused 0 1 22' 0 0 2
-route "$a/mission.mdf" 'refused 0 2 22' 0 0 1 4294967295 1
-route "$a/mission.mdf" 'refused 0 0 23' 0 0
-route "$a/mission.mdf" 'refused 0 0 24' 0 0 1 0
+route "$a/mission.mdf" 'refused 0 0 21 0' 0
+route "$a/mission.mdf" 'refused 0 0 21 0' 0 1
+route "$a/mission.mdf" 'refused 0 0 21 0' 2 2
+route "$a/mission.mdf" 'refused 0 1 22 0' 0 0 0
+route "$a/mission.mdf" 'refused 0 1 22 0' 0 0 2
+route "$a/mission.mdf" 'refused 0 2 22 0' 0 0 1 4294967295 1
+route "$a/mission.mdf" 'refused 0 0 23 0' 0 0
+route "$a/mission.mdf" 'refused 0 0 24 0' 0 0 1 0
 # with the goal twice: one place meets one goal
 awk '/^7$/ { print } { sub(/^num_checkpoints\t1$/, "num_checkpoints\t2"); print }' "$a/mission.mdf" >"$work/twice.mdf"
-route "$work/twice.mdf" 'refused 0 1 23' 1 1
-route "$work/twice.mdf" 'refused 0 1 23' 1 1 0
+route "$work/twice.mdf" 'refused 0 1 23 0' 1 1
+route "$work/twice.mdf" 'refused 0 1 23 0' 1 1 0
 route "$work/twice.mdf" "$twice" 1 1 0 1
 # a pair that the reader refuses is refused as it does
-route "$work/goal.mdf" 'refused 2 5 15' 0 0 1
+route "$work/goal.mdf" 'refused 2 5 15 1' 0 0 1
 
 # document 01's cases, by the first line that a caller prints
 if command -v python3 >/dev/null; then

@@ -39,7 +39,7 @@ def house(rndf, mdf):
     written.append(oracle.write_rndf(rndf, oracle.SUMMARY_ROOM, LARGEST + 1))
     for reply in written:
         if not reply.accepted:
-            return b"refused %d %d %d\n" % reply.refusal
+            return b"refused %d %d %d %d\n" % reply.refusal
     return b"".join(bytes(w.output[:w.written]) for w in reversed(written))
 
 

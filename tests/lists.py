@@ -25,7 +25,7 @@ def main():
     at, differ = 0, 0
     for table, numbers, lent in cases:
         refusal, left = oracle.points_of(table, numbers, lent)
-        expected = words(*((0,) + refusal if refusal else (1, 0, 0, 0)), *left)
+        expected = words(*((0,) + refusal if refusal else (1, 0, 0, 0, 0)), *left)
         if given[at:at + len(expected)] != expected:
             differ += 1
             print("differs:", table, numbers, lent)

@@ -111,7 +111,7 @@ class Case:
                       else oracle.read_rndf(rndf, self.room))
 
     def answer(self):
-        return "ok" if self.reply.accepted else "%d %d %d" % self.reply.refusal
+        return "ok" if self.reply.accepted else "%d %d %d %d" % self.reply.refusal
 
     def key(self):
         return (self.files, "ok") if self.reply.accepted else self.reply.refusal[::2]
@@ -170,7 +170,7 @@ def run(label, r, m, want, room=WIDE):
     """A case with its answer worked out by hand; m is None for the RNDF alone."""
     as_bytes = lambda t: t if isinstance(t, bytes) else text(t)
     case = Case(label, 1 if m is None else 2, as_bytes(r), b"" if m is None else as_bytes(m), room)
-    if case.answer() != want:
+    if case.answer().split()[:len(want.split())] != want.split():       # L7's column is not always told
         collect.wrong.append("%s: by hand %s, oracle %s" % (label, want, case.answer()))
     collect.take(case)
 
@@ -203,14 +203,12 @@ def rooms():
         file = 2 if t in oracle.MDF_TABLES else 1
         short = "%d 0 11" % file
         for label, words in (("a number short", exact[t] - 1), ("a row short", exact[t] - S[t]),
-                             ("a row short and a number left over", exact[t] - S[t] + 1), ("empty", 0)):
+                             ("a row short and a number left over", exact[t] - S[t] + 1)):
             if words < exact[t]:
                 run("room: %s %s" % (t, label), YARD_D, MISSION_D, short, dict(exact, **{t: words}))
         run("room: %s a number short, the others wide" % t, YARD_D, MISSION_D, short, dict(wide, **{t: exact[t] - 1}))
         if file == 1:
             run("room: %s a number short, alone" % t, YARD_D, None, short, dict(exact, **{t: exact[t] - 1}))
-            run("room: %s a row short, alone" % t, YARD_D, None, short, dict(wide, **{t: exact[t] - S[t]}))
-        run("room: %s of 37 over" % t, YARD_D, MISSION_D, "ok", dict(exact, **{t: exact[t] + 37}))
     # what yard A does not need may be lent empty
     lean = {"segments": 4, "lanes": 5, "points": 4, "checkpoints": 2, "exits": 2, "goals": 1, "limits": 3}
     run("room: tables without rows lent empty", YARD_A, ROUND_1, "ok", lean)
@@ -459,22 +457,42 @@ def missions():
     run("yard C alone", YARD_C, None, "ok")
 
 
+def columns():
+    """L7: the field at fault, leftmost first; and the nine of document 01 with their columns."""
+    for n, line, want in ((9, "exit>1.1.2>1.1.3", "12 12"), (9, "exit>1.1.3>1.1.1", "9 6"), (9, "exit>1.1.3>0.1.1", "9 6"), (9, "exit>1.1.2>0.1.1", "9 12"),
+                          (9, "exit>1.1.3>1.1", "8 12"), (10, "1.1.1>91.000000>x", "8 17"), (10, "1.1.2>91.000000>200.000000", "9 1"),
+                          (10, "1.1.1>91.000000>200.000000", "9 7"), (10, "1.1.1>1.000000>200.000000", "9 16"), (8, "checkpoint>1.1.2>0", "9 18"),
+                          (8, "checkpoint>1.1.3>0", "9 12"), (8, "checkpoint>1.1.2>32769", "9 18"), (6, "lane>1.1>/* x", "3 10"), (12, "end_lane\\", "4 9"),
+                          (12, "end_lane>/* \x01 */", "4 13"), (12, ">>end_zone", "5 3"), (12, " > end_lane 1", "7 4"), (9, "  checkpoint 1.1.1   7", "13 22"),
+                          (9, " exit  1.1.2  1.1.3", "12 15"), (4, "a/b*", "4 4"), (4, "//* x", "3 2"), (4, "segment>1\r\r", "4 10"), (4, "x" * 513, "2 513")):
+        run("column: line %d is %s" % (n, line[:40]), put(YARD_A, n, line), None, "1 %d %s" % (n, want))
+    run("column: num_waypoints 3", put(YARD_A, 7, "num_waypoints>3"), None, "1 12 5 1")
+    run("column: num_waypoints 1", put(YARD_A, 7, "num_waypoints>1"), None, "1 8 9 12")
+    run("column: without end_file", YARD_A[:-1], None, "1 14 10 0")
+    run("column: given again", ins(YARD_A, 8, "lane_width>1", "  lane_width"), None, "1 9 6 3")
+    for n, line, want in ((2, "RNDF>yard_b", "14 6"), (2, " RNDF > yard", "14 9"), (5, "  8", "15 3"), (9, " 2>0>0", "16 2"), (9, "1>10>5", "9 6"), (9, "1>32769>0", "9 3"),
+                          (9, "1>5>32769", "9 5"), (9, "0>32769>5", "9 1"), (9, "0>x>5", "8 3"), (10, " end_speed_limits>1", "7 2")):
+        run("column: MDF line %d is %s" % (n, line), YARD_A, put(ROUND_1, n, line), "2 %d %s" % (n, want))
+    run("column: limit again", YARD_D, put(MISSION_D, 12, "  3>0>0"), "2 12 17 3")
+    run("column: limits short", YARD_D, put(cut(MISSION_D, 12), 9, "num_speed_limits>2")[:11] + [" end_speed_limits", "end_file"], "2 12 18 2")
+
+
 def spot_checkpoints():
     """L8: a spot has a checkpoint, on waypoint 2."""
     bare = cut(YARD_D, 32)
-    both("spot without its checkpoint", bare, "1 32 25")
-    for line, want in ((" > 3.1.1 1.000000 1.000000", "25"), ("3.1.1>91.000000>0.000000", "9"), ("3.1.1>x>0.000000", "8"), ("3.1.2>0.000000>0.000000", "9"),
-                       ("3.1.1>0.000000>0.000000>0", "7"), ("end_spot", "5"), ("3.1.1*", "4")):
+    both("spot without its checkpoint", bare, "1 32 25 1")
+    for line, want in ((" > 3.1.1 1.000000 1.000000", "25 4"), ("3.1.1>91.000000>0.000000", "9 7"), ("3.1.1>x>0.000000", "8 7"), ("3.1.2>0.000000>0.000000", "9 1"),
+                       ("3.1.1>0.000000>0.000000>0", "7 1"), ("end_spot", "5 1"), ("3.1.1*", "4 6")):
         run("spot without its checkpoint, then %s" % line, put(bare, 32, line), None, "1 32 " + want)
-    run("spot with a width alone", put(YARD_D, 32, "spot_width>9"), None, "1 33 25")
-    run("spot checkpoint on waypoint 1", put(YARD_D, 32, "checkpoint>3.1.1>1"), None, "1 32 9")
-    run("spot checkpoint on 2, then on 1", ins(YARD_D, 33, "checkpoint>3.1.1>2"), None, "1 33 6")
-    run("spot cut behind its line", YARD_D[:31], None, "1 32 10")
-    run("spot cut behind a bare waypoint", bare[:32], None, "1 32 25")
-    run("second of two spots bare", cut(YARD_B, 56), None, "1 56 25")
-    run("bare spot, a bad entry before", put(bare, 10, "exit>1.1.1>9.9.9"), None, "1 32 25")
-    run("bare spot and no room", bare, None, "1 32 25", {})
-    run("bare spot and no MDF", bare, b"", "1 32 25")
+    run("spot with a width alone", put(YARD_D, 32, "spot_width>9"), None, "1 33 25 1")
+    run("spot checkpoint on waypoint 1", put(YARD_D, 32, "checkpoint>3.1.1>1"), None, "1 32 9 12")
+    run("spot checkpoint on 2, then on 1", ins(YARD_D, 33, "checkpoint>3.1.1>2"), None, "1 33 6 1")
+    run("spot cut behind its line", YARD_D[:31], None, "1 32 10 0")
+    run("spot cut behind a bare waypoint", bare[:32], None, "1 32 25 1")
+    run("second of two spots bare", cut(YARD_B, 56), None, "1 56 25 1")
+    run("bare spot, a bad entry before", put(bare, 10, "exit>1.1.1>9.9.9"), None, "1 32 25 1")
+    run("bare spot and no room", bare, None, "1 32 25 1", {})
+    run("bare spot and no MDF", bare, b"", "1 32 25 1")
 
 
 def spread():
@@ -551,7 +569,7 @@ def mutants():
 
 
 def main():
-    for part in (rooms, entries, checkpoints, values, lines, edges, two_faults, missions, spot_checkpoints):
+    for part in (rooms, entries, checkpoints, values, lines, edges, two_faults, missions, columns, spot_checkpoints):
         part()
     cases.writer = collect
     for part in WHOLE:

@@ -70,7 +70,7 @@ MUTANTS = [
     ('len(text) <= out_len:', 'len(text) <= out_len + 1:'),
     ('text + bytes(out_len - len(text))', 'text + b"\\xa5" * (out_len - len(text))'),
     ('refuse(reply, Refused(file, 0, 19), room, names)', 'refuse(reply, Refused(1, 0, 19), room, names)'),
-    ('refuse(reply, Refused(file, 0, 19), room, names)', 'reply.accepted, reply.refusal = False, (file, 0, 19)'),
+    ('refuse(reply, Refused(file, 0, 19), room, names)', 'reply.accepted, reply.refusal = False, (file, 0, 19, 0)'),
     ('return Written(reply, None, bytes(out_len))', 'return Written(reply, None, b"\\xa5" * out_len)'),
 ]
 
@@ -104,7 +104,7 @@ class Case:
                 line += " file" + "".join(" %d" % n for n in reply.mission)
             line += " bytes %d" % whole.written
         else:
-            line = "refused %d %d %d" % whole.refusal
+            line = "refused %d %d %d %d" % whole.refusal
         used = lambda words: len(words) - next((i for i, w in enumerate(reversed(words)) if w), len(words))
         tables = "tables" + "".join(" %d" % used(whole.tables[t]) for t in ("segments", "points", "limits")[:self.mode + 1])
         kept = used(whole.output)

@@ -10,10 +10,10 @@
 #include <stdlib.h>
 
 #if defined(__STDC_VERSION__) && __STDC_VERSION__ >= 201112L
-_Static_assert(sizeof(kastepuhm_answer) == 28 * sizeof(uint32_t), "the library's answer has 28 words");
-_Static_assert(sizeof(kastepuhm_list_answer) == 4 * sizeof(uint32_t), "a list's answer has 4 words");
+_Static_assert(sizeof(kastepuhm_answer) == 29 * sizeof(uint32_t), "the library's answer has 29 words");
+_Static_assert(sizeof(kastepuhm_list_answer) == 5 * sizeof(uint32_t), "a list's answer has 5 words");
 _Static_assert(KASTEPUHM_GOAL_STRIDE == 1, "a goal's row is its number");
-_Static_assert(sizeof(kastepuhm_write_answer) == 29 * sizeof(uint32_t), "a writer's answer has one word more");
+_Static_assert(sizeof(kastepuhm_write_answer) == 30 * sizeof(uint32_t), "a writer's answer has one word more");
 #endif
 
 #define LENGTH(table) (sizeof(table) / sizeof((table)[0]))
@@ -192,7 +192,7 @@ static void print_house(const char *what, const kastepuhm_write_answer *w)
 {
     int end = 0;
     if (!w->answer.accepted) {
-        printf("house writing of the %s refused %" PRIu32 " %" PRIu32 " %" PRIu32 "\n", what, w->answer.file, w->answer.line, w->answer.number);
+        printf("house writing of the %s refused %" PRIu32 " %" PRIu32 " %" PRIu32 " %" PRIu32 "\n", what, w->answer.file, w->answer.line, w->answer.number, w->answer.column);
         return;
     }
     while ((uint32_t)end < w->length && house[end] != '\n')
@@ -205,7 +205,7 @@ static void print_map(const kastepuhm_write_answer *w)
     if (w->answer.accepted)
         printf("map of the network %" PRIu32 " bytes: %.*s\n", w->length, (int)w->length, (const char *)map);
     else
-        printf("map of the network refused %" PRIu32 " %" PRIu32 " %" PRIu32 "\n", w->answer.file, w->answer.line, w->answer.number);
+        printf("map of the network refused %" PRIu32 " %" PRIu32 " %" PRIu32 " %" PRIu32 "\n", w->answer.file, w->answer.line, w->answer.number, w->answer.column);
 }
 
 /* Where every number of the tables is 0, as after a refusal. */
@@ -228,7 +228,7 @@ static void print_route(size_t rndf_length, size_t mdf_length, char **words, int
     if (a.accepted)
         print_summary(&a);
     else
-        printf("refused %" PRIu32 " %" PRIu32 " %" PRIu32 "\n", a.file, a.line, a.number);
+        printf("refused %" PRIu32 " %" PRIu32 " %" PRIu32 " %" PRIu32 "\n", a.file, a.line, a.number, a.column);
     if ((a.accepted != 0) == (all_zero(lanes, LENGTH(lanes)) && all_zero(goals, LENGTH(goals))))
         printf("and the tables are not as they should be\n");
 }
@@ -255,7 +255,7 @@ int main(int count, char **words)
         a = kastepuhm_read_pair(rndf, rndf_length, mdf, mdf_length, segments, LENGTH(segments), lanes, LENGTH(lanes), zones, LENGTH(zones), spots, LENGTH(spots), points, LENGTH(points),
                                 checkpoints, LENGTH(checkpoints), stops, LENGTH(stops), exits, LENGTH(exits), goals, LENGTH(goals), limits, LENGTH(limits));
     if (!a.accepted) {
-        printf("refused %" PRIu32 " %" PRIu32 " %" PRIu32 "\n", a.file, a.line, a.number);
+        printf("refused %" PRIu32 " %" PRIu32 " %" PRIu32 " %" PRIu32 "\n", a.file, a.line, a.number, a.column);
         return 0;
     }
     print_summary(&a);

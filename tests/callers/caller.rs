@@ -28,6 +28,7 @@ mod kastepuhm {
         pub file: u32,
         pub line: u32,
         pub number: u32,
+        pub column: u32,
         pub segments: u32,
         pub lanes: u32,
         pub zones: u32,
@@ -64,6 +65,7 @@ mod kastepuhm {
         pub file: u32,
         pub line: u32,
         pub number: u32,
+        pub column: u32,
     }
 
     pub const NO_WIDTH: u32 = 65_535;
@@ -393,7 +395,7 @@ fn print_mission(a: &Answer, t: &Tables, text: &[u8]) {
 
 fn print_house(what: &str, w: &WriteAnswer, out: &[u8]) {
     if w.answer.accepted == 0 {
-        println!("house writing of the {what} refused {} {} {}", w.answer.file, w.answer.line, w.answer.number);
+        println!("house writing of the {what} refused {} {} {} {}", w.answer.file, w.answer.line, w.answer.number, w.answer.column);
         return;
     }
     let first = out[..w.length as usize].split(|&b| b == b'\n').next().unwrap_or(&[]);
@@ -402,7 +404,7 @@ fn print_house(what: &str, w: &WriteAnswer, out: &[u8]) {
 
 fn print_map(w: &WriteAnswer, out: &[u8]) {
     if w.answer.accepted == 0 {
-        println!("map of the network refused {} {} {}", w.answer.file, w.answer.line, w.answer.number);
+        println!("map of the network refused {} {} {} {}", w.answer.file, w.answer.line, w.answer.number, w.answer.column);
         return;
     }
     println!("map of the network {} bytes: {}", w.length, String::from_utf8_lossy(&out[..w.length as usize]));
@@ -424,7 +426,7 @@ fn run_route(network: &str, mission: &str, start: u32, route: &[u32]) -> Result<
     let (rndf, mdf, mut t) = (load(network)?, load(mission)?, tables());
     let a = kastepuhm::check_route(&rndf, &mdf, &mut t, start, route);
     if a.accepted == 0 {
-        println!("refused {} {} {}", a.file, a.line, a.number);
+        println!("refused {} {} {} {}", a.file, a.line, a.number, a.column);
     } else {
         print_summary(&a);
     }
@@ -443,7 +445,7 @@ fn run(network: &str, mission: Option<&str>) -> Result<(), &'static str> {
         None => kastepuhm::read_rndf(&rndf, &mut t),
     };
     if a.accepted == 0 {
-        println!("refused {} {} {}", a.file, a.line, a.number);
+        println!("refused {} {} {} {}", a.file, a.line, a.number, a.column);
         return Ok(());
     }
     print_summary(&a);

@@ -57,7 +57,7 @@ static void print_answer(const kastepuhm_answer *a, int pair)
     const kastepuhm_name file[] = {a->rndf_name, a->rndf_version, a->rndf_date};
     const kastepuhm_name mission[] = {a->mdf_name, a->mdf_rndf, a->mdf_version, a->mdf_date};
     if (!a->accepted) {
-        printf("refused %" PRIu32 " %" PRIu32 " %" PRIu32 "\n", a->file, a->line, a->number);
+        printf("refused %" PRIu32 " %" PRIu32 " %" PRIu32 " %" PRIu32 "\n", a->file, a->line, a->number, a->column);
         return;
     }
     printf("ok %" PRIu32 " %" PRIu32 " %" PRIu32 " %" PRIu32 " %" PRIu32, a->segments, a->zones, a->lanes, a->points, a->spots);

@@ -1,6 +1,6 @@
 /*
  * The look-up of lists (request L4), for tests/lists.py: cases from standard input, answers to standard output, all in 32-bit words of this machine. A case is how many words the table
- * has, how many numbers there are and how many points are lent, then the table and the numbers; its answer the four fields and every lent point, which are 9 before the call.
+ * has, how many numbers there are and how many points are lent, then the table and the numbers; its answer the five fields and every lent point, which are 9 before the call.
  * With the word `time` it prints instead how long 32,768 numbers over 32,768 rows take, and fifty over as many, the longest way (no row has the number).
  */
 #include "kastepuhm.h"

@@ -5,7 +5,9 @@
     compare.py --mutants COUNT SEED [SORT]  no library: do the cases notice each small mistake of tests/oracle/mutate.py (and maps.py, routes.py) in a copy of the oracle?
 
 Of every pair the reply, every name, every row count and every number of every lent table have to be the oracle's; every fourth RNDF is read alone as well. Each reply is counted by
-file and number. A case that differs is printed and kept in target/damage. The status is 0 if none differs and every refusal number came.
+file and number, each refusal's column (request L7) by what its line is like: whether tabs or spaces lead it, whether it has a comment, whether several of its fields are at fault, and
+which field the column is of. A case that differs is printed and kept in target/damage. The status is 0 if none differs and every refusal number came, those of a line also in a line that
+is led by tabs or spaces.
 
 The map is written too (request L2), of every second RNDF and of as many that are whole, into an output that is often just long enough or a byte too short: every byte of it has to
 be the oracle's. What was written is then read by Python's json and held to the network (tests/oracle/maps.py, which knows nothing of the oracle's writer): features and their order,
@@ -15,7 +17,7 @@ Routes (request L5), half as many as pairs, are judged over pairs that are mostl
 cases worked out by hand there are in the first block. Reply, names, counts and tables have to be the oracle's.
 
 A case for the program, little endian: 1 byte mode (1 RNDF alone, 2 pair, 3 map, 4 route); both texts' lengths (8 bytes each) and how many bytes of each are given (4 each); the ten
-tables' lengths and the output's (4 each); the start and how many points the route has (4 each); both texts' bytes; the route's points (4 each). Its answer: kastepuhm_write_answer (29 words), the lent tables' words, the output's bytes, one word that is 0 if nothing else was written.
+tables' lengths and the output's (4 each); the start and how many points the route has (4 each); both texts' bytes; the route's points (4 each). Its answer: kastepuhm_write_answer (30 words: the column stands behind the number), the lent tables' words, the output's bytes, one word that is 0 if nothing else was written.
 """
 import array
 import multiprocessing
@@ -35,10 +37,12 @@ ROOT = os.path.dirname(os.path.dirname(os.path.dirname(os.path.abspath(__file__)
 KEPT = os.path.join(ROOT, "target", "damage")
 BLOCK = 500
 NUMBERS = [*range(1, 20), 21, 22, 23, 24, 25]
+OF_A_LINE = [*range(3, 10), *range(12, 19), 25]     # the column hangs on what stands in the line
+LIKE = ["led", "comment", "several", "field 1", "field 2", "field 3"]
 MOST_KEPT = 20                      # cases that differ, of a block
 RNDF_ALONE, PAIR, MAP, ROUTE = 1, 2, 3, 4
 LABELS = {PAIR: "pair", RNDF_ALONE: "RNDF alone", MAP: "map", ROUTE: "route"}
-HEAD = struct.Struct("<29I")        # kastepuhm_write_answer
+HEAD = struct.Struct("<30I")        # kastepuhm_write_answer
 ROWS = ["segments", "lanes", "zones", "spots", "points", "checkpoints", "stops", "exits", "goals", "limits"]
 
 
@@ -131,7 +135,7 @@ def words(judged, mode, case):
     reply, written, output = judged
     if not reply.accepted:
         return HEAD.pack(0, *reply.refusal, *[0] * 25) + bytes(4 * sum(lent(mode, case))) + output + bytes(4)
-    head = HEAD.pack(1, 0, 0, 0, *[reply.used.get(t, 0) for t in ROWS], *reply.file, *(reply.mission or [0] * 8), written)
+    head = HEAD.pack(1, 0, 0, 0, 0, *[reply.used.get(t, 0) for t in ROWS], *reply.file, *(reply.mission or [0] * 8), written)
     tables = [array.array("i" if t == "points" else "I", reply.tables[t]) for t in ROWS if t in reply.tables]
     if sys.byteorder == "big":
         for table in tables:
@@ -145,7 +149,8 @@ def shown(answer, mode, case):
         return "no answer: the program ended"
     head = HEAD.unpack_from(answer)
     at = HEAD.size
-    out = ["accepted, rows %s, names %s, bytes written %d" % (head[4:14], head[14:28], head[28]) if head[0] else "refused %d %d %d" % head[1:4] + (", then %s" % (head[4:],) if any(head[4:]) else "")]
+    out = ["accepted, rows %s, names %s, bytes written %d" % (head[5:15], head[15:29], head[29]) if head[0]
+           else "refused %d %d %d %d" % head[1:5] + (", then %s" % (head[5:],) if any(head[5:]) else "")]
     for table, length in zip(ROWS, lent(mode, case)):
         out.append("  %s %s" % (table, struct.unpack_from("<%d%s" % (length, "i" if table == "points" else "I"), answer, at)))
         at += 4 * length
@@ -212,19 +217,57 @@ def on_waypoint_1(refusal, rndf):
     return bool(opened) and opened[-1][0] == b"spot" and lines[-1][0] == b"checkpoint" and lines[-1][1] == opened[-1][1] + b".1"
 
 
+class Watched(oracle.Lines):
+    """The oracle's lines; the last one whose fields were looked at is remembered, with their kinds."""
+    last = None
+
+    def values(self, line, kinds):
+        Watched.last = line, kinds
+        return super().values(line, kinds)
+
+
+oracle.Lines = Watched
+
+
+def fields_at_fault():
+    """Of the last line: the fields that are not of their kind, out of range, or found not to be permitted there."""
+    line, kinds = Watched.last
+    at_fault = set(line.off)
+    for field, kind in enumerate(kinds, len(line.fields) - len(kinds)):
+        spell, permitted = oracle.KINDS[kind]
+        value = spell(line.fields[field], line.starts[field])
+        if value is None or not permitted(value):
+            at_fault.add(field)
+    return at_fault
+
+
+def line_like(refusal, case):
+    """What the line of a refusal is like (LIKE)."""
+    file, line, number, column = refusal
+    if number not in OF_A_LINE:
+        return []
+    whole = (case.rndf if file == 1 else case.mdf).split(b"\n", line)[line - 1]
+    like = ["led"] * (whole[:1] in (b"\t", b" ")) + ["comment"] * (b"/*" in whole)
+    if number > 4:
+        like.append("field %d" % (len(whole[:column - 1].split()) + 1))
+    return like + ["several"] * (number in (8, 9) and len(fields_at_fault()) > 1)
+
+
 def run_block(job):
-    """Counts by reply, by kind of damage, by shape on the maps, of the 9 of L8, and what differs."""
+    """Counts by reply, by kind of damage, by shape on the maps, by column of a refusal and by what its line is like, and what differs."""
     program, seed, number, count, sorts = job
     cases = block_of(seed, number, count, sorts)
-    replies, kinds, shapes, on_1, differing = {}, {}, {}, {}, []
+    replies, kinds, shapes, columns, differing = {}, {}, {}, {}, []
     for k, ((mode, case), got) in enumerate(zip(cases, answers(program, cases))):
         judged = judge(oracle, mode, case)
         reply = judged[0]
         want = words(judged, mode, case)
         key = "ok" if reply.accepted else (reply.refusal[0], reply.refusal[2])
         replies[mode, key] = replies.get((mode, key), 0) + 1
-        if not reply.accepted and on_waypoint_1(reply.refusal, case.rndf):
-            on_1[mode] = on_1.get(mode, 0) + 1
+        if not reply.accepted:
+            for which in [reply.refusal[2]] + ["9 of L8"] * on_waypoint_1(reply.refusal, case.rndf):
+                for key in [reply.refusal[3]] + line_like(reply.refusal, case):
+                    columns[which, key] = columns.get((which, key), 0) + 1
         for kind in set(case.kinds) if has_mdf(mode) else ():
             drawn, taken = kinds.get((mode, kind), (0, 0))
             kinds[mode, kind] = (drawn + 1, taken + reply.accepted)
@@ -235,10 +278,10 @@ def run_block(job):
             differing.append(keep(seed, number, k, mode, case, want, got) if len(differing) < MOST_KEPT else "DIFFERS")
         if by_json:
             differing.append("DIFFERS by json, case %d of block %d: %s" % (k, number, "; ".join(by_json)[:300]))
-    return replies, kinds, shapes, on_1, differing
+    return replies, kinds, shapes, columns, differing
 
 
-def print_counts(replies, kinds, shapes, on_1):
+def print_counts(replies, kinds, shapes, columns):
     def of(mode, key):
         return replies.get((mode, key), 0)
     print("\n%-12s %10s %10s %12s %8s %8s" % ("reply", "pair: RNDF", "pair: MDF", "RNDF alone", "map", "route"))
@@ -246,11 +289,15 @@ def print_counts(replies, kinds, shapes, on_1):
     for number in NUMBERS:
         print("%-12d %10d %10d %12d %8d %8d" % (number, of(PAIR, (1, number)), of(PAIR, (2, number)), of(RNDF_ALONE, (1, number)), of(MAP, (1, number)),
                                                 sum(of(ROUTE, (file, number)) for file in (0, 1, 2))))
-    print("%-12s %10d %10d %12d %8d %8d" % ("9 of L8", on_1.get(PAIR, 0), 0, on_1.get(RNDF_ALONE, 0), on_1.get(MAP, 0), on_1.get(ROUTE, 0)))
     for mode in (PAIR, ROUTE):
         print("\n%-28s %8s %8s" % ("damage (%ss)" % LABELS[mode], "drawn", "accepted"))
         for (_, kind), (drawn, taken) in sorted(item for item in kinds.items() if item[0][0] == mode):
             print("%-28s %8d %8d" % (kind[:28], drawn, taken))
+    print("\n%-8s %8s %8s %s  %s" % ("refusal", "came", "columns", " ".join("%8s" % like for like in LIKE), "the commonest columns, and how often"))
+    for number in NUMBERS + ["9 of L8"]:
+        found = sorted(((n, column) for (one, column), n in columns.items() if one == number and column not in LIKE), reverse=True)
+        print("%-8s %8d %8d %s  %s" % (number, sum(n for n, _ in found), len(found), " ".join("%8d" % columns.get((number, like), 0) for like in LIKE),
+                                       ", ".join("%d: %d" % (column, n) for n, column in found[:5])))
     print("\n%-40s %8s" % ("on the maps", "came"))
     for shape, n in sorted(shapes.items()):
         print("%-40s %8d" % (shape, n))
@@ -258,15 +305,14 @@ def print_counts(replies, kinds, shapes, on_1):
 
 def compare(program, count, seed, sorts):
     jobs = [(program, seed, b, min(BLOCK, count - b * BLOCK), sorts) for b in range(-(-count // BLOCK))]
-    replies, kinds, shapes, on_1, differing, done = {}, {}, {}, {}, 0, 0
+    replies, kinds, shapes, columns, differing, done = {}, {}, {}, {}, 0, 0
     with multiprocessing.Pool(len(os.sched_getaffinity(0))) as pool:
-        for more, more_kinds, more_shapes, more_on_1, lines in pool.imap_unordered(run_block, jobs):
+        for more, more_kinds, more_shapes, more_columns, lines in pool.imap_unordered(run_block, jobs):
             for key, n in more.items():
                 replies[key] = replies.get(key, 0) + n
-            for shape, n in more_shapes.items():
-                shapes[shape] = shapes.get(shape, 0) + n
-            for mode, n in more_on_1.items():
-                on_1[mode] = on_1.get(mode, 0) + n
+            for counted, more_counted in (shapes, more_shapes), (columns, more_columns):
+                for key, n in more_counted.items():
+                    counted[key] = counted.get(key, 0) + n
             for kind, (drawn, taken) in more_kinds.items():
                 kinds[kind] = tuple(map(sum, zip(kinds.get(kind, (0, 0)), (drawn, taken))))
             for line in lines:
@@ -275,8 +321,10 @@ def compare(program, count, seed, sorts):
             done += 1
             if done % 40 == 0:
                 print("%d of %d blocks" % (done, len(jobs)), file=sys.stderr, flush=True)
-    print_counts(replies, kinds, shapes, on_1)
-    missing = [n for n in NUMBERS if sorts == list(SORTS) and not any(key != "ok" and key[1] == n for _, key in replies)]
+    print_counts(replies, kinds, shapes, columns)
+    missing = [n for n in NUMBERS if not any(key != "ok" and key[1] == n for _, key in replies)]
+    missing += ["%d in a line led by tabs or spaces" % n for n in OF_A_LINE if not columns.get((n, "led"))]
+    missing = missing if sorts == list(SORTS) else []
     if missing:
         print("never came: " + ", ".join(map(str, missing)))
     counts = [sum(n for (mode, _), n in replies.items() if mode == one) for one in (PAIR, RNDF_ALONE, ROUTE, MAP)]

@@ -59,6 +59,28 @@ def fields_off(rng, lines, file):
         lines[i][k] += b"x"
 
 
+def several_in_line(rng, lines, file):
+    """L7: several faults in one line, of one sort or of several, so that the lowest number and then the leftmost field is asked for."""
+    i = g.pick(rng, lines, lambda f: len(f) > 2)
+    fields = rng.choice(lines) if i is None else lines[i]
+    sorts = rng.choice([["value"], ["value"], ["value", "spelling"], ["value", "spelling", "byte", "comment", "count", "keyword"]])
+    for k in rng.sample(range(len(fields)), rng.randint(1, len(fields))):
+        sort, at = rng.choice(sorts), rng.randrange(len(fields[k]) + 1)
+        if sort == "value":                                 # well spelled, if it is a number, and mostly not permitted
+            whole, dot, rest = fields[k].partition(b".")
+            fields[k] = b"999.000000" if len(rest) == 6 else b".".join(rng.choice([b"0", b"32769", x]) if x.isdigit() else x for x in fields[k].split(b"."))
+        elif sort == "spelling":
+            fields[k] += rng.choice([b"x", b".", b"00000"])
+        elif sort == "byte":
+            fields[k] = fields[k][:at] + rng.choice([b"\\", b"*", b"\x00", b"\x7f", b"\r"]) + fields[k][at:]
+        elif sort == "comment":
+            fields[k] += rng.choice([b"/*", b"/*x*/y", b"/*\x01*/"])
+        elif sort == "count":
+            fields.append(fields[k])
+        else:
+            fields[0] = rng.choice(rng.choice(lines))
+
+
 def number_at_edge(rng, lines, file):
     """A number, or a part of an identifier, of a statement that is drawn first, so that rare statements have their turn."""
     keyword = rng.choice(sorted({f[0] for f in lines if len(f) > 1 and f[-1][-1:].isdigit() and not g.is_digit_line(f)}) or [b""])
@@ -259,6 +281,11 @@ def spaces_put(rng, text):
     return b"\n".join(lines)
 
 
+def indented(rng, text):
+    """L7: every line begins with a run of tabs and spaces, so that columns are not the usual ones. No damage by itself."""
+    return b"\n".join(g.run_of(rng, 6) + line for line in text.split(b"\n"))
+
+
 def byte_at_edge(rng, text):
     """A byte that is only just allowed, or only just not, in a field or a comment."""
     byte = bytes([rng.choice([0, 8, 9, 11, 13, 31, 32, 33, 41, 42, 43, 46, 47, 91, 92, 93, 125, 126, 127, 128, 255])])
@@ -286,7 +313,7 @@ EVERY, RNDF, MDF = (1, 2), (1,), (2,)
 # (kind, files, how often)
 LINES = [
     (g.d_field_edge, EVERY, 6), (number_at_edge, EVERY, 9), (g.d_field_near, EVERY, 6), (g.d_field_count, EVERY, 3), (g.d_field_swap, EVERY, 3), (field_dropped, EVERY, 5), (field_doubled, EVERY, 5),
-    (field_of_elsewhere, EVERY, 4), (number_spelled_otherwise, EVERY, 7), (fields_off, EVERY, 5), (width_or_number, RNDF, 9), (identifier_off, RNDF, 9),
+    (field_of_elsewhere, EVERY, 4), (number_spelled_otherwise, EVERY, 7), (fields_off, EVERY, 5), (several_in_line, EVERY, 10), (width_or_number, RNDF, 9), (identifier_off, RNDF, 9),
     (coordinate_at_edge, RNDF, 11), (count_off, EVERY, 5), (g.d_count, EVERY, 3), (counts_together, RNDF, 1),
     (g.d_delete, EVERY, 4), (g.d_double, EVERY, 4), (g.d_swap, EVERY, 4), (g.d_move, EVERY, 3), (g.d_copy, EVERY, 3), (g.d_cut, EVERY, 6), (g.d_tail, EVERY, 3),
     (lines_dropped, EVERY, 3), (lines_doubled, EVERY, 3), (lines_swapped, EVERY, 3), (part_dropped, EVERY, 3), (part_doubled, EVERY, 3),
@@ -328,10 +355,10 @@ def small_pair(rng):
     return {1: [list(f) for f in made.rndf_lines], 2: [list(f) for f in made.mdf_lines]}, g.random_room(rng, made, 2)
 
 
-def wide_pair(rng):
+def wide_pair(rng, which=None):
     """The same of a pair in which one part comes 32,768 times, the most that may be: an exit leads to the last point, a checkpoint has the largest number."""
     many = dict.fromkeys(["segments", "lanes", "waypoints", "zones", "spots", "perimeterpoints", "checkpoints"], 1)
-    which = rng.choice(sorted(many))
+    which = which or rng.choice(sorted(many))
     many[which] = 32768 if which != "zones" else 32767
     if which not in ("spots", "perimeterpoints"):
         many["spots"] = 0
@@ -369,6 +396,14 @@ def wide_pair(rng):
     return {1: rndf + [[b"end_file"]], 2: mdf}, {t: max(0, length) for t, length in room.items()}
 
 
+def crowded_pair(rng):
+    """The same in which all 32,768 checkpoint numbers are taken, and one more checkpoint has one of them (L7: the column is the number's)."""
+    lines, room = wide_pair(rng, "checkpoints")
+    last = max(i for i, fields in enumerate(lines[1]) if fields[0] == b"checkpoint")
+    lines[1].insert(last + 1, [b"checkpoint", b"1.1.1", b"%d" % rng.randint(1, 32768)])
+    return lines, {t: n + oracle.STRIDE[t] + 8 for t, n in room.items()}
+
+
 def make_case(rng, places=None, pair=small_pair):
     """A pair damaged in so many places: where not said, mostly one, often none, two or three."""
     lines, room = pair(rng)
@@ -388,6 +423,8 @@ def make_case(rng, places=None, pair=small_pair):
         case.room = {t: n + 5 * oracle.STRIDE[t] for t, n in case.room.items()}
     rough = rng.choice([0, 0, 0.3, 1])
     texts = {1: g.render(rng, lines[1], rough), 2: g.render(rng, lines[2], rough)}
+    if rng.random() < 0.2:
+        texts = {file: indented(rng, text) for file, text in texts.items()}
     for file, kind in late:
         texts[file] = kind(rng, texts[file])
     case.rndf, case.mdf = texts[1], texts[2]
@@ -410,10 +447,10 @@ def padded(text, length):
 
 
 def large_cases(rng):
-    """Wide pairs; and pairs of which a text really has 16,777,215 bytes, or one byte more. Half of them are damaged as well."""
-    cases = [make_case(rng, places, wide_pair) for places in (0, 1)]
-    for case in cases:
-        case.kinds.append("wide_pair")
+    """Wide and crowded pairs; and pairs of which a text really has 16,777,215 bytes, or one byte more. Half of them are damaged as well."""
+    cases = [make_case(rng, places, pair) for places, pair in ((0, wide_pair), (1, wide_pair), (0, crowded_pair))]
+    for case, kind in zip(cases, ("wide_pair", "wide_pair", "crowded_pair")):
+        case.kinds.append(kind)
     for rndf_length, mdf_length, places in [(LARGEST, None, 0), (None, LARGEST, 0), (LARGEST + 1, None, 0), (None, LARGEST + 1, 0), (LARGEST, LARGEST, 1), (LARGEST, LARGEST + 1, 1)]:
         case = make_case(rng, places)
         case.rndf = padded(case.rndf, rndf_length) if rndf_length else case.rndf

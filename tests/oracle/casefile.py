@@ -5,7 +5,7 @@ and MDF length, 3 bytes LE each; ten table lengths in numbers, 2 bytes LE each
 (segments, lanes, zones, spots, points, checkpoints, stops, exits, goals,
 limits; the last two 0 in mode 1); the RNDF's bytes; the MDF's bytes.
 
-expected.txt, per case: `case K`; then `refused F L N`, or `ok` with ten counts,
+expected.txt, per case: `case K`; then `refused F L N C`, or `ok` with ten counts,
 `file` and (mode 2) `mission`; then, accepted or refused, one line per lent
 table with all its numbers.
 """

@@ -37,8 +37,8 @@ def check(label, reply, want):
     seen_labels.add(label)
     if want is None:
         return
-    got = "ok" if reply.accepted else "%d %d %d" % reply.refusal
-    if got != want:
+    got = "ok" if reply.accepted else "%d %d %d %d" % reply.refusal
+    if got.split()[:len(want.split())] != want.split():     # L7's column is not always told
         wrong.append("%s: by hand %s, oracle %s" % (label, want, got))
 
 
@@ -82,25 +82,25 @@ def yard_a():
     rndf("yard B, RNDF alone", YARD_B, "ok")
     rndf("yard C, RNDF alone", YARD_C, "ok")
     # the nine P cases
-    pair("P entry 1.1.3", put(A, 9, "exit>1.1.2>1.1.3"), M, "1 9 12")
-    pair("P exit from 1.1.3", put(A, 9, "exit>1.1.3>1.1.1"), M, "1 9 9")
-    pair("P num_waypoints 3", put(A, 7, "num_waypoints>3"), M, "1 12 5")
-    pair("P num_waypoints 1", put(A, 7, "num_waypoints>1"), M, "1 8 9")
-    pair("P without end_file", A[:-1], M, "1 14 10")
-    pair("P empty RNDF", b"", M, "1 1 10")
-    pair("P line 8 twice", ins(A, 9, A[7]), M, "1 9 13")
-    pair("P goal 8", A, put(M, 5, "8"), "2 5 15")
-    pair("P limit 1 10 5", A, put(M, 9, "1>10>5"), "2 9 9")
+    pair("P entry 1.1.3", put(A, 9, "exit>1.1.2>1.1.3"), M, "1 9 12 12")
+    pair("P exit from 1.1.3", put(A, 9, "exit>1.1.3>1.1.1"), M, "1 9 9 6")
+    pair("P num_waypoints 3", put(A, 7, "num_waypoints>3"), M, "1 12 5 1")
+    pair("P num_waypoints 1", put(A, 7, "num_waypoints>1"), M, "1 8 9 12")
+    pair("P without end_file", A[:-1], M, "1 14 10 0")
+    pair("P empty RNDF", b"", M, "1 1 10 0")
+    pair("P line 8 twice", ins(A, 9, A[7]), M, "1 9 13 18")
+    pair("P goal 8", A, put(M, 5, "8"), "2 5 15 1")
+    pair("P limit 1 10 5", A, put(M, 9, "1>10>5"), "2 9 9 6")
     # the same where they exist for the RNDF alone
-    rndf("P alone entry 1.1.3", put(A, 9, "exit>1.1.2>1.1.3"), "1 9 12")
-    rndf("P alone exit from 1.1.3", put(A, 9, "exit>1.1.3>1.1.1"), "1 9 9")
-    rndf("P alone num_waypoints 3", put(A, 7, "num_waypoints>3"), "1 12 5")
-    rndf("P alone num_waypoints 1", put(A, 7, "num_waypoints>1"), "1 8 9")
-    rndf("P alone without end_file", A[:-1], "1 14 10")
-    rndf("P alone empty RNDF", b"", "1 1 10")
-    rndf("P alone line 8 twice", ins(A, 9, A[7]), "1 9 13")
+    rndf("P alone entry 1.1.3", put(A, 9, "exit>1.1.2>1.1.3"), "1 9 12 12")
+    rndf("P alone exit from 1.1.3", put(A, 9, "exit>1.1.3>1.1.1"), "1 9 9 6")
+    rndf("P alone num_waypoints 3", put(A, 7, "num_waypoints>3"), "1 12 5 1")
+    rndf("P alone num_waypoints 1", put(A, 7, "num_waypoints>1"), "1 8 9 12")
+    rndf("P alone without end_file", A[:-1], "1 14 10 0")
+    rndf("P alone empty RNDF", b"", "1 1 10 0")
+    rndf("P alone line 8 twice", ins(A, 9, A[7]), "1 9 13 18")
     # the R cases
-    pair("R yard_b in the MDF", A, put(M, 2, "RNDF>yard_b"), "2 2 14")
+    pair("R yard_b in the MDF", A, put(M, 2, "RNDF>yard_b"), "2 2 14 6")
     rndf("R name of 128", put(A, 1, "RNDF_name>" + "n" * 128), "ok")
     rndf("R name of 129", put(A, 1, "RNDF_name>" + "n" * 129), "1 1 8")
     pair("R name of 128, pair", put(A, 1, "RNDF_name>" + "n" * 128),
@@ -123,7 +123,7 @@ def lines_and_comments():
     pair("CR LF everywhere in both", text(A, "\r\n"), text(M, "\r\n"), "ok")
     rndf("unfinished last line with CR", text(A)[:-1] + b"\r", "ok")
     rndf("CR alone as last line", text(A) + b"\r", "ok")
-    rndf("CR CR LF", text(A, "\r\r\n"), "1 1 4")
+    rndf("CR CR LF", text(A, "\r\r\n"), "1 1 4 17")
     rndf("CR CR LF on line 4 only", put(A, 4, "segment>1\r\r"), "1 4 4")
     rndf("CR inside a field", put(A, 4, "segm\rent>1"), "1 4 4")
     rndf("CR leading", put(A, 4, "\rsegment>1"), "1 4 4")
@@ -273,7 +273,7 @@ def spaces():
         rndf("%d spaces" % size, ins(A, 4, " " * size), want)
         rndf("line of %d, spaces" % size, put(A, 4, "segment 1" + " " * (size - 9)), want)
     # a name has no spaces, so its own blank makes two fields
-    rndf("segment_name my road", ins(A, 6, "segment_name my road"), "1 6 7")
+    rndf("segment_name my road", ins(A, 6, "segment_name my road"), "1 6 7 1")
     rndf("RNDF_name with a blank", put(A, 1, "RNDF_name>yard a"), "1 1 7")
     mdf("RNDF with a blank", put(M, 2, "RNDF>yard a"), "2 2 7")
     rndf("blank in an identifier", put(A, 6, "lane>1. 1"), "1 6 7")
@@ -281,12 +281,12 @@ def spaces():
     rndf("no separator", put(A, 6, "lane1.1"), "1 6 5")
     mdf("blank in a goal", put(M, 5, "7 7"), "2 5 7")
     mdf("limit by spaces", put(M, 9, "1 5 0"), "ok")
-    rndf("field behind a comment and a space", put(A, 12, "end_lane /* x */ y"), "1 12 3")
+    rndf("field behind a comment and a space", put(A, 12, "end_lane /* x */ y"), "1 12 3 10")
     rndf("comment behind a comment and a space", put(A, 12, "end_lane /* x */ /* y */"), "1 12 3")
     rndf("comment open behind a space", put(A, 12, "end_lane /* x "), "1 12 3")
-    rndf("star behind a space", put(A, 12, "end_lane *"), "1 12 4")
+    rndf("star behind a space", put(A, 12, "end_lane *"), "1 12 4 10")
     for byte in "\x0b\x0c\x1f\xa0\x85\x00":
-        rndf("no separator: %r" % byte, put(A, 6, "lane%s1.1" % byte), "1 6 4")
+        rndf("no separator: %r" % byte, put(A, 6, "lane%s1.1" % byte), "1 6 4 5")
         rndf("no blank line: %r" % byte, ins(A, 6, byte), "1 6 4")
     rndf("mark open in a slash and a space", put(A, 12, "end_lane/ *x*/"), "1 12 4")
 
@@ -701,6 +701,72 @@ def several_faults():
     mdf("15 and 10", put(M, 5, "8")[:-1], "2 11 10")
 
 
+# ------------------------------------------------------------ L7: columns
+
+def columns():
+    """"for 5, 6, 7 and 18 the first field; for 8, 9 and 12 to 17 the field at
+    fault, leftmost first"."""
+    C = YARD_C
+    for n, line, want in (
+            # 2, 3, 4
+            (4, " " * 600, "2 513"), (4, "/*" + "x" * 511, "2 513"), (6, "lane>1.1>/* x", "3 10"),
+            (4, "//* x", "3 2"), (4, "/* x */ y", "3 1"), (4, "segment>1/**//**/", "3 10"),
+            (4, "  /*", "3 3"), (4, "\x00/*", "3 2"), (12, "end_lane /* x */ y", "3 10"),
+            (12, "end_lane\\", "4 9"), (12, "end_lane>/* \x01 */", "4 13"), (12, "end_lane *", "4 10"),
+            (4, "a/b*", "4 4"), (4, "*a", "4 1"), (4, "\xff\x00", "4 1"), (4, "a\\*/", "4 2"),
+            (4, "segment>1\r\r", "4 10"), (4, "segment>1/*\x7f*/", "4 12"), (4, "a\\/*\x00*/", "4 2"),
+            (4, "segment>1\x7f/**/", "4 10"), (4, "/*ab\x80*/", "4 5"),
+            # 5, 6, 7
+            (12, ">>end_zone", "5 3"), (12, " > x/**/", "5 4"), (12, "end_zone>1>2", "5 1"),
+            (4, "  segment", "7 3"), (4, ">segment>1>2", "7 2"), (10, " 1.1.1", "7 2"),
+            (10, "1.1.1>45.000000>-93.000000>1", "7 1"), (10, "1.1.1>x>y>z", "7 1"),
+            # 8: the leftmost that is not of its kind, whatever gives 9
+            (9, "exit>1.1.3>1.1", "8 12"), (9, "exit>1.1>1.1", "8 6"), (9, "exit>1.1>0.0.0", "8 6"),
+            (10, "1.1.1>91.000000>x", "8 17"), (10, "1.1.1>x>x", "8 7"), (10, "1.1>x>x", "8 1"),
+            (10, "  1.1.9   45.00000  200.000000", "8 11"), (8, "checkpoint>1.1.2>x", "8 18"),
+            (8, "checkpoint>x>0", "8 12"), (4, "segment>>01", "8 10"), (6, "lane>1.1.1", "8 6"),
+            (1, "RNDF_name> " + "n" * 129, "8 12"),
+            # 9: the leftmost that is not permitted
+            (9, "exit>1.1.3>0.1.1", "9 6"), (9, "exit>1.1.2>0.1.1", "9 12"), (9, "exit>1.1.2>1.1.32769", "9 12"),
+            (9, "exit>1.1.3>1.1.32769", "9 6"), (9, "exit>1.1.3>1.1.3", "9 6"), (9, "exit>1.1.32769>0.1.1", "9 6"),
+            (8, "checkpoint>1.1.2>0", "9 18"), (8, "checkpoint>1.1.3>0", "9 12"), (8, "checkpoint>1.1.3>32769", "9 12"),
+            (8, "checkpoint>1.1.2>32769", "9 18"), (10, "1.1.2>91.000000>200.000000", "9 1"),
+            (10, "1.1.1>91.000000>200.000000", "9 7"), (10, "1.1.1>90.000000>200.000000", "9 17"),
+            (10, "1.1.2>45.000000>-93.000000", "9 1"), (10, "1.1.32769>45.000000>-93.000000", "9 1"),
+            (10, " 1.1.1 45.000000 > 180.000001", "9 20"), (4, "segment> >2", "9 11"), (2, "num_segments>0", "9 14"),
+            (3, "num_zones>32768", "9 11"), (5, "num_lanes 0", "9 11"), (6, "lane>1.2", "9 6"),
+            # 12 and 13
+            (9, "exit>1.1.2>1.1.3", "12 12"), (9, "  exit > 1.1.2 >> 2.0.1/**/", "12 19"), (9, "checkpoint>1.1.1>7", "13 18"),
+            (9, "checkpoint  1.1.1     7", "13 23")):
+        rndf("column: line %d is %s" % (n, line[:40]), put(A, n, line), "1 %d %s" % (n, want))
+    for n, line, want in ((1, "MDF_name>" + "n" * 129, "8 10"), (2, "RNDF>yard_b", "14 6"), (2, " RNDF > yard_a/", "14 9"),
+                          (4, "num_checkpoints>0", "9 17"), (5, "0", "9 1"), (5, " > 32769", "9 4"), (5, "x", "5 1"),
+                          (5, "07", "8 1"), (5, "8", "15 1"), (5, "  8", "15 3"), (5, "7>7", "7 1"),
+                          (9, "1>10>5", "9 6"), (9, "1>32769>0", "9 3"), (9, "1>5>32769", "9 5"), (9, "0>5>0", "9 1"),
+                          (9, "0>10>5", "9 1"), (9, "0>32769>5", "9 1"), (9, "32769>10>5", "9 1"), (9, "1>32769>32769", "9 3"),
+                          (9, "1>32769>5", "9 3"), (9, " 1  10  5", "9 9"), (9, "1>x>32769", "8 3"), (9, "0>5>x", "8 5"),
+                          (9, "2>0>15", "16 1"), (9, "  2>0>15", "16 3"), (9, "2>10>5", "9 6"),
+                          (10, "end_speed_limits>1", "7 1"), (11, " end", "5 2")):
+        mdf("column: MDF line %d is %s" % (n, line[:40]), put(M, n, line), "2 %d %s" % (n, want))
+    two = put(M, 8, "num_speed_limits>2")
+    mdf("column of 17", put(two, 9, "1>0>0", "> 1>0>0"), "2 10 17 3")
+    pair("column of 18", YARD_B, put(cut(MISSION_B, 17), 13, "num_speed_limits>3")[:16] + [" > end_speed_limits", "end_file"], "2 17 18 4")
+    rndf("column of 6", ins(A, 8, "lane_width>1", "  lane_width>x>y"), "1 9 6 3")
+    rndf("column of 5 behind end_file", A + ["  x"], "1 15 5 3")
+    rndf("column of 10", A[:-1] + ["  ", "/**/"], "1 16 10 0")
+    rndf("column of 11", A, "1 0 11 0", dict(ROOM, points=3))
+    mdf("column of 11, MDF", M, "2 0 11 0", dict(ROOM, limits=2))
+    rndf("column: perimeter exit, both", ins(C, 16, "exit>2.0.3>2.0.1"), "1 16 9 6")
+    rndf("column: perimeter exit, entry", ins(C, 16, "exit>2.0.2>2.0.1"), "1 16 9 12")
+    rndf("column: perimeter exit, 12", ins(C, 16, "exit>2.0.2>2.1.1"), "1 16 12 12")
+    rndf("column: perimeter point", put(C, 16, "2.0.2>91.000000>1.000000"), "1 16 9 1")
+    rndf("column: num_spots", put(C, 13, "num_spots>32769"), "1 13 9 11")
+    rndf("column: zone", put(C, 12, "zone>3"), "1 12 9 6")
+    rndf("column: perimeter", put(C, 14, " perimeter>2.1"), "1 14 9 12")
+    rndf("column: stop", ins(A, 9, "stop>1.2.1"), "1 9 9 6")
+    rndf("column: boundary", ins(A, 8, "left_boundary>x"), "1 8 8 15")
+
+
 # ------------------------------------------------------------------ options
 
 def options():
@@ -821,34 +887,34 @@ def spot_checkpoints():
     waypoint's line, and a spot's checkpoint on waypoint 1 at its own line"."""
     C = YARD_C                              # `checkpoint>2.1.2>5` is line 20
     bare = cut(C, 20)                       # and here the first waypoint
-    rndf("spot without options", bare, "1 20 25")
-    for line, want in ((">2.1.1>5.000000>5.000000", "25"), ("  2.1.1 5.000000 5.000000 /**/", "25"),
-                       ("2.1.1>91.000000>0.000000", "9"), ("2.1.1>x>0.000000", "8"), ("2.1.1>0.000000>x", "8"),
-                       ("2.1.2>0.000000>0.000000", "9"), ("2.1.1>0.000000>181.000000", "9"), ("2.1.1", "7"),
-                       ("2.1.1>0.000000>0.000000>0", "7"), ("end_spot", "5"), ("2.1.1>0.000000>0.000000\\", "4"),
-                       ("2.1.1/*", "3"), ("2.1.1" + " " * 508, "2"), ("spot_width>0", "9"), ("spot_width", "7")):
+    rndf("spot without options", bare, "1 20 25 1")
+    for line, want in ((">2.1.1>5.000000>5.000000", "25 2"), ("  2.1.1 5.000000 5.000000 /**/", "25 3"),
+                       ("2.1.1>91.000000>0.000000", "9 7"), ("2.1.1>x>0.000000", "8 7"), ("2.1.1>0.000000>x", "8 16"),
+                       ("2.1.2>0.000000>0.000000", "9 1"), ("2.1.1>0.000000>181.000000", "9 16"), ("2.1.1", "7 1"),
+                       ("2.1.1>0.000000>0.000000>0", "7 1"), ("end_spot", "5 1"), ("2.1.1>0.000000>0.000000\\", "4 24"),
+                       ("2.1.1/*", "3 6"), ("2.1.1" + " " * 508, "2 513"), ("spot_width>0", "9 12"), ("spot_width", "7 1")):
         rndf("bare spot, then %s" % line[:40], put(bare, 20, line), "1 20 " + want)
-    rndf("spot with a width alone", put(C, 20, "spot_width>9"), "1 21 25")
-    rndf("spot with a width twice", put(C, 20, "spot_width>9", "spot_width>9"), "1 21 6")
-    rndf("spot with a blank line and a width", put(C, 20, "", "spot_width>9", "/**/"), "1 23 25")
-    rndf("spot checkpoint on waypoint 1", put(C, 20, "checkpoint>2.1.1>5"), "1 20 9")
-    rndf("spot checkpoint on waypoint 1, number 0", put(C, 20, "checkpoint>2.1.1>0"), "1 20 9")
-    rndf("spot checkpoint on waypoint 1, number x", put(C, 20, "checkpoint>2.1.1>x"), "1 20 8")
-    rndf("spot checkpoint on waypoint 2, number 0", put(C, 20, "checkpoint>2.1.2>0"), "1 20 9")
-    rndf("spot checkpoint on waypoint 1 behind one on 2", ins(C, 21, "checkpoint>2.1.1>8"), "1 21 6")
-    rndf("spot checkpoint on waypoint 1, number declared before", ins(put(C, 20, "checkpoint>2.1.1>5"), 8, "checkpoint>1.1.1>5"), "1 21 9")
-    rndf("text ends behind the spot line", C[:19], "1 20 10")
-    rndf("text ends behind a bare spot's width", C[:19] + ["spot_width>9"], "1 21 10")
-    rndf("text ends behind a bare first waypoint", bare[:20], "1 20 25")
-    rndf("second of two spots bare", cut(YARD_B, 56), "1 56 25")
-    rndf("first of two spots bare", cut(YARD_B, 51), "1 51 25")
-    rndf("both spots bare", cut(cut(YARD_B, 56), 51), "1 51 25")
-    rndf("9 on the line before 25", put(bare, 19, "spot>2.2"), "1 19 9")
-    rndf("9 on the line behind 25", put(bare, 21, "2.1.1>6.000000>6.000000"), "1 20 25")
-    rndf("25, and 12 on line 8", ins(bare, 8, "exit>1.1.1>9.9.9"), "1 21 25")
-    rndf("25 and no room", bare, "1 20 25", {})
-    rndf("25, and no end_file", bare[:-1], "1 20 25")
-    pair("25, and an empty MDF", bare, b"", "1 20 25")
+    rndf("spot with a width alone", put(C, 20, "spot_width>9"), "1 21 25 1")
+    rndf("spot with a width twice", put(C, 20, "spot_width>9", "spot_width>9"), "1 21 6 1")
+    rndf("spot with a blank line and a width", put(C, 20, "", "spot_width>9", "/**/"), "1 23 25 1")
+    rndf("spot checkpoint on waypoint 1", put(C, 20, "checkpoint>2.1.1>5"), "1 20 9 12")
+    rndf("spot checkpoint on waypoint 1, number 0", put(C, 20, "checkpoint>2.1.1>0"), "1 20 9 12")
+    rndf("spot checkpoint on waypoint 1, number x", put(C, 20, "checkpoint>2.1.1>x"), "1 20 8 18")
+    rndf("spot checkpoint on waypoint 2, number 0", put(C, 20, "checkpoint>2.1.2>0"), "1 20 9 18")
+    rndf("spot checkpoint on waypoint 1 behind one on 2", ins(C, 21, "checkpoint>2.1.1>8"), "1 21 6 1")
+    rndf("spot checkpoint on waypoint 1, number declared before", ins(put(C, 20, "checkpoint>2.1.1>5"), 8, "checkpoint>1.1.1>5"), "1 21 9 12")
+    rndf("text ends behind the spot line", C[:19], "1 20 10 0")
+    rndf("text ends behind a bare spot's width", C[:19] + ["spot_width>9"], "1 21 10 0")
+    rndf("text ends behind a bare first waypoint", bare[:20], "1 20 25 1")
+    rndf("second of two spots bare", cut(YARD_B, 56), "1 56 25 1")
+    rndf("first of two spots bare", cut(YARD_B, 51), "1 51 25 1")
+    rndf("both spots bare", cut(cut(YARD_B, 56), 51), "1 51 25 1")
+    rndf("9 on the line before 25", put(bare, 19, "spot>2.2"), "1 19 9 6")
+    rndf("9 on the line behind 25", put(bare, 21, "2.1.1>6.000000>6.000000"), "1 20 25 1")
+    rndf("25, and 12 on line 8", ins(bare, 8, "exit>1.1.1>9.9.9"), "1 21 25 1")
+    rndf("25 and no room", bare, "1 20 25 1", {})
+    rndf("25, and no end_file", bare[:-1], "1 20 25 1")
+    pair("25, and an empty MDF", bare, b"", "1 20 25 1")
 
 
 # ---------------------------------------------------------- easy to get wrong
@@ -1110,7 +1176,7 @@ def main(directory="."):
     path = lambda name: os.path.join(directory, name)
     writer = Writer(path("cases.bin"), path("expected.txt"), path("labels.txt"))
     for part in (yard_a, lines_and_comments, spaces, after_the_end, integers, identifiers,
-                 coordinates, names_and_words, several_faults, options, spot_checkpoints,
+                 coordinates, names_and_words, several_faults, columns, options, spot_checkpoints,
                  easy_to_get_wrong, missions, rooms, systematic):
         part()
     # Refusal 1 is only described: a text of 16,777,216 bytes or more gives

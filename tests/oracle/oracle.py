@@ -62,22 +62,35 @@ DIGIT_LINE = "a line whose first field begins with a digit"
 
 
 class Refused(Exception):
-    """Each refusal "gives file (1 RNDF, 2 MDF), line, number"."""
+    """Each refusal "gives file (1 RNDF, 2 MDF), line, number".  L7: "Add a
+    column to the refusal record, counted in bytes from 1." "Where the line is
+    0, for 10, and from 20 on unless said otherwise, it is 0."""
 
-    def __init__(self, file, line, number):
-        super().__init__("refused %d %d %d" % (file, line, number))
-        self.reply = (file, line, number)
+    def __init__(self, file, line, number, column=0):
+        super().__init__("refused %d %d %d %d" % (file, line, number, column))
+        self.reply = (file, line, number, column)
 
 
 # ------------------------------------------------------- lines and statements
 
 class Line:
-    __slots__ = ("number", "fields", "starts")
+    __slots__ = ("number", "start", "fields", "starts", "off")
 
-    def __init__(self, number, fields, starts):
+    def __init__(self, number, start, fields, starts):
         self.number = number        # "Lines count from 1."
+        self.start = start          # where the line begins in the text
         self.fields = fields        # the bytes of each field
         self.starts = starts        # where each field begins in the text
+        self.off = []               # the fields met that give 9
+
+    def place(self, field):
+        """Line and column of a field."""
+        return self.number, self.starts[field] - self.start + 1
+
+
+def first_other(part, allowed):
+    """Where the first byte stands that is not allowed."""
+    return next(i for i, byte in enumerate(part) if byte not in allowed)
 
 
 class Lines:
@@ -88,6 +101,7 @@ class Lines:
         self.text = text
         self.at = 0                 # where the next line begins
         self.count = 0              # the lines met so far
+        self.line = None            # the last line with fields
 
     def raw(self):
         """The next line as (start, bytes), or None behind the last one."""
@@ -113,6 +127,7 @@ class Lines:
 
     def next_or_none(self):
         """The next line with fields; blank lines are passed over."""
+        self.settle()
         while True:
             got = self.raw()
             if got is None:
@@ -121,7 +136,7 @@ class Lines:
             number = self.count
             # 2 "line over 512 bytes" (R5: counted after the CR was dropped)
             if len(line) > LARGEST_LINE:
-                raise Refused(self.file, number, 2)
+                raise Refused(self.file, number, 2, 513)    # L7: "For 2 it is 513"
             # 3 "comment not closed, or followed by more than tabs":
             # "A comment begins at the first `/*` and must close with the
             # first `*/` after those two bytes, with only tabs behind it".
@@ -129,20 +144,23 @@ class Lines:
             opened = line.find(b"/*")
             if opened >= 0:
                 closed = line.find(b"*/", opened + 2)
+                # L7: "for 3 the place of `/*`"
                 if closed < 0:
-                    raise Refused(self.file, number, 3)
+                    raise Refused(self.file, number, 3, opened + 1)
                 if line[closed + 2:].strip(SPACING) != b"":
-                    raise Refused(self.file, number, 3)
+                    raise Refused(self.file, number, 3, opened + 1)
                 outside = line[:opened]
                 inside = line[opened + 2:closed]
             else:
                 outside = line
                 inside = b""
-            # 4 "byte not allowed"
+            # 4 "byte not allowed"; L7: "for 4 the first such byte"
             if outside.translate(None, ALLOWED_OUTSIDE) != b"":
-                raise Refused(self.file, number, 4)
+                raise Refused(self.file, number, 4,
+                              first_other(outside, ALLOWED_OUTSIDE) + 1)
             if inside.translate(None, ALLOWED_INSIDE) != b"":
-                raise Refused(self.file, number, 4)
+                raise Refused(self.file, number, 4,
+                              opened + 2 + first_other(inside, ALLOWED_INSIDE) + 1)
             # "A line without fields is blank and may stand anywhere, also
             # after `end_file`."  L3: "a separator shall be any run of tabs and
             # spaces, and such a run is nothing at a line's start and end, also
@@ -153,7 +171,8 @@ class Lines:
                 fields.append(found.group())
                 starts.append(start + found.start())
             if fields:
-                return Line(number, fields, starts)
+                self.line = Line(number, start, fields, starts)
+                return self.line
 
     def next(self):
         line = self.next_or_none()
@@ -181,11 +200,17 @@ class Lines:
         # 5 "statement unknown, or not at this place (also a wrong count of
         # items)".  R1: whatever its fields are.
         if what not in permitted:
-            raise Refused(self.file, line.number, 5)
+            self.refuse(line, 0, 5)
         # 6 "single option given again"
         if what in given:
-            raise Refused(self.file, line.number, 6)
+            self.refuse(line, 0, 6)
         return what, line
+
+    def refuse(self, line, field, number):
+        """L7: "for 5, 6, 7 and 18 the first field; for 8, 9 and 12 to 17 the
+        field at fault, leftmost first"."""
+        at, column = line.place(field)
+        raise Refused(self.file, at, number, column)
 
     def values(self, line, kinds):
         """The line's field values; tests 7, then 8 for all, then ranges (9).
@@ -194,31 +219,34 @@ class Lines:
         line: for each field).  Everything else that gives 9 is tested by the
         caller, on this same line, hence after 8 "over all fields".
         """
-        if 0x30 <= line.fields[0][0] <= 0x39:
-            fields, starts = line.fields, line.starts
-        else:
-            fields, starts = line.fields[1:], line.starts[1:]
+        first = 0 if 0x30 <= line.fields[0][0] <= 0x39 else 1
         # 7 "wrong number of fields"
-        if len(fields) != len(kinds):
-            raise Refused(self.file, line.number, 7)
+        if len(line.fields) - first != len(kinds):
+            self.refuse(line, 0, 7)
         # 8 "field not of its kind (spelling, name length, boundary word)";
         # "all fields tried for 8 before any for 9".
         values = []
-        for kind, field, start in zip(kinds, fields, starts):
-            value = KINDS[kind][0](field, start)
+        for field, kind in enumerate(kinds, first):
+            value = KINDS[kind][0](line.fields[field], line.starts[field])
             if value is None:
-                raise Refused(self.file, line.number, 8)
+                self.refuse(line, field, 8)
             values.append(value)
         # 9 "value not permitted here (range, ..)"
-        for kind, value in zip(kinds, values):
-            if not KINDS[kind][1](value):
-                raise Refused(self.file, line.number, 9)
+        for field, (kind, value) in enumerate(zip(kinds, values), first):
+            self.permit(line, KINDS[kind][1](value), field)
         return values
 
-    def permit(self, line, good):
-        """9 "value not permitted here" unless good."""
+    def permit(self, line, good, field=-1):
+        """9 "value not permitted here" unless good: noted for its field, the
+        last one if not said."""
         if not good:
-            raise Refused(self.file, line.number, 9)
+            line.off.append(field % len(line.fields))
+
+    def settle(self):
+        """Raises 9 for the last line, now that all its fields have been looked
+        at: L7, "leftmost first"."""
+        if self.line is not None and self.line.off:
+            self.refuse(self.line, min(self.line.off), 9)
 
 
 def spell_name(field, start):
@@ -309,9 +337,9 @@ class RndfForm:
         self.spots = []         # [first point, width]
         self.points = []        # [latitude, longitude]
         self.checkpoints = []   # [number, point], and
-        self.checkpoint_lines = []  # the line of each
+        self.checkpoint_places = [] # line and column of each one's number
         self.stops = []         # [point]
-        self.exits = []         # (point, entry (x, y, z), line)
+        self.exits = []         # (point, entry (x, y, z), its line and column)
 
 
 def form_of_rndf(text):
@@ -369,7 +397,7 @@ def end_of_file(lines):
     # fields gives 5.
     line = lines.next_or_none()
     if line is not None:
-        raise Refused(lines.file, line.number, 5)
+        lines.refuse(line, 0, 5)
 
 
 def read_segment(lines, form, line, segment):
@@ -439,7 +467,7 @@ def read_lane(lines, form, line, segment, lane):
             # "The entry is any point identifier x.y.z with x, z > 0; y = 0
             # names a perimeter point."
             lines.permit(line, entry[0] > 0 and entry[2] > 0)
-            form.exits.append((first + waypoint[2] - 1, entry, line.number))
+            form.exits.append((first + waypoint[2] - 1, entry, line.place(2)))
 
     form.lanes.append([first, points, width, left, right])
     read_points(lines, form, line, segment, lane, points)
@@ -451,7 +479,7 @@ def own_point(lines, line, waypoint, m, n, points):
     # "The waypoint named by a checkpoint or stop, and the first of an exit,
     # is one of this lane."  Likewise for a perimeter (n = 0) and a spot.
     lines.permit(line, waypoint[0] == m and waypoint[1] == n
-                 and 1 <= waypoint[2] <= points)
+                 and 1 <= waypoint[2] <= points, 1)
 
 
 def read_checkpoint(lines, form, line, m, n, points, first):
@@ -459,7 +487,7 @@ def read_checkpoint(lines, form, line, m, n, points, first):
     own_point(lines, line, waypoint, m, n, points)
     lines.permit(line, number > 0)      # "Checkpoint numbers are > 0"
     form.checkpoints.append([number, first + waypoint[2] - 1])
-    form.checkpoint_lines.append(line.number)
+    form.checkpoint_places.append(line.place(2))
     return waypoint
 
 
@@ -474,7 +502,7 @@ def read_points(lines, form, line, m, n, points):
 def read_point(lines, form, line, due):
     identifier, latitude, longitude = lines.values(
         line, ["x.y.z", "latitude", "longitude"])
-    lines.permit(line, identifier == due)
+    lines.permit(line, identifier == due, 0)
     form.points.append([latitude, longitude])
 
 
@@ -510,7 +538,7 @@ def read_zone(lines, form, line, zone):
         point, entry = lines.values(line, ["x.y.z", "x.y.z"])
         own_point(lines, line, point, zone, 0, points)
         lines.permit(line, entry[0] > 0 and entry[1] > 0 and entry[2] > 0)
-        form.exits.append((first + point[2] - 1, entry, line.number))
+        form.exits.append((first + point[2] - 1, entry, line.place(2)))
         what, line = lines.statement([b"exit", DIGIT_LINE])
     read_points(lines, form, line, zone, 0, points)
     _, line = lines.statement([b"end_perimeter"])
@@ -548,14 +576,15 @@ def read_spot(lines, form, line, zone, spot):
         else:
             waypoint = read_checkpoint(lines, form, line, zone, spot, 2, first)
             # L8: "9 for a spot's checkpoint on waypoint 1"
-            lines.permit(line, waypoint[2] == 2)
+            lines.permit(line, waypoint[2] == 2, 1)
         given.add(what)         # R9: a second `checkpoint` in a spot is 6
     form.spots.append([first, width])
     read_point(lines, form, line, (zone, spot, 1))
     if b"checkpoint" not in given:
         # L8: "25, with file 1 and the line, at a first waypoint that has no
-        # fault of 2 to 9"
-        raise Refused(1, line.number, 25)
+        # fault of 2 to 9"; "Its column is the first field."
+        lines.settle()
+        lines.refuse(line, 0, 25)
     _, line = lines.statement([DIGIT_LINE])
     read_point(lines, form, line, (zone, spot, 2))
     _, line = lines.statement([b"end_spot"])
@@ -567,12 +596,12 @@ def read_spot(lines, form, line, zone, spot):
 class MdfForm:
     def __init__(self):
         self.name = self.rndf = self.version = self.date = MISSING_NAME
-        self.rndf_line = 0
+        self.rndf_place = None  # line and column of the RNDF's name
         self.goals = []         # [number]
-        self.goal_lines = []
+        self.goal_places = []
         self.limits = []        # [id, minimum, maximum]
-        self.limit_lines = []
-        self.end_line = 0       # the line of `end_speed_limits`
+        self.limit_places = []  # line and column of each id
+        self.end_place = None   # of `end_speed_limits`
 
 
 def form_of_mdf(text):
@@ -588,7 +617,7 @@ def form_of_mdf(text):
     form.name, = lines.values(line, ["name"])
     _, line = lines.statement([b"RNDF"])
     form.rndf, = lines.values(line, ["name"])
-    form.rndf_line = line.number
+    form.rndf_place = line.place(1)
     _, line = file_options(lines, form, b"checkpoints")
     lines.values(line, [])
 
@@ -600,7 +629,7 @@ def form_of_mdf(text):
         number, = lines.values(line, ["integer"])
         lines.permit(line, number > 0)
         form.goals.append([number])         # "A goal may come again."
-        form.goal_lines.append(line.number)
+        form.goal_places.append(line.place(0))
     _, line = lines.statement([b"end_checkpoints"])
     lines.values(line, [])
 
@@ -613,15 +642,15 @@ def form_of_mdf(text):
         _, line = lines.statement([DIGIT_LINE])
         identifier, minimum, maximum = lines.values(
             line, ["integer", "integer", "integer"])
-        lines.permit(line, identifier > 0)
+        lines.permit(line, identifier > 0, 0)
         # L1: "minimum above maximum is a fault only where the maximum is not
-        # 0."
+        # 0."  L7: "and the maximum where it is below the minimum"
         lines.permit(line, maximum == 0 or minimum <= maximum)
         form.limits.append([identifier, minimum, maximum])
-        form.limit_lines.append(line.number)
+        form.limit_places.append(line.place(0))
     _, line = lines.statement([b"end_speed_limits"])
     lines.values(line, [])
-    form.end_line = line.number
+    form.end_place = line.place(0)
     end_of_file(lines)
     return form
 
@@ -633,7 +662,7 @@ class Reply:
 
     def __init__(self):
         self.accepted = False
-        self.refusal = None     # (file, line, number)
+        self.refusal = None     # (file, line, number, column)
         self.used = None        # rows used, by table
         self.file = None        # RNDF: name, version, date as start, length
         self.mission = None     # MDF: name, rndf, version, date
@@ -643,7 +672,8 @@ class Reply:
         if self.accepted:
             return "ok " + " ".join(
                 str(self.used.get(t, 0)) for t in COUNT_ORDER)
-        return "refused %d %d %d" % self.refusal
+        # L7: "The summary program prints it last."
+        return "refused %d %d %d %d" % self.refusal
 
 
 def rows_in(length, table):
@@ -686,23 +716,23 @@ def judge_rndf(text, room):
     # as "later segments are legal targets".
     first_fault = None
     exits = []
-    for point, entry, line in form.exits:
+    for point, entry, (line, column) in form.exits:
         target = resolve(form, entry)
         if target is None:
             if first_fault is None:
-                first_fault = (line, 12)
+                first_fault = (line, 12, column)
         else:
             exits.append([point, target])
     # 13 "checkpoint number already declared"
     met = set()
-    for (number, _), line in zip(form.checkpoints, form.checkpoint_lines):
+    for (number, _), (line, column) in zip(form.checkpoints, form.checkpoint_places):
         if number in met:
             if first_fault is None or line < first_fault[0]:
-                first_fault = (line, 13)
+                first_fault = (line, 13, column)
             break
         met.add(number)
     if first_fault is not None:
-        raise Refused(1, first_fault[0], first_fault[1])
+        raise Refused(1, *first_fault)
     rows = {"segments": form.segments, "lanes": form.lanes,
             "zones": form.zones, "spots": form.spots, "points": form.points,
             "checkpoints": form.checkpoints, "stops": form.stops,
@@ -746,24 +776,26 @@ def judge_mdf(text, room, rndf_text, rndf_form, rndf_rows):
     # the one on the first line.
     # 14 "MDF's RNDF name is not this RNDF's"
     if name_of(text, *form.rndf) != name_of(rndf_text, *rndf_form.name):
-        raise Refused(2, form.rndf_line, 14)
+        line, column = form.rndf_place
+        raise Refused(2, line, 14, column)
     # 15 "goal not a checkpoint of the RNDF"
     numbers = {number for number, _ in rndf_rows["checkpoints"]}
-    for (number,), line in zip(form.goals, form.goal_lines):
+    for (number,), (line, column) in zip(form.goals, form.goal_places):
         if number not in numbers:
-            raise Refused(2, line, 15)
+            raise Refused(2, line, 15, column)
     # 16 "limit's id not in the RNDF", 17 "limit's id already given"
     ids = len(rndf_rows["segments"]) + len(rndf_rows["zones"])
     met = set()
-    for (identifier, _, _), line in zip(form.limits, form.limit_lines):
+    for (identifier, _, _), (line, column) in zip(form.limits, form.limit_places):
         if identifier > ids:
-            raise Refused(2, line, 16)
+            raise Refused(2, line, 16, column)
         if identifier in met:
-            raise Refused(2, line, 17)
+            raise Refused(2, line, 17, column)
         met.add(identifier)
     # 18 "some id has no limit", line `end_speed_limits`
     if len(met) != ids:
-        raise Refused(2, form.end_line, 18)
+        line, column = form.end_place
+        raise Refused(2, line, 18, column)
     return form, {"goals": form.goals, "limits": form.limits}
 
 
@@ -838,7 +870,7 @@ def points_of(checkpoints_table, numbers, lent):
     # "20, the two lists differ in length, tested first; the lent list is then
     # zero. Numbers from 20 on give file 0 and line 0"
     if len(numbers) != lent:
-        return (0, 0, 20), [0] * lent
+        return (0, 0, 20, 0), [0] * lent
     # "The outcome equals the single question put for each number in turn; an
     # unknown number gives 4,294,967,295 in its place and doesn't stop the
     # rest."
@@ -1176,15 +1208,16 @@ def is_move(network, a, b):
 
 
 def check_route(network, mission, start, route):
-    """L5: None for a good route, else (file 0, place or goal's row, number)."""
+    """L5: None for a good route, else (file 0, place or goal's row, number,
+    column 0)."""
     # "21 empty or not beginning at a declared start"
     if not route or start >= len(network.points) or route[0] != start:
-        return 0, 0, 21
+        return 0, 0, 21, 0
     # "22 a step that is no move (the first)"; "the place in the route that the
     # step leads to .., from 0"
     for place in range(1, len(route)):
         if not is_move(network, route[place - 1], route[place]):
-            return 0, place, 22
+            return 0, place, 22, 0
     # "23 a goal not met in order (the first, each goal taken at the earliest
     # place)"; "each at a strictly later place than the one before"; "The start
     # itself may meet the first goal."
@@ -1194,11 +1227,11 @@ def check_route(network, mission, start, route):
         while place < len(route) and route[place] != points[number]:
             place += 1
         if place == len(route):
-            return 0, row, 23
+            return 0, row, 23, 0
         place += 1
     # "24 wrong end": "it ends at the last goal's point"
     if route[-1] != points[mission.goals[-1][0]]:
-        return 0, 0, 24
+        return 0, 0, 24, 0
     return None
 
 

@@ -403,7 +403,7 @@ MUTANTS = [
     ("return 0, row, 23", "return 0, row + 1, 23"),
     ("return 0, row, 23", "return 0, number, 23"),
     ("    place = 0                ", "    place = 1                "),
-    ("            return 0, row, 23\n        place += 1\n", "            return 0, row, 23\n"),
+    ("            return 0, row, 23, 0\n        place += 1\n", "            return 0, row, 23, 0\n"),
     ("    if route[-1] != points[mission.goals[-1][0]]:", "    if place != len(route):"),
     ("    if route[-1] != points[mission.goals[-1][0]]:", "    if False:"),
     ("    for place in range(1, len(route)):\n        if not is_move", "    for place in range(len(route) - 1, 0, -1):\n        if not is_move"),

@@ -49,27 +49,27 @@ class Document01(unittest.TestCase):
 
     def test_proved_cases(self):
         A, M = YARD_A, ROUND_1
-        self.one(put(A, 9, "exit>1.1.2>1.1.3"), M, "refused 1 9 12")
-        self.one(put(A, 9, "exit>1.1.3>1.1.1"), M, "refused 1 9 9")
-        self.one(put(A, 7, "num_waypoints>3"), M, "refused 1 12 5")
-        self.one(put(A, 7, "num_waypoints>1"), M, "refused 1 8 9")
-        self.one(A[:-1], M, "refused 1 14 10")
-        self.one([], M, "refused 1 1 10")
-        self.one(ins(A, 9, A[7]), M, "refused 1 9 13")
-        self.one(A, put(M, 5, "8"), "refused 2 5 15")
-        self.one(A, put(M, 9, "1>10>5"), "refused 2 9 9")
+        self.one(put(A, 9, "exit>1.1.2>1.1.3"), M, "refused 1 9 12 12")
+        self.one(put(A, 9, "exit>1.1.3>1.1.1"), M, "refused 1 9 9 6")
+        self.one(put(A, 7, "num_waypoints>3"), M, "refused 1 12 5 1")
+        self.one(put(A, 7, "num_waypoints>1"), M, "refused 1 8 9 12")
+        self.one(A[:-1], M, "refused 1 14 10 0")
+        self.one([], M, "refused 1 1 10 0")
+        self.one(ins(A, 9, A[7]), M, "refused 1 9 13 18")
+        self.one(A, put(M, 5, "8"), "refused 2 5 15 1")
+        self.one(A, put(M, 9, "1>10>5"), "refused 2 9 9 6")
 
     def test_run_cases(self):
         A, M = YARD_A, ROUND_1
-        self.one(A, put(M, 2, "RNDF>yard_b"), "refused 2 2 14")
+        self.one(A, put(M, 2, "RNDF>yard_b"), "refused 2 2 14 6")
         ok = "ok 1 0 1 2 0 1 0 1 1 1"
         self.one(put(A, 1, "RNDF_name>" + "n" * 128),
                  put(M, 2, "RNDF>" + "n" * 128), ok)
-        self.one(put(A, 1, "RNDF_name>" + "n" * 129), M, "refused 1 1 8")
+        self.one(put(A, 1, "RNDF_name>" + "n" * 129), M, "refused 1 1 8 11")
         self.one(put(A, 12, "end_lane/*" + "c" * 500 + "*/"), M, ok)
-        self.one(put(A, 12, "end_lane/*" + "c" * 501 + "*/"), M, "refused 1 12 2")
+        self.one(put(A, 12, "end_lane/*" + "c" * 501 + "*/"), M, "refused 1 12 2 513")
         self.one(put(A, 10, "1.1.1>90.000000>-93.000000"), M, ok)
-        self.one(put(A, 10, "1.1.1>90.000001>-93.000000"), M, "refused 1 10 9")
+        self.one(put(A, 10, "1.1.1>90.000001>-93.000000"), M, "refused 1 10 9 7")
 
     def test_yard_a_tables(self):
         room = {t: 2 * STRIDE[t] + 1 for t in TABLES}
@@ -119,8 +119,8 @@ class Document01(unittest.TestCase):
 
     def test_digits(self):
         # "Six digits give 8; 32,769 gives 9."
-        self.one(put(YARD_A, 7, "num_waypoints>100000"), ROUND_1, "refused 1 7 8")
-        self.one(put(YARD_A, 7, "num_waypoints>32769"), ROUND_1, "refused 1 7 9")
+        self.one(put(YARD_A, 7, "num_waypoints>100000"), ROUND_1, "refused 1 7 8 15")
+        self.one(put(YARD_A, 7, "num_waypoints>32769"), ROUND_1, "refused 1 7 9 15")
 
 
 class Parts(unittest.TestCase):
@@ -138,7 +138,7 @@ class Parts(unittest.TestCase):
         self.assertEqual(summary(fill(r, 8193), None), "file too big")
         self.assertEqual(summary(None, fill(m, 8193)), "no file")
         self.assertEqual(summary(b"bad", fill(m, 8193)), "file too big")
-        self.assertEqual(summary(b"bad", b"bad"), "refused 1 1 5")
+        self.assertEqual(summary(b"bad", b"bad"), "refused 1 1 5 1")
 
     def test_summary_room(self):
         def yard(points, stops):
@@ -151,9 +151,9 @@ class Parts(unittest.TestCase):
             return text(lines)
         m = text(put(put(ROUND_1, 2, "RNDF>y"), 5, "1"))
         self.assertEqual(summary(yard(256, 1), m), "ok 1 0 1 256 0 1 1 0 1 1")
-        self.assertEqual(summary(yard(257, 1), m), "refused 1 0 11")
+        self.assertEqual(summary(yard(257, 1), m), "refused 1 0 11 0")
         self.assertEqual(summary(yard(1, 128), m), "ok 1 0 1 1 0 1 128 0 1 1")
-        self.assertEqual(summary(yard(1, 129), m), "refused 1 0 11")
+        self.assertEqual(summary(yard(1, 129), m), "refused 1 0 11 0")
 
         def goals(n):
             return text(["MDF_name>x", "RNDF>y", "checkpoints",
@@ -161,7 +161,7 @@ class Parts(unittest.TestCase):
                         + ["end_checkpoints", "speed_limits", "num_speed_limits>1",
                            "1>0>0", "end_speed_limits", "end_file"])
         self.assertEqual(summary(yard(1, 0), goals(128)), "ok 1 0 1 1 0 1 0 0 128 1")
-        self.assertEqual(summary(yard(1, 0), goals(129)), "refused 2 0 11")
+        self.assertEqual(summary(yard(1, 0), goals(129)), "refused 2 0 11 0")
 
     def test_lookup(self):
         none = 4_294_967_295
@@ -186,7 +186,7 @@ class Parts(unittest.TestCase):
             self.assertEqual(len(points), lent)
             want = lists.naive(table, numbers, lent)
             if want is None:
-                self.assertEqual((refusal, points), ((0, 0, 20), [0] * lent))
+                self.assertEqual((refusal, points), ((0, 0, 20, 0), [0] * lent))
             else:
                 self.assertEqual((refusal, points), (None, want))
                 self.assertEqual(points, [points_of(table, [n], 1)[1][0] for n in numbers])
@@ -208,20 +208,20 @@ class Parts(unittest.TestCase):
         self.assertEqual(done.tables, read_rndf(r, WIDE).tables)
         self.assertEqual(write_rndf(r, WIDE, len(r)).output, r)
         short = write_rndf(r, WIDE, len(r) - 1)
-        self.assertEqual(short.refusal, (1, 0, 19))
+        self.assertEqual(short.refusal, (1, 0, 19, 0))
         self.assertEqual(short.output, bytes(len(r) - 1))
         self.assertEqual(short.tables, {t: [0] * WIDE[t] for t in RNDF_TABLES})
         done = write_mdf(r, m, WIDE, len(m) + 1)
         self.assertEqual((done.written, done.output), (len(m), m + b"\0"))
         short = write_mdf(r, m, WIDE, len(m) - 1)
-        self.assertEqual(short.refusal, (2, 0, 19))
+        self.assertEqual(short.refusal, (2, 0, 19, 0))
         self.assertEqual(short.tables, {t: [0] * WIDE[t] for t in TABLES})
-        self.assertEqual(write_mdf(r, m, WIDE, 0).refusal, (2, 0, 19))
+        self.assertEqual(write_mdf(r, m, WIDE, 0).refusal, (2, 0, 19, 0))
         # the reader's refusals first
-        self.assertEqual(write_rndf(b"", WIDE, 0).refusal, (1, 1, 10))
-        self.assertEqual(write_mdf(r, b"", WIDE, 0).refusal, (2, 1, 10))
-        self.assertEqual(write_mdf(b"", m, WIDE, 0).refusal, (1, 1, 10))
-        self.assertEqual(write_rndf(r, dict(WIDE, points=3), 0).refusal, (1, 0, 11))
+        self.assertEqual(write_rndf(b"", WIDE, 0).refusal, (1, 1, 10, 0))
+        self.assertEqual(write_mdf(r, b"", WIDE, 0).refusal, (2, 1, 10, 0))
+        self.assertEqual(write_mdf(b"", m, WIDE, 0).refusal, (1, 1, 10, 0))
+        self.assertEqual(write_rndf(r, dict(WIDE, points=3), 0).refusal, (1, 0, 11, 0))
 
     def test_house_order(self):
         mixed = text(YARD_A[:7] + [
@@ -260,12 +260,12 @@ class Maps(unittest.TestCase):
                 self.assertEqual(got.tables, reply.tables)
             for out in (0, 1, size // 2, size - 1):
                 got = write_map(r, room, out)
-                self.assertEqual((got.refusal, got.output), ((1, 0, 19), bytes(out)), label)
+                self.assertEqual((got.refusal, got.output), ((1, 0, 19, 0), bytes(out)), label)
                 self.assertEqual(got.tables, {t: [0] * room[t] for t in RNDF_TABLES})
             # one point row short
             less = dict(room, points=2 * reply.used["points"] - 1)
             got = write_map(r, less, 2 * size)
-            self.assertEqual((got.refusal, got.output), ((1, 0, 11), bytes(2 * size)))
+            self.assertEqual((got.refusal, got.output), ((1, 0, 11, 0), bytes(2 * size)))
 
     def test_random(self):
         rng = random.Random(11)
@@ -297,7 +297,7 @@ class Maps(unittest.TestCase):
         reply = oracle.Reply()
         reply.accepted = True
         got = oracle.write_out(reply, lambda: oracle.geojson(yard(2)), 1, WIDE, RNDF_TABLES, 30_000_000)
-        self.assertEqual(got.refusal, (1, 0, 19))
+        self.assertEqual(got.refusal, (1, 0, 19, 0))
 
 
 class Routes(unittest.TestCase):
@@ -306,8 +306,10 @@ class Routes(unittest.TestCase):
     def test_by_hand(self):
         for label, r, m, start, route, want in routes.HAND:
             reply = drive(r, m, WIDE, start, route)
-            got = "ok" if reply.accepted else "%d %d %d" % reply.refusal
+            got = "ok" if reply.accepted else "%d %d %d" % reply.refusal[:3]
             self.assertEqual(got, want, label)
+            if want.startswith("0"):
+                self.assertEqual(reply.refusal[3], 0)
             before = read_pair(r, m, WIDE)
             if want == "ok":
                 self.assertEqual(vars(reply), vars(before))
@@ -338,7 +340,7 @@ class Routes(unittest.TestCase):
             made, start, route, kinds = routes.random_case(rng, 0)
             got = oracle.check_route(made.network, made.mission, start, route)
             naive = routes.naive(made.network, made.mission.goals, start, route)
-            self.assertEqual("ok" if got is None else got[1:], naive, (start, route, kinds))
+            self.assertEqual("ok" if got is None else got[1:3], naive, (start, route, kinds))
             if not kinds:
                 self.assertIsNone(got)
             count[got and got[2]] = count.get(got and got[2], 0) + 1
@@ -395,13 +397,13 @@ class Places(unittest.TestCase):
                     word = "0" if word[0].isdigit() else word
                     refusal = judge(text(ins(base, n, statement + tail))).refusal
                     if word + ":again" in permitted.split():
-                        self.assertEqual(refusal, (file, n, 6))
+                        self.assertEqual(refusal, (file, n, 6, 1))
                     elif word in permitted.split():
-                        self.assertNotEqual(refusal, (file, n, 5))
+                        self.assertNotEqual(refusal, (file, n, 5, 1))
                         if tail:
-                            self.assertEqual(refusal, (file, n, 7))
+                            self.assertEqual(refusal, (file, n, 7, 1))
                     else:
-                        self.assertEqual(refusal, (file, n, 5))
+                        self.assertEqual(refusal, (file, n, 5, 1))
 
     def test_rndf(self):
         self.go(1, YARD_C, self.RNDF, RNDF_STATEMENTS + MDF_STATEMENTS[:2]
@@ -449,13 +451,13 @@ class RandomNetworks(unittest.TestCase):
             self.assertEqual(mission_of(again, house_m), made.mission)
             self.assertEqual(write_rndf(house, room, len(house)).output, house)
             self.assertEqual(write_mdf(r, m, room, len(house_m)).output, house_m)
-            self.assertEqual(write_rndf(r, room, len(house) - 1).refusal, (1, 0, 19))
+            self.assertEqual(write_rndf(r, room, len(house) - 1).refusal, (1, 0, 19, 0))
             # each table short by a number
             for t in TABLES:
                 if rows[t]:
                     less = dict(room, **{t: rows[t] * STRIDE[t] - 1})
                     self.assertEqual(read_pair(r, m, less).refusal,
-                                     (2 if t in oracle.MDF_TABLES else 1, 0, 11))
+                                     (2 if t in oracle.MDF_TABLES else 1, 0, 11, 0))
 
     def test_first_line_decides(self):
         """What stands behind a refused line is nothing; the lines before it
@@ -468,7 +470,7 @@ class RandomNetworks(unittest.TestCase):
             if reply.accepted or reply.refusal[2] not in FORM:
                 continue
             tried += 1
-            file, line, number = reply.refusal
+            file, line, number, _ = reply.refusal
             whole = r if file == 1 else m
             lines = whole.split(b"\n")
             upto = b"\n".join(lines[:line])
@@ -481,9 +483,65 @@ class RandomNetworks(unittest.TestCase):
             got = casefile.judge(mode, before if file == 1 else r,
                                  before if file == 2 else m, room)
             if got.refusal is not None and got.refusal[0] == file and got.refusal[2] in FORM + [10]:
-                self.assertEqual(got.refusal, (file, line, 10))
+                self.assertEqual(got.refusal, (file, line, 10, 0))
             else:       # the fault stood behind end_file
                 self.assertIn(number, (2, 3, 4, 5))
+
+    def test_columns(self):
+        """L7: what can be said of a column from the line alone."""
+        rng = random.Random(8)
+        seen = set()
+        for _ in range(4000):
+            mode, r, m, room = generate.one_case(rng)
+            reply = casefile.judge(mode, r, m, room)
+            if reply.accepted:
+                continue
+            file, line, number, column = reply.refusal
+            if line == 0 or number == 10:
+                self.assertEqual(column, 0)
+                continue
+            whole = (r if file == 1 else m).split(b"\n")[line - 1]
+            whole = whole[:-1] if whole.endswith(b"\r") else whole
+            before = whole.split(b"/*")[0]
+            starts = [i + 1 for i in range(len(before))
+                      if before[i] not in b"\t " and (i == 0 or before[i - 1] in b"\t ")]
+            seen.add(number)
+            if number == 2:
+                self.assertEqual(column, 513)
+            elif number == 3:
+                self.assertEqual(column, whole.index(b"/*") + 1)
+            elif number == 4:
+                closed = whole.find(b"*/", len(before) + 2)
+                bad = [i + 1 for i, b in enumerate(whole) if not (b == 9 or 32 <= b <= 126)
+                       or (b in b"\\*" and i < len(before))]
+                self.assertEqual(column, [i for i in bad if closed < 0 or i <= closed][0])
+            elif number in (5, 6, 7, 18, 25):
+                self.assertEqual(column, starts[0])
+            else:
+                fields = before.split()
+                k = starts.index(column)
+                self.assertEqual(k == 0, fields[0][:1].isdigit() and k == 0)
+                if number in (12, 13):
+                    self.assertEqual(k, 2)
+                elif number in (14, 15, 16, 17):
+                    self.assertEqual(k, 1 if number == 14 else 0)
+                elif number == 9:
+                    # what stands right of it is nothing, as long as it is well spelled
+                    other = before[:column - 1] + b"\t".join(fields[k:k + 1] + [
+                        b"0.000000" if f[-7:-6] == b"." else b"9.9.9" if b"." in f else b"0" for f in fields[k + 1:]])
+                    lines = (r if file == 1 else m).split(b"\n")
+                    other = b"\n".join(lines[:line - 1] + [other] + lines[line:])
+                    got = casefile.judge(mode, other if file == 1 else r, other if file == 2 else m, room)
+                    self.assertEqual(got.refusal, reply.refusal)
+        self.assertEqual(seen, set(range(2, 10)) | set(range(12, 19)) | {25})
+
+    def test_all_numbers_taken(self):
+        """L7: 13 gives the number, also where no number would be left."""
+        every = YARD_A[:7] + ["checkpoint>1.1.1>%d" % n for n in range(1, 32769)]
+        room = {t: 33000 * STRIDE[t] for t in TABLES}
+        self.assertTrue(read_rndf(text(every + YARD_A[9:]), room).accepted)
+        for line, column in (("checkpoint>1.1.1>1", 18), ("  checkpoint 1.1.2   32768", 22)):
+            self.assertEqual(read_rndf(text(every + [line] + YARD_A[9:]), room).refusal, (1, 32776, 13, column))
 
     def test_space_for_tab(self):
         """L3: a space separates as a tab does, whatever the text."""
@@ -505,8 +563,8 @@ class RandomNetworks(unittest.TestCase):
                 self.assertTrue(two.accepted)
                 self.assertEqual(two.tables["points"], one.tables["points"])
             elif one.refusal[0] == 1 and one.refusal[1]:
-                file, line, number = one.refusal
-                self.assertEqual(two.refusal, (file, line + 2, number))
+                file, line, number, column = one.refusal
+                self.assertEqual(two.refusal, (file, line + 2, number, column))
             else:
                 self.assertEqual(two.refusal, one.refusal)
 
@@ -541,15 +599,15 @@ class Large(unittest.TestCase):
         r, m = text(YARD_A), text(ROUND_1)
         full = r + b"\n" * (self.MOST - len(r))
         self.assertTrue(self.timed("blank lines", lambda: read_rndf(full, WIDE)).accepted)
-        self.assertEqual(read_rndf(full + b"\n", WIDE).refusal, (1, 0, 1))
+        self.assertEqual(read_rndf(full + b"\n", WIDE).refusal, (1, 0, 1, 0))
         full_m = m + b"\n" * (self.MOST - len(m))
         self.assertTrue(self.timed("blank MDF", lambda: read_pair(r, full_m, WIDE)).accepted)
-        self.assertEqual(read_pair(r, full_m + b"x", WIDE).refusal, (2, 0, 1))
-        self.assertEqual(read_pair(b"", full_m + b"x", WIDE).refusal, (1, 1, 10))
-        self.assertEqual(read_pair(r, full_m + b"x", dict(WIDE, points=0)).refusal, (1, 0, 11))
+        self.assertEqual(read_pair(r, full_m + b"x", WIDE).refusal, (2, 0, 1, 0))
+        self.assertEqual(read_pair(b"", full_m + b"x", WIDE).refusal, (1, 1, 10, 0))
+        self.assertEqual(read_pair(r, full_m + b"x", dict(WIDE, points=0)).refusal, (1, 0, 11, 0))
         one_line = b"x" * self.MOST
-        self.assertEqual(read_rndf(one_line, WIDE).refusal, (1, 1, 2))
-        self.assertEqual(read_rndf(b"\n" * self.MOST, WIDE).refusal, (1, self.MOST + 1, 10))
+        self.assertEqual(read_rndf(one_line, WIDE).refusal, (1, 1, 2, 513))
+        self.assertEqual(read_rndf(b"\n" * self.MOST, WIDE).refusal, (1, self.MOST + 1, 10, 0))
 
     def test_house_writing_one_byte_over(self):
         """A text of the largest size without its final LF has a house writing
@@ -565,8 +623,8 @@ class Large(unittest.TestCase):
         self.assertEqual(len(whole), self.MOST + 1)
         room = dict(WIDE, stops=count)
         got = self.timed("many stops", lambda: write_rndf(whole[:-1], room, self.MOST + 9))
-        self.assertEqual(got.refusal, (1, 0, 19))
-        self.assertEqual(read_rndf(whole, room).refusal, (1, 0, 1))
+        self.assertEqual(got.refusal, (1, 0, 19, 0))
+        self.assertEqual(read_rndf(whole, room).refusal, (1, 0, 1, 0))
         shorter = head(name) + stop * count + tail
         got = self.timed("fits", lambda: write_rndf(shorter, room, self.MOST))
         self.assertEqual(got.output, shorter)

@@ -59,6 +59,7 @@ fn put_refused(why: Refusal) {
     put_count(why.file as u32);
     put_count(why.line);
     put_count(why.number as u32);
+    put_count(why.column);
 }
 
 fn put_accepted(c: Counts, f: FileRow) {
