@@ -1,22 +1,25 @@
 -- What it says of a text that it gets 2 to 9 or 25 at a line, and what that it gets 10. Document 01, "Refusal numbers". Assumes nothing.
 use mathlib.Core.Path.{_≡_}
 use mathlib.Core.List.{List, [], _∷_, _++_}
+use mathlib.Core.Bool.{true}
 use Prim.Native.Nat.{ℕ, suc, _+_}
 use lib.ListN.{length}
 use Rattle.terms.specs.Ascii.{Bytes}
 use Rattle.line.specs.Text.{Cut}
 use Rattle.line.specs.Content.{Field}
+use Rattle.grammar.specs.Editions.{Edition, march}
+use Rattle.grammar.specs.Network.{under}
 use Rattle.grammar.specs.Language.{Lang, S}
 use Rattle.grammar.specs.Machine.{Machine, Place, at, next, run}
-use Rattle.grammar.specs.Places.{rndf, name-due}
+use Rattle.grammar.specs.Places.{rndf-by, name-due}
 use Rattle.grammar.specs.MissionPlaces as Mission
 use Rattle.text.specs.Said.{Said}
-use Rattle.text.specs.RndfLines.{rndf-line}
+use Rattle.text.specs.RndfLines.{rndf-line-in}
 use Rattle.text.specs.MdfLines.{mdf-line}
-use Rattle.text.specs.RndfWords.{rndf-lexis}
+use Rattle.text.specs.RndfWords.{rndf-lexis-in}
 use Rattle.text.specs.MdfWords.{mdf-lexis}
 use Rattle.text.specs.Judge.{Lexis}
-use Rattle.text.specs.Spelling.{SpellsLines, SpellsRndf, SpellsMdf}
+use Rattle.text.specs.Spelling.{SpellsLines, SpellsRndfIn, SpellsMdf}
 use Rattle.text.specs.Faults.{Fault}
 use Rattle.text.specs.Refusals.{Begin}
 
@@ -55,14 +58,21 @@ module _ {Net : Type 0} (Spells : Net → Bytes → Type 0) where
     pub begins : Begin Spells lines
     pub incomplete : (net : Net) → Spells net text → ⊥
 
--- ## RNDF
+-- ## RNDF, in each edition
 -- 01: "for the RNDF 1; then the first line with a fault of 2 to 9, lowest number first, all fields tried for 8 before any for 9; then 10"
-abbrev pub RndfBadLine : Bytes → (i n : ℕ) → Type 0
-RndfBadLine = BadLine (rndf Field) rndf-lexis rndf-line name-due
+abbrev pub RndfBadLineIn : Edition → Bytes → (i n : ℕ) → Type 0
+RndfBadLineIn e = BadLine (rndf-by Field (under e true)) (rndf-lexis-in e) (rndf-line-in e) name-due
 
 -- 01: 10 "text ends before `end_file`", at "lines + 1"; "10 is given only if every line is good, so the text begins some well-formed file"
+abbrev pub RndfUnendedIn : Edition → Bytes → (i : ℕ) → Type 0
+RndfUnendedIn e = Unended (SpellsRndfIn e)
+
+-- in the present edition
+abbrev pub RndfBadLine : Bytes → (i n : ℕ) → Type 0
+RndfBadLine = RndfBadLineIn march
+
 abbrev pub RndfUnended : Bytes → (i : ℕ) → Type 0
-RndfUnended = Unended SpellsRndf
+RndfUnended = RndfUnendedIn march
 
 -- ## MDF
 -- 01: "Then the MDF likewise": 2 to 9 ..

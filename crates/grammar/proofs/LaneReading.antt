@@ -10,7 +10,7 @@ use Rattle.terms.specs.Words.{pick, Each, Among, perhaps, Between, InTurn, noth
 use Rattle.terms.proofs.Lists.{map-id, each-any}
 use Rattle.grammar.specs.Forms.{eq?, Form, free}
 use Rattle.grammar.specs.Statements.{Kind, Position, Boundary, Statement, lines, say, part-id, point-id, point-line, numbered, segment, num-lanes, end-segment, lane, num-waypoints, end-lane, point}
-use Rattle.grammar.specs.Network.{largest, Checkpoint, Exit, Lane, Segment, OnEarth, GoodLane, LaneOptions, SpellsLane, SegmentOptions, SpellsSegment}
+use Rattle.grammar.specs.Network.{Under, largest, Checkpoint, Exit, Lane, Segment, OnEarth, GoodLane, LaneOptions, SpellsLane, SegmentOptions, SpellsSegment}
 use Rattle.grammar.specs.Permitted.{part?, counted, theNumber, thePart, thePoint, laneRow, segmentRow}
 use Rattle.grammar.specs.Places.{rndf-by, Base, part-due, num-lanes-due, first-lane-due, lane-due, num-waypoints-due, first-waypoint-due, waypoint-due}
 use Rattle.grammar.proofs.Options.{Holds, Given}
@@ -21,17 +21,17 @@ pub always : (strict : Bool) → pick strict true true ≡ true
 always true = refl
 always false = refl
 
-module _ (strict : Bool) (N : Type 0) where
+module _ (by : Under) (N : Type 0) where
   abbrev pub Lines : Type 0
   Lines = List (Statement N)
 
   -- a relation is read from a base to another
   abbrev pub To : {A : Type 0} → (A → Lines → Type 0) → Base → Base → Type 1
-  To Sp p q = Reads (rndf-by N strict) Sp (some p) (λ x. some q)
+  To Sp p q = Reads (rndf-by N by) Sp (some p) (λ x. some q)
 
   -- ## Points in turn are the numbered lines
   abbrev pub PointAt : (m n i : ℕ) → Position → Lines → Type 0
-  PointAt m n i = Line (rndf-by N strict) point (thePoint m n i)
+  PointAt m n i = Line (rndf-by N by) point (thePoint m n i)
 
   pub points-in-turn : (m n i : ℕ) (ps : List Position) → Each OnEarth ps → InTurn (PointAt m n) i ps (numbered m n i ps)
   unfolding numbered
@@ -45,18 +45,18 @@ module _ (strict : Bool) (N : Type 0) where
 
   -- ## What follows `lane m.n`
   abbrev LaneParts : (m n : ℕ) → ℕ × ((Holds (lines N) (laneRow N m n 0) × Position) × (List Position × Unit {0})) → Lines → Type 0
-  LaneParts m n = Seq (rndf-by N strict) (Line (rndf-by N strict) num-waypoints counted) λ w. Seq (rndf-by N strict) (After (rndf-by N strict) (laneRow N m n w) point (thePoint m n 1)) λ x. Many (rndf-by N strict) (PointAt m n) (λ i. Line (rndf-by N strict) end-lane (free (Unit {0}))) 2 (pred w)
+  LaneParts m n = Seq (rndf-by N by) (Line (rndf-by N by) num-waypoints counted) λ w. Seq (rndf-by N by) (After (rndf-by N by) (laneRow N m n w) point (thePoint m n 1)) λ x. Many (rndf-by N by) (PointAt m n) (λ i. Line (rndf-by N by) end-lane (free (Unit {0}))) 2 (pred w)
 
   abbrev pub LaneBody : (m n : ℕ) → Lane → Lines → Type 0
   LaneBody m n a l = SpellsLane m n a (say lane (part-id m n) ∷ l)
 
   parts-lane : (m o z n l : ℕ) → To (LaneParts m n) (num-waypoints-due m o z n l) (lane-due m o z (suc n) l)
   parts-lane m o z n l =
-      reads-seq (rndf-by N strict) (reads-line (rndf-by N strict) (num-waypoints-due m o z n l) counted refl (λ v. refl) (λ g. always strict)) λ w.
-      reads-seq (rndf-by N strict) (reads-after (rndf-by N strict) (first-waypoint-due m o z n l w) (laneRow N m n w) (thePoint m n 1) refl (λ v. refl) (λ g. always strict)) λ x.
-      reads-many (rndf-by N strict) (PointAt m n) (λ i. Line (rndf-by N strict) end-lane (free (Unit {0}))) (λ i w. some (waypoint-due m o z n l i w)) (some (lane-due m o z (suc n) l))
-      (λ i w. reads-line (rndf-by N strict) (waypoint-due m o z n l i (suc w)) (thePoint m n i) refl (λ v. refl) (λ g. always strict))
-      (λ i. reads-line (rndf-by N strict) (waypoint-due m o z n l i zero) (free (Unit {0})) refl (λ v. refl) (λ g. always strict)) 2 (pred w)
+      reads-seq (rndf-by N by) (reads-line (rndf-by N by) (num-waypoints-due m o z n l) counted refl (λ v. refl) (λ g. always (by .strict))) λ w.
+      reads-seq (rndf-by N by) (reads-after (rndf-by N by) (first-waypoint-due m o z n l w) (laneRow N m n w) (thePoint m n 1) refl (λ v. refl) (λ g. always (by .strict))) λ x.
+      reads-many (rndf-by N by) (PointAt m n) (λ i. Line (rndf-by N by) end-lane (free (Unit {0}))) (λ i w. some (waypoint-due m o z n l i w)) (some (lane-due m o z (suc n) l))
+      (λ i w. reads-line (rndf-by N by) (waypoint-due m o z n l i (suc w)) (thePoint m n i) refl (λ v. refl) (λ g. always (by .strict)))
+      (λ i. reads-line (rndf-by N by) (waypoint-due m o z n l i zero) (free (Unit {0})) refl (λ v. refl) (λ g. always (by .strict))) 2 (pred w)
 
   laneOf : ℕ × ((Holds (lines N) (laneRow N 0 0 0) × Position) × (List Position × Unit {0})) → Lane
   laneOf x = let h = x .1 .0 .0 in record { width = h .0; left = h .1 .0; right = h .1 .1 .0; checkpoints = h .1 .1 .1 .0; stops = h .1 .1 .1 .1 .0; exits = h .1 .1 .1 .1 .1 .0; points = x .1 .0 .1 ∷ x .1 .1 .0 }
@@ -132,25 +132,25 @@ module _ (strict : Bool) (N : Type 0) where
       record { options = o .0; given = g .0; good = g .1; spelled = rw (y .4, y .2 .1, b .4, o .3, e .5, t .1, e .4 .1, append-assoc, w) }
 
   pub reads-body : (m o z n l : ℕ) → To (LaneBody m n) (num-waypoints-due m o z n l) (lane-due m o z (suc n) l)
-  reads-body m o z n l = reads-as (rndf-by N strict) laneOf (λ a l s. to-lane m n a (a .points) l s) (from-lane m n) (parts-lane m o z n l)
+  reads-body m o z n l = reads-as (rndf-by N by) laneOf (λ a l s. to-lane m n a (a .points) l s) (from-lane m n) (parts-lane m o z n l)
 
   pub reads-lane : (m o z n l : ℕ) → To (SpellsLane m n) (lane-due m o z n (suc l)) (lane-due m o z (suc n) l)
-  reads-lane m o z n l = reads-open (rndf-by N strict) (SpellsLane m n) lane part? (part-id m n) (λ a w s. (_, s .spelled)) (reads-line (rndf-by N strict) (lane-due m o z n (suc l)) (thePart m n) refl (λ v. refl) (λ g. always strict)) (reads-body m o z n l)
+  reads-lane m o z n l = reads-open (rndf-by N by) (SpellsLane m n) lane part? (part-id m n) (λ a w s. (_, s .spelled)) (reads-line (rndf-by N by) (lane-due m o z n (suc l)) (thePart m n) refl (λ v. refl) (λ g. always (by .strict))) (reads-body m o z n l)
 
   -- ## What follows `segment m`
   abbrev SegmentParts : (m : ℕ) → ℕ × ((Holds (lines N) (segmentRow N) × Unit {0}) × (Lane × (List Lane × Unit {0}))) → Lines → Type 0
-  SegmentParts m = Seq (rndf-by N strict) (Line (rndf-by N strict) num-lanes counted) λ l. Seq (rndf-by N strict) (After (rndf-by N strict) (segmentRow N) lane (thePart m 1)) λ x. Seq (rndf-by N strict) (LaneBody m 1) λ a. Many (rndf-by N strict) (SpellsLane m) (λ i. Line (rndf-by N strict) end-segment (free (Unit {0}))) 2 (pred l)
+  SegmentParts m = Seq (rndf-by N by) (Line (rndf-by N by) num-lanes counted) λ l. Seq (rndf-by N by) (After (rndf-by N by) (segmentRow N) lane (thePart m 1)) λ x. Seq (rndf-by N by) (LaneBody m 1) λ a. Many (rndf-by N by) (SpellsLane m) (λ i. Line (rndf-by N by) end-segment (free (Unit {0}))) 2 (pred l)
 
   abbrev pub SegmentBody : (m : ℕ) → (Segment N) → Lines → Type 0
   SegmentBody m a l = SpellsSegment m a (say segment m ∷ l)
 
   parts-segment : (m o z : ℕ) → To (SegmentParts m) (num-lanes-due m o z) (part-due (suc m) o z)
   parts-segment m o z =
-      reads-seq (rndf-by N strict) (reads-line (rndf-by N strict) (num-lanes-due m o z) counted refl (λ v. refl) (λ g. always strict)) λ l.
-      reads-seq (rndf-by N strict) (reads-after (rndf-by N strict) (first-lane-due m o z l) (segmentRow N) (thePart m 1) refl (λ v. refl) (λ g. always strict)) λ x.
-      reads-seq (rndf-by N strict) (reads-body m o z 1 (pred l)) λ a.
-      reads-many (rndf-by N strict) (SpellsLane m) (λ i. Line (rndf-by N strict) end-segment (free (Unit {0}))) (λ i l. some (lane-due m o z i l)) (some (part-due (suc m) o z))
-      (λ i l. reads-lane m o z i l) (λ i. reads-line (rndf-by N strict) (lane-due m o z i zero) (free (Unit {0})) refl (λ v. refl) (λ g. always strict)) 2 (pred l)
+      reads-seq (rndf-by N by) (reads-line (rndf-by N by) (num-lanes-due m o z) counted refl (λ v. refl) (λ g. always (by .strict))) λ l.
+      reads-seq (rndf-by N by) (reads-after (rndf-by N by) (first-lane-due m o z l) (segmentRow N) (thePart m 1) refl (λ v. refl) (λ g. always (by .strict))) λ x.
+      reads-seq (rndf-by N by) (reads-body m o z 1 (pred l)) λ a.
+      reads-many (rndf-by N by) (SpellsLane m) (λ i. Line (rndf-by N by) end-segment (free (Unit {0}))) (λ i l. some (lane-due m o z i l)) (some (part-due (suc m) o z))
+      (λ i l. reads-lane m o z i l) (λ i. reads-line (rndf-by N by) (lane-due m o z i zero) (free (Unit {0})) refl (λ v. refl) (λ g. always (by .strict))) 2 (pred l)
 
   segmentOf : ℕ × ((Holds (lines N) (segmentRow N) × Unit {0}) × (Lane × (List Lane × Unit {0}))) → (Segment N)
   segmentOf x = record { name = x .1 .0 .0 .0; lanes = x .1 .1 .0 ∷ x .1 .1 .1 .0 }
@@ -202,7 +202,7 @@ module _ (strict : Bool) (N : Type 0) where
       }
 
   pub reads-segment-body : (m o z : ℕ) → To (SegmentBody m) (num-lanes-due m o z) (part-due (suc m) o z)
-  reads-segment-body m o z = reads-as (rndf-by N strict) segmentOf (λ a l s. to-segment m (a .name) (a .lanes) l (s .options) (s .lanes) (s .given) (s .count) (s .each) (tail-eq-of-cons-eq (s .spelled))) (from-segment m) (parts-segment m o z)
+  reads-segment-body m o z = reads-as (rndf-by N by) segmentOf (λ a l s. to-segment m (a .name) (a .lanes) l (s .options) (s .lanes) (s .given) (s .count) (s .each) (tail-eq-of-cons-eq (s .spelled))) (from-segment m) (parts-segment m o z)
 
   pub reads-segment : (m o z : ℕ) → To (SpellsSegment m) (part-due m (suc o) z) (part-due (suc m) o z)
-  reads-segment m o z = reads-open (rndf-by N strict) (SpellsSegment m) segment eq? m (λ a w s. (_, s .spelled)) (reads-line (rndf-by N strict) (part-due m (suc o) z) (theNumber m) refl (λ v. refl) (λ g. always strict)) (reads-segment-body m o z)
+  reads-segment m o z = reads-open (rndf-by N by) (SpellsSegment m) segment eq? m (λ a w s. (_, s .spelled)) (reads-line (rndf-by N by) (part-due m (suc o) z) (theNumber m) refl (λ v. refl) (λ g. always (by .strict))) (reads-segment-body m o z)

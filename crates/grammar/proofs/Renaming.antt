@@ -11,10 +11,12 @@ use Rattle.grammar.specs.Language.{Lang, S, say, as-dec, asKind, allOf, 
 use Rattle.grammar.specs.Machine.{Out, next, refuse, Opt, Due, Verdict, other, bad, good, judge, lacks, distinct, take, optAt, clear, Machine, Stand, over, inside, guard, enter, hit, settle, step}
 use Rattle.grammar.specs.Forms.{tested}
 use Rattle.grammar.specs.Network.{GoodExit, GoodPerimeterExit}
+use Rattle.grammar.specs.Editions.{Edition, march}
+use Rattle.grammar.specs.Network.{Under, under}
 use Rattle.grammar.specs.Permitted.{counted, atMost, ownCheckpoint, ownStop, ownExit, exit?, perimeter-exit?}
 use Rattle.grammar.specs.Statements.{Kind, Kind-discrete, Says, Statement, RNDF-name, num-segments, num-zones, format-version, creation-date, segment, num-lanes, segment-name, end-segment, lane, num-waypoints, lane-width, left-boundary, right-boundary, checkpoint, stop, exit, end-lane, zone, num-spots, zone-name, end-zone, perimeter, num-perimeterpoints, end-perimeter, spot, spot-width, end-spot, end-file, point}
 use Rattle.grammar.specs.MissionStatements as M
-use Rattle.grammar.specs.Places.{rndf-by, rndf, marked, Base, opts, due, apart, name-due, num-segments-due, num-zones-due, first-segment-due, part-due, num-lanes-due, first-lane-due, lane-due, num-waypoints-due, first-waypoint-due, waypoint-due, num-spots-due, perimeter-due, num-perimeterpoints-due, first-perimeterpoint-due, perimeterpoint-due, spot-due, first-of-spot-due, second-of-spot-due, end-spot-due}
+use Rattle.grammar.specs.Places.{rndf-by, rndf, marked, Base, opts, due-in, due, apart, name-due, num-segments-due, num-zones-due, first-segment-due, part-due, num-lanes-due, first-lane-due, lane-due, num-waypoints-due, first-waypoint-due, waypoint-due, num-spots-due, perimeter-due, num-perimeterpoints-due, first-perimeterpoint-due, perimeterpoint-due, spot-due, first-of-spot-due, second-of-spot-due, end-spot-due}
 use Rattle.grammar.specs.MissionPlaces as Ma
 use Rattle.grammar.specs.Stands.{asDue, ofRow, stands}
 use Rattle.grammar.specs.Stands as Stands
@@ -249,33 +251,33 @@ module _ {N N′ : Type 0} (f : N → N′) where
   rows (second-of-spot-due m z n s) = []
   rows (end-spot-due m z n s) = []
 
-  dues : Base → D
-  dues name-due = both-due RNDF-name (due N name-due .test) (due N′ name-due .test) (due N name-due .then) (due N′ name-due .then) (λ v. refl) (λ v. refl)
-  dues num-segments-due = both-due num-segments (due N num-segments-due .test) (due N′ num-segments-due .test) (due N num-segments-due .then) (due N′ num-segments-due .then) (λ v. refl) (λ v. refl)
-  dues (num-zones-due o) = both-due num-zones (due N (num-zones-due o) .test) (due N′ (num-zones-due o) .test) (due N (num-zones-due o) .then) (due N′ (num-zones-due o) .then) (λ v. refl) (λ v. refl)
-  dues (first-segment-due o z) = both-due segment (due N (first-segment-due o z) .test) (due N′ (first-segment-due o z) .test) (due N (first-segment-due o z) .then) (due N′ (first-segment-due o z) .then) (λ v. refl) (λ v. refl)
-  dues (part-due m (suc o) z) = both-due segment (due N (part-due m (suc o) z) .test) (due N′ (part-due m (suc o) z) .test) (due N (part-due m (suc o) z) .then) (due N′ (part-due m (suc o) z) .then) (λ v. refl) (λ v. refl)
-  dues (part-due m zero (suc z)) = both-due zone (due N (part-due m zero (suc z)) .test) (due N′ (part-due m zero (suc z)) .test) (due N (part-due m zero (suc z)) .then) (due N′ (part-due m zero (suc z)) .then) (λ v. refl) (λ v. refl)
-  dues (part-due m zero zero) = both-due end-file (due N (part-due m zero zero) .test) (due N′ (part-due m zero zero) .test) (due N (part-due m zero zero) .then) (due N′ (part-due m zero zero) .then) (λ v. refl) (λ v. refl)
-  dues (num-lanes-due m o z) = both-due num-lanes (due N (num-lanes-due m o z) .test) (due N′ (num-lanes-due m o z) .test) (due N (num-lanes-due m o z) .then) (due N′ (num-lanes-due m o z) .then) (λ v. refl) (λ v. refl)
-  dues (first-lane-due m o z l) = both-due lane (due N (first-lane-due m o z l) .test) (due N′ (first-lane-due m o z l) .test) (due N (first-lane-due m o z l) .then) (due N′ (first-lane-due m o z l) .then) (λ v. refl) (λ v. refl)
-  dues (lane-due m o z n (suc l)) = both-due lane (due N (lane-due m o z n (suc l)) .test) (due N′ (lane-due m o z n (suc l)) .test) (due N (lane-due m o z n (suc l)) .then) (due N′ (lane-due m o z n (suc l)) .then) (λ v. refl) (λ v. refl)
-  dues (lane-due m o z n zero) = both-due end-segment (due N (lane-due m o z n zero) .test) (due N′ (lane-due m o z n zero) .test) (due N (lane-due m o z n zero) .then) (due N′ (lane-due m o z n zero) .then) (λ v. refl) (λ v. refl)
-  dues (num-waypoints-due m o z n l) = both-due num-waypoints (due N (num-waypoints-due m o z n l) .test) (due N′ (num-waypoints-due m o z n l) .test) (due N (num-waypoints-due m o z n l) .then) (due N′ (num-waypoints-due m o z n l) .then) (λ v. refl) (λ v. refl)
-  dues (first-waypoint-due m o z n l w) = both-due point (due N (first-waypoint-due m o z n l w) .test) (due N′ (first-waypoint-due m o z n l w) .test) (due N (first-waypoint-due m o z n l w) .then) (due N′ (first-waypoint-due m o z n l w) .then) (λ v. refl) (λ v. refl)
-  dues (waypoint-due m o z n l k (suc w)) = both-due point (due N (waypoint-due m o z n l k (suc w)) .test) (due N′ (waypoint-due m o z n l k (suc w)) .test) (due N (waypoint-due m o z n l k (suc w)) .then) (due N′ (waypoint-due m o z n l k (suc w)) .then) (λ v. refl) (λ v. refl)
-  dues (waypoint-due m o z n l k zero) = both-due end-lane (due N (waypoint-due m o z n l k zero) .test) (due N′ (waypoint-due m o z n l k zero) .test) (due N (waypoint-due m o z n l k zero) .then) (due N′ (waypoint-due m o z n l k zero) .then) (λ v. refl) (λ v. refl)
-  dues (num-spots-due m z) = both-due num-spots (due N (num-spots-due m z) .test) (due N′ (num-spots-due m z) .test) (due N (num-spots-due m z) .then) (due N′ (num-spots-due m z) .then) (λ v. refl) (λ v. refl)
-  dues (perimeter-due m z s) = both-due perimeter (due N (perimeter-due m z s) .test) (due N′ (perimeter-due m z s) .test) (due N (perimeter-due m z s) .then) (due N′ (perimeter-due m z s) .then) (λ v. refl) (λ v. refl)
-  dues (num-perimeterpoints-due m z s) = both-due num-perimeterpoints (due N (num-perimeterpoints-due m z s) .test) (due N′ (num-perimeterpoints-due m z s) .test) (due N (num-perimeterpoints-due m z s) .then) (due N′ (num-perimeterpoints-due m z s) .then) (λ v. refl) (λ v. refl)
-  dues (first-perimeterpoint-due m z s p) = both-due point (due N (first-perimeterpoint-due m z s p) .test) (due N′ (first-perimeterpoint-due m z s p) .test) (due N (first-perimeterpoint-due m z s p) .then) (due N′ (first-perimeterpoint-due m z s p) .then) (λ v. refl) (λ v. refl)
-  dues (perimeterpoint-due m z s k (suc p)) = both-due point (due N (perimeterpoint-due m z s k (suc p)) .test) (due N′ (perimeterpoint-due m z s k (suc p)) .test) (due N (perimeterpoint-due m z s k (suc p)) .then) (due N′ (perimeterpoint-due m z s k (suc p)) .then) (λ v. refl) (λ v. refl)
-  dues (perimeterpoint-due m z s k zero) = both-due end-perimeter (due N (perimeterpoint-due m z s k zero) .test) (due N′ (perimeterpoint-due m z s k zero) .test) (due N (perimeterpoint-due m z s k zero) .then) (due N′ (perimeterpoint-due m z s k zero) .then) (λ v. refl) (λ v. refl)
-  dues (spot-due m z n (suc s)) = both-due spot (due N (spot-due m z n (suc s)) .test) (due N′ (spot-due m z n (suc s)) .test) (due N (spot-due m z n (suc s)) .then) (due N′ (spot-due m z n (suc s)) .then) (λ v. refl) (λ v. refl)
-  dues (spot-due m z n zero) = both-due end-zone (due N (spot-due m z n zero) .test) (due N′ (spot-due m z n zero) .test) (due N (spot-due m z n zero) .then) (due N′ (spot-due m z n zero) .then) (λ v. refl) (λ v. refl)
-  dues (first-of-spot-due m z n s) = both-due point (due N (first-of-spot-due m z n s) .test) (due N′ (first-of-spot-due m z n s) .test) (due N (first-of-spot-due m z n s) .then) (due N′ (first-of-spot-due m z n s) .then) (λ v. refl) (λ v. refl)
-  dues (second-of-spot-due m z n s) = both-due point (due N (second-of-spot-due m z n s) .test) (due N′ (second-of-spot-due m z n s) .test) (due N (second-of-spot-due m z n s) .then) (due N′ (second-of-spot-due m z n s) .then) (λ v. refl) (λ v. refl)
-  dues (end-spot-due m z n s) = both-due end-spot (due N (end-spot-due m z n s) .test) (due N′ (end-spot-due m z n s) .test) (due N (end-spot-due m z n s) .then) (due N′ (end-spot-due m z n s) .then) (λ v. refl) (λ v. refl)
+  dues : Edition → Base → D
+  dues e name-due = both-due RNDF-name (due-in N e name-due .test) (due-in N′ e name-due .test) (due-in N e name-due .then) (due-in N′ e name-due .then) (λ v. refl) (λ v. refl)
+  dues e num-segments-due = both-due num-segments (due-in N e num-segments-due .test) (due-in N′ e num-segments-due .test) (due-in N e num-segments-due .then) (due-in N′ e num-segments-due .then) (λ v. refl) (λ v. refl)
+  dues e (num-zones-due o) = both-due num-zones (due-in N e (num-zones-due o) .test) (due-in N′ e (num-zones-due o) .test) (due-in N e (num-zones-due o) .then) (due-in N′ e (num-zones-due o) .then) (λ v. refl) (λ v. refl)
+  dues e (first-segment-due o z) = both-due segment (due-in N e (first-segment-due o z) .test) (due-in N′ e (first-segment-due o z) .test) (due-in N e (first-segment-due o z) .then) (due-in N′ e (first-segment-due o z) .then) (λ v. refl) (λ v. refl)
+  dues e (part-due m (suc o) z) = both-due segment (due-in N e (part-due m (suc o) z) .test) (due-in N′ e (part-due m (suc o) z) .test) (due-in N e (part-due m (suc o) z) .then) (due-in N′ e (part-due m (suc o) z) .then) (λ v. refl) (λ v. refl)
+  dues e (part-due m zero (suc z)) = both-due zone (due-in N e (part-due m zero (suc z)) .test) (due-in N′ e (part-due m zero (suc z)) .test) (due-in N e (part-due m zero (suc z)) .then) (due-in N′ e (part-due m zero (suc z)) .then) (λ v. refl) (λ v. refl)
+  dues e (part-due m zero zero) = both-due end-file (due-in N e (part-due m zero zero) .test) (due-in N′ e (part-due m zero zero) .test) (due-in N e (part-due m zero zero) .then) (due-in N′ e (part-due m zero zero) .then) (λ v. refl) (λ v. refl)
+  dues e (num-lanes-due m o z) = both-due num-lanes (due-in N e (num-lanes-due m o z) .test) (due-in N′ e (num-lanes-due m o z) .test) (due-in N e (num-lanes-due m o z) .then) (due-in N′ e (num-lanes-due m o z) .then) (λ v. refl) (λ v. refl)
+  dues e (first-lane-due m o z l) = both-due lane (due-in N e (first-lane-due m o z l) .test) (due-in N′ e (first-lane-due m o z l) .test) (due-in N e (first-lane-due m o z l) .then) (due-in N′ e (first-lane-due m o z l) .then) (λ v. refl) (λ v. refl)
+  dues e (lane-due m o z n (suc l)) = both-due lane (due-in N e (lane-due m o z n (suc l)) .test) (due-in N′ e (lane-due m o z n (suc l)) .test) (due-in N e (lane-due m o z n (suc l)) .then) (due-in N′ e (lane-due m o z n (suc l)) .then) (λ v. refl) (λ v. refl)
+  dues e (lane-due m o z n zero) = both-due end-segment (due-in N e (lane-due m o z n zero) .test) (due-in N′ e (lane-due m o z n zero) .test) (due-in N e (lane-due m o z n zero) .then) (due-in N′ e (lane-due m o z n zero) .then) (λ v. refl) (λ v. refl)
+  dues e (num-waypoints-due m o z n l) = both-due num-waypoints (due-in N e (num-waypoints-due m o z n l) .test) (due-in N′ e (num-waypoints-due m o z n l) .test) (due-in N e (num-waypoints-due m o z n l) .then) (due-in N′ e (num-waypoints-due m o z n l) .then) (λ v. refl) (λ v. refl)
+  dues e (first-waypoint-due m o z n l w) = both-due point (due-in N e (first-waypoint-due m o z n l w) .test) (due-in N′ e (first-waypoint-due m o z n l w) .test) (due-in N e (first-waypoint-due m o z n l w) .then) (due-in N′ e (first-waypoint-due m o z n l w) .then) (λ v. refl) (λ v. refl)
+  dues e (waypoint-due m o z n l k (suc w)) = both-due point (due-in N e (waypoint-due m o z n l k (suc w)) .test) (due-in N′ e (waypoint-due m o z n l k (suc w)) .test) (due-in N e (waypoint-due m o z n l k (suc w)) .then) (due-in N′ e (waypoint-due m o z n l k (suc w)) .then) (λ v. refl) (λ v. refl)
+  dues e (waypoint-due m o z n l k zero) = both-due end-lane (due-in N e (waypoint-due m o z n l k zero) .test) (due-in N′ e (waypoint-due m o z n l k zero) .test) (due-in N e (waypoint-due m o z n l k zero) .then) (due-in N′ e (waypoint-due m o z n l k zero) .then) (λ v. refl) (λ v. refl)
+  dues e (num-spots-due m z) = both-due num-spots (due-in N e (num-spots-due m z) .test) (due-in N′ e (num-spots-due m z) .test) (due-in N e (num-spots-due m z) .then) (due-in N′ e (num-spots-due m z) .then) (λ v. refl) (λ v. refl)
+  dues e (perimeter-due m z s) = both-due perimeter (due-in N e (perimeter-due m z s) .test) (due-in N′ e (perimeter-due m z s) .test) (due-in N e (perimeter-due m z s) .then) (due-in N′ e (perimeter-due m z s) .then) (λ v. refl) (λ v. refl)
+  dues e (num-perimeterpoints-due m z s) = both-due num-perimeterpoints (due-in N e (num-perimeterpoints-due m z s) .test) (due-in N′ e (num-perimeterpoints-due m z s) .test) (due-in N e (num-perimeterpoints-due m z s) .then) (due-in N′ e (num-perimeterpoints-due m z s) .then) (λ v. refl) (λ v. refl)
+  dues e (first-perimeterpoint-due m z s p) = both-due point (due-in N e (first-perimeterpoint-due m z s p) .test) (due-in N′ e (first-perimeterpoint-due m z s p) .test) (due-in N e (first-perimeterpoint-due m z s p) .then) (due-in N′ e (first-perimeterpoint-due m z s p) .then) (λ v. refl) (λ v. refl)
+  dues e (perimeterpoint-due m z s k (suc p)) = both-due point (due-in N e (perimeterpoint-due m z s k (suc p)) .test) (due-in N′ e (perimeterpoint-due m z s k (suc p)) .test) (due-in N e (perimeterpoint-due m z s k (suc p)) .then) (due-in N′ e (perimeterpoint-due m z s k (suc p)) .then) (λ v. refl) (λ v. refl)
+  dues e (perimeterpoint-due m z s k zero) = both-due end-perimeter (due-in N e (perimeterpoint-due m z s k zero) .test) (due-in N′ e (perimeterpoint-due m z s k zero) .test) (due-in N e (perimeterpoint-due m z s k zero) .then) (due-in N′ e (perimeterpoint-due m z s k zero) .then) (λ v. refl) (λ v. refl)
+  dues e (spot-due m z n (suc s)) = both-due spot (due-in N e (spot-due m z n (suc s)) .test) (due-in N′ e (spot-due m z n (suc s)) .test) (due-in N e (spot-due m z n (suc s)) .then) (due-in N′ e (spot-due m z n (suc s)) .then) (λ v. refl) (λ v. refl)
+  dues e (spot-due m z n zero) = both-due end-zone (due-in N e (spot-due m z n zero) .test) (due-in N′ e (spot-due m z n zero) .test) (due-in N e (spot-due m z n zero) .then) (due-in N′ e (spot-due m z n zero) .then) (λ v. refl) (λ v. refl)
+  dues e (first-of-spot-due m z n s) = both-due point (due-in N e (first-of-spot-due m z n s) .test) (due-in N′ e (first-of-spot-due m z n s) .test) (due-in N e (first-of-spot-due m z n s) .then) (due-in N′ e (first-of-spot-due m z n s) .then) (λ v. refl) (λ v. refl)
+  dues e (second-of-spot-due m z n s) = both-due point (due-in N e (second-of-spot-due m z n s) .test) (due-in N′ e (second-of-spot-due m z n s) .test) (due-in N e (second-of-spot-due m z n s) .then) (due-in N′ e (second-of-spot-due m z n s) .then) (λ v. refl) (λ v. refl)
+  dues e (end-spot-due m z n s) = both-due end-spot (due-in N e (end-spot-due m z n s) .test) (due-in N′ e (end-spot-due m z n s) .test) (due-in N e (end-spot-due m z n s) .then) (due-in N′ e (end-spot-due m z n s) .then) (λ v. refl) (λ v. refl)
 
   is-o : (b : Base) → opts N b ≡ map (left Kind-discrete (Says N) (Says N′) (says-named f)) (rows b)
   unfolding rows
@@ -323,73 +325,75 @@ module _ {N N′ : Type 0} (f : N → N′) where
   is-o′ (second-of-spot-due m z n s) = refl
   is-o′ (end-spot-due m z n s) = refl
 
-  is-u : (b : Base) → due N b ≡ left-due Kind-discrete (Says N) (Says N′) (says-named f) rows dues b
+  is-u : (e : Edition) (b : Base) → due-in N e b ≡ left-due Kind-discrete (Says N) (Says N′) (says-named f) rows (dues e) b
   unfolding dues
-  is-u name-due = refl
-  is-u num-segments-due = refl
-  is-u (num-zones-due o) = refl
-  is-u (first-segment-due o z) = refl
-  is-u (part-due m (suc o) z) = refl
-  is-u (part-due m zero (suc z)) = refl
-  is-u (part-due m zero zero) = refl
-  is-u (num-lanes-due m o z) = refl
-  is-u (first-lane-due m o z l) = refl
-  is-u (lane-due m o z n (suc l)) = refl
-  is-u (lane-due m o z n zero) = refl
-  is-u (num-waypoints-due m o z n l) = refl
-  is-u (first-waypoint-due m o z n l w) = refl
-  is-u (waypoint-due m o z n l k (suc w)) = refl
-  is-u (waypoint-due m o z n l k zero) = refl
-  is-u (num-spots-due m z) = refl
-  is-u (perimeter-due m z s) = refl
-  is-u (num-perimeterpoints-due m z s) = refl
-  is-u (first-perimeterpoint-due m z s p) = refl
-  is-u (perimeterpoint-due m z s k (suc p)) = refl
-  is-u (perimeterpoint-due m z s k zero) = refl
-  is-u (spot-due m z n (suc s)) = refl
-  is-u (spot-due m z n zero) = refl
-  is-u (first-of-spot-due m z n s) = refl
-  is-u (second-of-spot-due m z n s) = refl
-  is-u (end-spot-due m z n s) = refl
+  is-u e name-due = refl
+  is-u e num-segments-due = refl
+  is-u e (num-zones-due o) = refl
+  is-u e (first-segment-due o z) = refl
+  is-u e (part-due m (suc o) z) = refl
+  is-u e (part-due m zero (suc z)) = refl
+  is-u e (part-due m zero zero) = refl
+  is-u e (num-lanes-due m o z) = refl
+  is-u e (first-lane-due m o z l) = refl
+  is-u e (lane-due m o z n (suc l)) = refl
+  is-u e (lane-due m o z n zero) = refl
+  is-u e (num-waypoints-due m o z n l) = refl
+  is-u e (first-waypoint-due m o z n l w) = refl
+  is-u e (waypoint-due m o z n l k (suc w)) = refl
+  is-u e (waypoint-due m o z n l k zero) = refl
+  is-u e (num-spots-due m z) = refl
+  is-u e (perimeter-due m z s) = refl
+  is-u e (num-perimeterpoints-due m z s) = refl
+  is-u e (first-perimeterpoint-due m z s p) = refl
+  is-u e (perimeterpoint-due m z s k (suc p)) = refl
+  is-u e (perimeterpoint-due m z s k zero) = refl
+  is-u e (spot-due m z n (suc s)) = refl
+  is-u e (spot-due m z n zero) = refl
+  is-u e (first-of-spot-due m z n s) = refl
+  is-u e (second-of-spot-due m z n s) = refl
+  is-u e (end-spot-due m z n s) = refl
 
-  is-u′ : (b : Base) → due N′ b ≡ right-due Kind-discrete (Says N) (Says N′) (says-named f) rows dues b
+  is-u′ : (e : Edition) (b : Base) → due-in N′ e b ≡ right-due Kind-discrete (Says N) (Says N′) (says-named f) rows (dues e) b
   unfolding dues
-  is-u′ name-due = refl
-  is-u′ num-segments-due = refl
-  is-u′ (num-zones-due o) = refl
-  is-u′ (first-segment-due o z) = refl
-  is-u′ (part-due m (suc o) z) = refl
-  is-u′ (part-due m zero (suc z)) = refl
-  is-u′ (part-due m zero zero) = refl
-  is-u′ (num-lanes-due m o z) = refl
-  is-u′ (first-lane-due m o z l) = refl
-  is-u′ (lane-due m o z n (suc l)) = refl
-  is-u′ (lane-due m o z n zero) = refl
-  is-u′ (num-waypoints-due m o z n l) = refl
-  is-u′ (first-waypoint-due m o z n l w) = refl
-  is-u′ (waypoint-due m o z n l k (suc w)) = refl
-  is-u′ (waypoint-due m o z n l k zero) = refl
-  is-u′ (num-spots-due m z) = refl
-  is-u′ (perimeter-due m z s) = refl
-  is-u′ (num-perimeterpoints-due m z s) = refl
-  is-u′ (first-perimeterpoint-due m z s p) = refl
-  is-u′ (perimeterpoint-due m z s k (suc p)) = refl
-  is-u′ (perimeterpoint-due m z s k zero) = refl
-  is-u′ (spot-due m z n (suc s)) = refl
-  is-u′ (spot-due m z n zero) = refl
-  is-u′ (first-of-spot-due m z n s) = refl
-  is-u′ (second-of-spot-due m z n s) = refl
-  is-u′ (end-spot-due m z n s) = refl
+  is-u′ e name-due = refl
+  is-u′ e num-segments-due = refl
+  is-u′ e (num-zones-due o) = refl
+  is-u′ e (first-segment-due o z) = refl
+  is-u′ e (part-due m (suc o) z) = refl
+  is-u′ e (part-due m zero (suc z)) = refl
+  is-u′ e (part-due m zero zero) = refl
+  is-u′ e (num-lanes-due m o z) = refl
+  is-u′ e (first-lane-due m o z l) = refl
+  is-u′ e (lane-due m o z n (suc l)) = refl
+  is-u′ e (lane-due m o z n zero) = refl
+  is-u′ e (num-waypoints-due m o z n l) = refl
+  is-u′ e (first-waypoint-due m o z n l w) = refl
+  is-u′ e (waypoint-due m o z n l k (suc w)) = refl
+  is-u′ e (waypoint-due m o z n l k zero) = refl
+  is-u′ e (num-spots-due m z) = refl
+  is-u′ e (perimeter-due m z s) = refl
+  is-u′ e (num-perimeterpoints-due m z s) = refl
+  is-u′ e (first-perimeterpoint-due m z s p) = refl
+  is-u′ e (perimeterpoint-due m z s k (suc p)) = refl
+  is-u′ e (perimeterpoint-due m z s k zero) = refl
+  is-u′ e (spot-due m z n (suc s)) = refl
+  is-u′ e (spot-due m z n zero) = refl
+  is-u′ e (first-of-spot-due m z n s) = refl
+  is-u′ e (second-of-spot-due m z n s) = refl
+  is-u′ e (end-spot-due m z n s) = refl
 
   -- the step of an RNDF is the same whatever names are
-  pub rndf-renamed-by : (strict : Bool) (p : Stand Base) (s : Statement N) → step (rndf-by N′ strict) p (statement-named f s) ≡ step (rndf-by N strict) p s
-  rndf-renamed-by strict = step-moved Kind-discrete (Says N) (Says N′) (says-named f) rows dues (λ b g. pick strict (marked b g) true) (opts N) (due N) (apart N) (opts N′) (due N′) (apart N′) is-o is-u is-o′ is-u′
+  pub rndf-renamed-by : (by : Under) (p : Stand Base) (s : Statement N) → step (rndf-by N′ by) p (statement-named f s) ≡ step (rndf-by N by) p s
+  rndf-renamed-by by =
+      let e = by .edition in
+      step-moved Kind-discrete (Says N) (Says N′) (says-named f) rows (dues e) (λ b g. pick (by .strict) (marked b g) true) (opts N) (due-in N e) (apart N e) (opts N′) (due-in N′ e) (apart N′ e) is-o (is-u e) is-o′ (is-u′ e)
 
   pub rndf-renamed : (p : Stand Base) (s : Statement N) → step (rndf N′) p (statement-named f s) ≡ step (rndf N) p s
-  rndf-renamed = rndf-renamed-by true
+  rndf-renamed = rndf-renamed-by (under march true)
 
   pub rndf-stands : (p : Stand Base) (k : Kind) → stands (rndf N′) p k ≡ stands (rndf N) p k
-  rndf-stands = stands-moved Kind-discrete (Says N) (Says N′) (says-named f) rows dues (λ b g. pick true (marked b g) true) (opts N) (due N) (apart N) (opts N′) (due N′) (apart N′) is-o is-u is-o′ is-u′
+  rndf-stands = stands-moved Kind-discrete (Says N) (Says N′) (says-named f) rows (dues march) (λ b g. pick true (marked b g) true) (opts N) (due N) (apart N march) (opts N′) (due N′) (apart N′ march) is-o (is-u march) is-o′ (is-u′ march)
 
   abbrev R-m : Type 0
   R-m = Both (M.Says N) (M.Says N′) (orders-named f)

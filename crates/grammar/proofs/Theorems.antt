@@ -4,7 +4,8 @@ use mathlib.Core.List.{List, _∷_, _++_}
 use mathlib.Core.Bool.{Bool, true}
 use Prim.Native.Nat.{ℕ}
 use Rattle.grammar.specs.Statements.{Statement}
-use Rattle.grammar.specs.Network.{Network, SpellsNetworkBy, SpellsNetwork}
+use Rattle.grammar.specs.Editions.{march}
+use Rattle.grammar.specs.Network.{Network, Under, under, SpellsNetworkBy, SpellsNetwork}
 use Rattle.grammar.specs.Machine.{Accepts, at, run, step, next, refuse, Place}
 use Rattle.grammar.specs.Places.{rndf-by, rndf, name-due}
 use Rattle.grammar.specs.Mission.{Mission, GoodMission, SpellsMission}
@@ -18,47 +19,47 @@ use Rattle.grammar.proofs.MissionReading as Mission
 use Rattle.grammar.proofs.NetworkReading as Network
 
 module _ {N : Type 0} where
-  -- ## RNDF, with L8's rule and without
-  module _ (strict : Bool) where
+  -- ## RNDF, in each edition, with L8's rule and without
+  module _ (by : Under) where
     -- complete: what spells a network is accepted
-    pub network-complete-by : (n : Network N) (l : List (Statement N)) → SpellsNetworkBy strict n l → Accepts (rndf-by N strict) (at (rndf-by N strict) name-due) l
-    network-complete-by = R.complete (rndf-by N strict) (SpellsNetworkBy strict) name-due (Network.reads strict N)
+    pub network-complete-by : (n : Network N) (l : List (Statement N)) → SpellsNetworkBy by n l → Accepts (rndf-by N by) (at (rndf-by N by) name-due) l
+    network-complete-by = R.complete (rndf-by N by) (SpellsNetworkBy by) name-due (Network.reads by N)
 
     -- sound: what is accepted spells a network
-    pub network-sound-by : (l : List (Statement N)) → Accepts (rndf-by N strict) (at (rndf-by N strict) name-due) l → (n : Network N) × SpellsNetworkBy strict n l
-    network-sound-by = R.sound (rndf-by N strict) (SpellsNetworkBy strict) name-due (Network.reads strict N)
+    pub network-sound-by : (l : List (Statement N)) → Accepts (rndf-by N by) (at (rndf-by N by) name-due) l → (n : Network N) × SpellsNetworkBy by n l
+    network-sound-by = R.sound (rndf-by N by) (SpellsNetworkBy by) name-due (Network.reads by N)
 
     -- unique: equal statements come from one network
-    pub network-unique-by : (n n′ : Network N) (l l′ : List (Statement N)) → SpellsNetworkBy strict n l → SpellsNetworkBy strict n′ l′ → l ≡ l′ → n ≡ n′
-    network-unique-by = R.unique (rndf-by N strict) (SpellsNetworkBy strict) name-due (Network.reads strict N)
+    pub network-unique-by : (n n′ : Network N) (l l′ : List (Statement N)) → SpellsNetworkBy by n l → SpellsNetworkBy by n′ l′ → l ≡ l′ → n ≡ n′
+    network-unique-by = R.unique (rndf-by N by) (SpellsNetworkBy by) name-due (Network.reads by N)
 
     -- viable prefix: what is not refused begins some spelling
-    pub network-viable-by : (some-name : N) (l : List (Statement N)) (p : Place (rndf-by N strict)) → run (rndf-by N strict) (at (rndf-by N strict) name-due) l ≡ next p
-        → (r : List (Statement N)) × (n : Network N) × SpellsNetworkBy strict n (l ++ r)
-    network-viable-by a = R.viable (rndf-by N strict) (SpellsNetworkBy strict) name-due (Network.reads strict N) (Network.Good N) (Network.cost N) (Network.goes-on strict N a) tt
+    pub network-viable-by : (some-name : N) (l : List (Statement N)) (p : Place (rndf-by N by)) → run (rndf-by N by) (at (rndf-by N by) name-due) l ≡ next p
+        → (r : List (Statement N)) × (n : Network N) × SpellsNetworkBy by n (l ++ r)
+    network-viable-by a = R.viable (rndf-by N by) (SpellsNetworkBy by) name-due (Network.reads by N) (Network.Good N) (Network.cost N) (Network.goes-on by N a) tt
 
     -- refusal: no spelling begins with what came before and the refused statement
-    pub network-refusal-by : (l r : List (Statement N)) (p : Place (rndf-by N strict)) (s : Statement N) (c : ℕ) (n : Network N) → run (rndf-by N strict) (at (rndf-by N strict) name-due) l ≡ next p → step (rndf-by N strict) p s ≡ refuse c
-        → SpellsNetworkBy strict n (l ++ (s ∷ r)) → ⊥
-    network-refusal-by = R.refusal (rndf-by N strict) (SpellsNetworkBy strict) name-due (Network.reads strict N)
+    pub network-refusal-by : (l r : List (Statement N)) (p : Place (rndf-by N by)) (s : Statement N) (c : ℕ) (n : Network N) → run (rndf-by N by) (at (rndf-by N by) name-due) l ≡ next p → step (rndf-by N by) p s ≡ refuse c
+        → SpellsNetworkBy by n (l ++ (s ∷ r)) → ⊥
+    network-refusal-by = R.refusal (rndf-by N by) (SpellsNetworkBy by) name-due (Network.reads by N)
 
-  -- with it
+  -- in the present edition, with it
   pub network-complete : (n : Network N) (l : List (Statement N)) → SpellsNetwork n l → Accepts (rndf N) (at (rndf N) name-due) l
-  network-complete = network-complete-by true
+  network-complete = network-complete-by (under march true)
 
   pub network-sound : (l : List (Statement N)) → Accepts (rndf N) (at (rndf N) name-due) l → (n : Network N) × SpellsNetwork n l
-  network-sound = network-sound-by true
+  network-sound = network-sound-by (under march true)
 
   pub network-unique : (n n′ : Network N) (l l′ : List (Statement N)) → SpellsNetwork n l → SpellsNetwork n′ l′ → l ≡ l′ → n ≡ n′
-  network-unique = network-unique-by true
+  network-unique = network-unique-by (under march true)
 
   pub network-viable : (some-name : N) (l : List (Statement N)) (p : Place (rndf N)) → run (rndf N) (at (rndf N) name-due) l ≡ next p
       → (r : List (Statement N)) × (n : Network N) × SpellsNetwork n (l ++ r)
-  network-viable = network-viable-by true
+  network-viable = network-viable-by (under march true)
 
   pub network-refusal : (l r : List (Statement N)) (p : Place (rndf N)) (s : Statement N) (c : ℕ) (n : Network N) → run (rndf N) (at (rndf N) name-due) l ≡ next p → step (rndf N) p s ≡ refuse c
       → SpellsNetwork n (l ++ (s ∷ r)) → ⊥
-  network-refusal = network-refusal-by true
+  network-refusal = network-refusal-by (under march true)
 
   -- ## MDF
   -- complete: what spells a mission is accepted

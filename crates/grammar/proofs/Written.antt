@@ -7,7 +7,8 @@ use lib.ListN.{length}
 use Rattle.terms.specs.Words.{Each, perhaps, InTurn, then}
 use Rattle.terms.proofs.Lists.{map-id, each-any}
 use Rattle.grammar.specs.Statements.{Statement, lines}
-use Rattle.grammar.specs.Network.{Lane, Segment, Perimeter, Spot, Zone, Network, GoodLane, GoodPerimeter, GoodSpot, SpellsLane, SpellsSegment, SpellsPerimeter, SpellsSpot, SpellsZone, SpellsNetwork}
+use Rattle.grammar.specs.Editions.{march}
+use Rattle.grammar.specs.Network.{under, Lane, Segment, Perimeter, Spot, Zone, Network, GoodLane, GoodPerimeter, GoodSpot, SpellsLane, SpellsSegment, SpellsPerimeter, SpellsSpot, SpellsZone, SpellsNetwork}
 use Rattle.grammar.specs.MissionStatements.{orders}
 use Rattle.grammar.specs.MissionStatements as M
 use Rattle.grammar.specs.Mission.{Mission, GoodMission, SpellsMission}
@@ -30,8 +31,8 @@ module _ {N : Type 0} where
   unfolding house-lane lane-options
   spells-lane m n a g =
       let row = laneRow N m n (length (a .points)) in
-      let x = house-as (lines N) row (held true N a) (lane-options m n a) (simp append-nil) tt (g .width, (each-any (perhaps (a .left)), (each-any (perhaps (a .right)), (g .checkpoints, (g .stops, (g .exits, tt)))))) in
-      record { options = lane-options m n a; given = given-lane true N m n a (lane-options m n a) x (g .count) (g .points) .0; good = g; spelled = refl }
+      let x = house-as (lines N) row (held (under march true) N a) (lane-options m n a) (simp append-nil) tt (g .width, (each-any (perhaps (a .left)), (each-any (perhaps (a .right)), (g .checkpoints, (g .stops, (g .exits, tt)))))) in
+      record { options = lane-options m n a; given = given-lane (under march true) N m n a (lane-options m n a) x (g .count) (g .points) .0; good = g; spelled = refl }
 
   spells-segment : (m : ℕ) (a : (Segment N)) → GoodSegment a → SpellsSegment m a (house-segment m a)
   unfolding house-segment segment-options

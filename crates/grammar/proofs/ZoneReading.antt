@@ -14,8 +14,8 @@ use Rattle.terms.specs.Words.{pick, Each, Among, perhaps, Between, InTurn, noth
 use Rattle.terms.proofs.Lists.{map-id, each-any}
 use Rattle.grammar.specs.Forms.{eq?, Form, free}
 use Rattle.grammar.specs.Statements.{Kind, Position, Statement, lines, say, ofKind, part-id, point-id, point-line, numbered, zone, num-spots, end-zone, perimeter, num-perimeterpoints, end-perimeter, spot, end-spot, checkpoint, point}
-use Rattle.grammar.specs.Network.{largest, Checkpoint, Exit, Perimeter, Spot, Zone, OnEarth, checkpoint-of, SpellsPerimeter, least, SpellsSpotBy, SpellsZoneBy}
-use Rattle.grammar.specs.Permitted.{part?, counted, atMost, theNumber, thePart, thePoint, perimeterRow, spotRow, zoneRow}
+use Rattle.grammar.specs.Network.{largest, Checkpoint, Exit, Perimeter, Spot, Zone, OnEarth, checkpoint-of, SpellsPerimeter, Under, least, SpellsSpotBy, SpellsZoneBy}
+use Rattle.grammar.specs.Permitted.{part?, counted, spotsOf, theNumber, thePart, thePoint, perimeterRow, spotRow, zoneRow}
 use Rattle.grammar.specs.Places.{rndf-by, Base, part-due, num-spots-due, perimeter-due, num-perimeterpoints-due, first-perimeterpoint-due, perimeterpoint-due, spot-due, first-of-spot-due, second-of-spot-due, end-spot-due, second}
 use Rattle.grammar.specs.Choices.{opts as row}
 use Rattle.grammar.proofs.LanguageLaws.{kinds-on}
@@ -50,29 +50,29 @@ module _ (N : Type 0) where
       go (inl z) = clash (sym z)
       go (inr h) = rw e at h
 
-module _ (strict : Bool) (N : Type 0) where
+module _ (by : Under) (N : Type 0) where
   -- ## What follows `perimeter m.0`
   abbrev Borders : Type 0
   Borders = ℕ × ((Holds (lines N) (perimeterRow N 0 0) × Position) × (List Position × Unit {0}))
 
   abbrev PerimeterParts : (m : ℕ) → Borders → List (Statement N) → Type 0
-  PerimeterParts m = Seq (rndf-by N strict) (Line (rndf-by N strict) num-perimeterpoints counted) λ w. Seq (rndf-by N strict) (After (rndf-by N strict) (perimeterRow N m w) point (thePoint m 0 1)) λ x. Many (rndf-by N strict) ((PointAt strict N) m 0) (λ i. Line (rndf-by N strict) end-perimeter (free (Unit {0}))) 2 (pred w)
+  PerimeterParts m = Seq (rndf-by N by) (Line (rndf-by N by) num-perimeterpoints counted) λ w. Seq (rndf-by N by) (After (rndf-by N by) (perimeterRow N m w) point (thePoint m 0 1)) λ x. Many (rndf-by N by) ((PointAt by N) m 0) (λ i. Line (rndf-by N by) end-perimeter (free (Unit {0}))) 2 (pred w)
 
   abbrev PerimeterBody : (m : ℕ) → Perimeter → List (Statement N) → Type 0
   PerimeterBody m a l = SpellsPerimeter m a (say perimeter (part-id m 0) ∷ l)
 
-  parts-perimeter : (m z s : ℕ) → (To strict N) (PerimeterParts m) (num-perimeterpoints-due m z s) (spot-due m z 1 s)
+  parts-perimeter : (m z s : ℕ) → (To by N) (PerimeterParts m) (num-perimeterpoints-due m z s) (spot-due m z 1 s)
   parts-perimeter m z s =
-      reads-seq (rndf-by N strict) (reads-line (rndf-by N strict) (num-perimeterpoints-due m z s) counted refl (λ v. refl) (λ g. always strict)) λ w.
-      reads-seq (rndf-by N strict) (reads-after (rndf-by N strict) (first-perimeterpoint-due m z s w) (perimeterRow N m w) (thePoint m 0 1) refl (λ v. refl) (λ g. always strict)) λ x.
-      reads-many (rndf-by N strict) ((PointAt strict N) m 0) (λ i. Line (rndf-by N strict) end-perimeter (free (Unit {0}))) (λ i w. some (perimeterpoint-due m z s i w)) (some (spot-due m z 1 s))
-      (λ i w. reads-line (rndf-by N strict) (perimeterpoint-due m z s i (suc w)) (thePoint m 0 i) refl (λ v. refl) (λ g. always strict))
-      (λ i. reads-line (rndf-by N strict) (perimeterpoint-due m z s i zero) (free (Unit {0})) refl (λ v. refl) (λ g. always strict)) 2 (pred w)
+      reads-seq (rndf-by N by) (reads-line (rndf-by N by) (num-perimeterpoints-due m z s) counted refl (λ v. refl) (λ g. always (by .strict))) λ w.
+      reads-seq (rndf-by N by) (reads-after (rndf-by N by) (first-perimeterpoint-due m z s w) (perimeterRow N m w) (thePoint m 0 1) refl (λ v. refl) (λ g. always (by .strict))) λ x.
+      reads-many (rndf-by N by) ((PointAt by N) m 0) (λ i. Line (rndf-by N by) end-perimeter (free (Unit {0}))) (λ i w. some (perimeterpoint-due m z s i w)) (some (spot-due m z 1 s))
+      (λ i w. reads-line (rndf-by N by) (perimeterpoint-due m z s i (suc w)) (thePoint m 0 i) refl (λ v. refl) (λ g. always (by .strict)))
+      (λ i. reads-line (rndf-by N by) (perimeterpoint-due m z s i zero) (free (Unit {0})) refl (λ v. refl) (λ g. always (by .strict))) 2 (pred w)
 
   perimeterOf : Borders → Perimeter
   perimeterOf x = record { exits = x .1 .0 .0 .0; points = x .1 .0 .1 ∷ x .1 .1 .0 }
 
-  to-perimeter : (m : ℕ) (exits : List Exit) (ps : List Position) (l : (Lines strict N)) → PerimeterBody m (record { exits = exits; points = ps }) l → (x : Borders) × (perimeterOf x ≡ record { exits = exits; points = ps }) × PerimeterParts m x l
+  to-perimeter : (m : ℕ) (exits : List Exit) (ps : List Position) (l : (Lines by N)) → PerimeterBody m (record { exits = exits; points = ps }) l → (x : Borders) × (perimeterOf x ≡ record { exits = exits; points = ps }) × PerimeterParts m x l
   unfolding perimeterOf numbered
   to-perimeter m exits [] l s = absurd (omega arith)
   to-perimeter m exits (p ∷ ps) l s =
@@ -88,21 +88,21 @@ module _ (strict : Bool) (N : Type 0) where
             os ++ (point-line (point-id m 0 1) p ∷ []),
             rest,
             (os, ((s .given .exits, s .good .exits, tt), s .given .no-other), s .good .points .0, refl),
-            (numbered m 0 2 ps, say end-perimeter tt ∷ [], refl, (points-in-turn strict N) m 0 2 ps (s .good .points .1), (tt, refl), refl),
+            (numbered m 0 2 ps, say end-perimeter tt ∷ [], refl, (points-in-turn by N) m 0 2 ps (s .good .points .1), (tt, refl), refl),
             sym (append-assoc os (point-line (point-id m 0 1) p ∷ []) rest),
           ),
           tail-eq-of-cons-eq (s .spelled),
         ),
       )
 
-  from-perimeter : (m : ℕ) (x : Borders) (l : (Lines strict N)) → PerimeterParts m x l → PerimeterBody m (perimeterOf x) l
+  from-perimeter : (m : ℕ) (x : Borders) (l : (Lines by N)) → PerimeterParts m x l → PerimeterBody m (perimeterOf x) l
   unfolding perimeterOf numbered
   from-perimeter m x l y =
       let ps = x .1 .1 .0 in
       let b = y .3 in
       let o = b .2 in
       let e = b .3 in
-      let t = (in-turn-points strict N) m 0 2 ps (e .0) (e .3) in
+      let t = (in-turn-points by N) m 0 2 ps (e .0) (e .3) in
       let len = e .2 in
       let c = y .2 .0 in
       let w : x .0 ≡ suc (length ps) = omega arith in
@@ -114,8 +114,8 @@ module _ (strict : Bool) (N : Type 0) where
         spelled = rw (y .4, y .2 .1, b .4, o .3, e .5, t .1, e .4 .1, append-assoc, w);
       }
 
-  reads-perimeter-body : (m z s : ℕ) → (To strict N) (PerimeterBody m) (num-perimeterpoints-due m z s) (spot-due m z 1 s)
-  reads-perimeter-body m z s = reads-as (rndf-by N strict) perimeterOf (λ a l s. to-perimeter m (a .exits) (a .points) l s) (from-perimeter m) (parts-perimeter m z s)
+  reads-perimeter-body : (m z s : ℕ) → (To by N) (PerimeterBody m) (num-perimeterpoints-due m z s) (spot-due m z 1 s)
+  reads-perimeter-body m z s = reads-as (rndf-by N by) perimeterOf (λ a l s. to-perimeter m (a .exits) (a .points) l s) (from-perimeter m) (parts-perimeter m z s)
 
   -- ## What follows `spot m.n`
   abbrev Stalls : Type 0
@@ -123,22 +123,22 @@ module _ (strict : Bool) (N : Type 0) where
 
   -- the first waypoint is good, and L8's rule is kept
   abbrev SpotOk : Holds (lines N) (spotRow N 0 0) × Position → Type 0
-  SpotOk x = OnEarth (x .1) × (least strict ≤ length (perhaps (x .0 .1 .0)))
+  SpotOk x = OnEarth (x .1) × (least (by .strict) ≤ length (perhaps (x .0 .1 .0)))
 
   abbrev SpotParts : (m n : ℕ) → Stalls → List (Statement N) → Type 0
-  SpotParts m n = Seq (rndf-by N strict) (AfterBy (rndf-by N strict) (spotRow N m n) point (thePoint m n 1) SpotOk) λ x. Seq (rndf-by N strict) ((PointAt strict N) m n 2) λ y. Line (rndf-by N strict) end-spot (free (Unit {0}))
+  SpotParts m n = Seq (rndf-by N by) (AfterBy (rndf-by N by) (spotRow N m n) point (thePoint m n 1) SpotOk) λ x. Seq (rndf-by N by) ((PointAt by N) m n 2) λ y. Line (rndf-by N by) end-spot (free (Unit {0}))
 
-  parts-spot : (m z n s : ℕ) → (To strict N) (SpotParts m n) (first-of-spot-due m z n s) (spot-due m z (suc n) s)
+  parts-spot : (m z n s : ℕ) → (To by N) (SpotParts m n) (first-of-spot-due m z n s) (spot-due m z (suc n) s)
   parts-spot m z n s =
-      reads-seq (rndf-by N strict) (reads-after-by (rndf-by N strict) (first-of-spot-due m z n s) (spotRow N m n) (thePoint m n 1) refl (λ v. refl) SpotOk (λ x o. o .0)
-      (λ x os h o g a. spot-enough N strict m n (x .0 .1 .0) os g (h .0 .2 .0) (o .1) a) (λ x os h good g a now. (good, spot-kept N strict m n (x .0 .1 .0) os g (h .0 .2 .0) a now))) λ x.
-      reads-seq (rndf-by N strict) (reads-line (rndf-by N strict) (second-of-spot-due m z n s) (thePoint m n 2) refl (λ v. refl) (λ g. always strict)) λ y.
-      reads-line (rndf-by N strict) (end-spot-due m z n s) (free (Unit {0})) refl (λ v. refl) (λ g. always strict)
+      reads-seq (rndf-by N by) (reads-after-by (rndf-by N by) (first-of-spot-due m z n s) (spotRow N m n) (thePoint m n 1) refl (λ v. refl) SpotOk (λ x o. o .0)
+      (λ x os h o g a. spot-enough N (by .strict) m n (x .0 .1 .0) os g (h .0 .2 .0) (o .1) a) (λ x os h good g a now. (good, spot-kept N (by .strict) m n (x .0 .1 .0) os g (h .0 .2 .0) a now))) λ x.
+      reads-seq (rndf-by N by) (reads-line (rndf-by N by) (second-of-spot-due m z n s) (thePoint m n 2) refl (λ v. refl) (λ g. always (by .strict))) λ y.
+      reads-line (rndf-by N by) (end-spot-due m z n s) (free (Unit {0})) refl (λ v. refl) (λ g. always (by .strict))
 
   spotOf : Stalls → Spot
   spotOf x = record { width = x .0 .0 .0; checkpoint = x .0 .0 .1 .0; first = x .0 .1; second = x .1 .0 }
 
-  to-spot : (m n : ℕ) (a : Spot) (l : (Lines strict N)) → SpellsSpotBy strict m n a (say spot (part-id m n) ∷ l) → (x : Stalls) × (spotOf x ≡ a) × SpotParts m n x l
+  to-spot : (m n : ℕ) (a : Spot) (l : (Lines by N)) → SpellsSpotBy by m n a (say spot (part-id m n) ∷ l) → (x : Stalls) × (spotOf x ≡ a) × SpotParts m n x l
   unfolding spotOf
   to-spot m n a l s =
       let os = s .options in
@@ -154,7 +154,7 @@ module _ (strict : Bool) (N : Type 0) where
         ),
       )
 
-  from-spot : (m n : ℕ) (x : Stalls) (l : (Lines strict N)) → SpotParts m n x l → SpellsSpotBy strict m n (spotOf x) (say spot (part-id m n) ∷ l)
+  from-spot : (m n : ℕ) (x : Stalls) (l : (Lines by N)) → SpotParts m n x l → SpellsSpotBy by m n (spotOf x) (say spot (part-id m n) ∷ l)
   unfolding spotOf
   from-spot m n x l y =
       let o = y .2 in
@@ -168,29 +168,29 @@ module _ (strict : Bool) (N : Type 0) where
         spelled = rw (y .4, o .3, e .4, e .2 .1, e .3 .1, append-assoc);
       }
 
-  reads-spot : (m z n s : ℕ) → (To strict N) (SpellsSpotBy strict m n) (spot-due m z n (suc s)) (spot-due m z (suc n) s)
-  reads-spot m z n s = reads-open (rndf-by N strict) (SpellsSpotBy strict m n) spot part? (part-id m n) (λ a w s. (_, s .spelled)) (reads-line (rndf-by N strict) (spot-due m z n (suc s)) (thePart m n) refl (λ v. refl) (λ g. always strict))
-      (reads-as (rndf-by N strict) spotOf (to-spot m n) (from-spot m n) (parts-spot m z n s))
+  reads-spot : (m z n s : ℕ) → (To by N) (SpellsSpotBy by m n) (spot-due m z n (suc s)) (spot-due m z (suc n) s)
+  reads-spot m z n s = reads-open (rndf-by N by) (SpellsSpotBy by m n) spot part? (part-id m n) (λ a w s. (_, s .spelled)) (reads-line (rndf-by N by) (spot-due m z n (suc s)) (thePart m n) refl (λ v. refl) (λ g. always (by .strict)))
+      (reads-as (rndf-by N by) spotOf (to-spot m n) (from-spot m n) (parts-spot m z n s))
 
   -- ## What follows `zone m`
   abbrev Yards : Type 0
   Yards = ℕ × ((Holds (lines N) (zoneRow N) × Unit {0}) × (Perimeter × (List Spot × Unit {0})))
 
   abbrev ZoneParts : (m : ℕ) → Yards → List (Statement N) → Type 0
-  ZoneParts m = Seq (rndf-by N strict) (Line (rndf-by N strict) num-spots atMost) λ s. Seq (rndf-by N strict) (After (rndf-by N strict) (zoneRow N) perimeter (thePart m 0)) λ x. Seq (rndf-by N strict) (PerimeterBody m) λ p. Many (rndf-by N strict) (SpellsSpotBy strict m) (λ i. Line (rndf-by N strict) end-zone (free (Unit {0}))) 1 s
+  ZoneParts m = Seq (rndf-by N by) (Line (rndf-by N by) num-spots (spotsOf (by .edition))) λ s. Seq (rndf-by N by) (After (rndf-by N by) (zoneRow N) perimeter (thePart m 0)) λ x. Seq (rndf-by N by) (PerimeterBody m) λ p. Many (rndf-by N by) (SpellsSpotBy by m) (λ i. Line (rndf-by N by) end-zone (free (Unit {0}))) 1 s
 
-  parts-zone : (m z : ℕ) → (To strict N) (ZoneParts m) (num-spots-due m z) (part-due (suc m) zero z)
+  parts-zone : (m z : ℕ) → (To by N) (ZoneParts m) (num-spots-due m z) (part-due (suc m) zero z)
   parts-zone m z =
-      reads-seq (rndf-by N strict) (reads-line (rndf-by N strict) (num-spots-due m z) atMost refl (λ v. refl) (λ g. always strict)) λ s.
-      reads-seq (rndf-by N strict) (reads-after (rndf-by N strict) (perimeter-due m z s) (zoneRow N) (thePart m 0) refl (λ v. refl) (λ g. always strict)) λ x.
-      reads-seq (rndf-by N strict) (reads-perimeter-body m z s) λ p.
-      reads-many (rndf-by N strict) (SpellsSpotBy strict m) (λ i. Line (rndf-by N strict) end-zone (free (Unit {0}))) (λ i s. some (spot-due m z i s)) (some (part-due (suc m) zero z))
-      (λ i s. reads-spot m z i s) (λ i. reads-line (rndf-by N strict) (spot-due m z i zero) (free (Unit {0})) refl (λ v. refl) (λ g. always strict)) 1 s
+      reads-seq (rndf-by N by) (reads-line (rndf-by N by) (num-spots-due m z) (spotsOf (by .edition)) refl (λ v. refl) (λ g. always (by .strict))) λ s.
+      reads-seq (rndf-by N by) (reads-after (rndf-by N by) (perimeter-due m z s) (zoneRow N) (thePart m 0) refl (λ v. refl) (λ g. always (by .strict))) λ x.
+      reads-seq (rndf-by N by) (reads-perimeter-body m z s) λ p.
+      reads-many (rndf-by N by) (SpellsSpotBy by m) (λ i. Line (rndf-by N by) end-zone (free (Unit {0}))) (λ i s. some (spot-due m z i s)) (some (part-due (suc m) zero z))
+      (λ i s. reads-spot m z i s) (λ i. reads-line (rndf-by N by) (spot-due m z i zero) (free (Unit {0})) refl (λ v. refl) (λ g. always (by .strict))) 1 s
 
   zoneOf : Yards → (Zone N)
   zoneOf x = record { name = x .1 .0 .0 .0; border = x .1 .1 .0; spots = x .1 .1 .1 .0 }
 
-  to-zone : (m : ℕ) (a : (Zone N)) (l : (Lines strict N)) → SpellsZoneBy strict m a (say zone m ∷ l) → (x : Yards) × (zoneOf x ≡ a) × ZoneParts m x l
+  to-zone : (m : ℕ) (a : (Zone N)) (l : (Lines by N)) → SpellsZoneBy by m a (say zone m ∷ l) → (x : Yards) × (zoneOf x ≡ a) × ZoneParts m x l
   unfolding zoneOf
   to-zone m a l s =
       let os = s .options in
@@ -214,7 +214,7 @@ module _ (strict : Bool) (N : Type 0) where
         ),
       )
 
-  from-zone : (m : ℕ) (x : Yards) (l : (Lines strict N)) → ZoneParts m x l → SpellsZoneBy strict m (zoneOf x) (say zone m ∷ l)
+  from-zone : (m : ℕ) (x : Yards) (l : (Lines by N)) → ZoneParts m x l → SpellsZoneBy by m (zoneOf x) (say zone m ∷ l)
   unfolding zoneOf
   from-zone m x l y =
       let b = y .3 in
@@ -233,6 +233,6 @@ module _ (strict : Bool) (N : Type 0) where
         spelled = rw (y .4, y .2 .1, b .4, o .3, d .4, e .5, e .4 .1, w) (simp append-assoc);
       }
 
-  pub reads-zone : (m z : ℕ) → (To strict N) (SpellsZoneBy strict m) (part-due m zero (suc z)) (part-due (suc m) zero z)
-  reads-zone m z = reads-open (rndf-by N strict) (SpellsZoneBy strict m) zone eq? m (λ a w s. (_, s .spelled)) (reads-line (rndf-by N strict) (part-due m zero (suc z)) (theNumber m) refl (λ v. refl) (λ g. always strict))
-      (reads-as (rndf-by N strict) zoneOf (to-zone m) (from-zone m) (parts-zone m z))
+  pub reads-zone : (m z : ℕ) → (To by N) (SpellsZoneBy by m) (part-due m zero (suc z)) (part-due (suc m) zero z)
+  reads-zone m z = reads-open (rndf-by N by) (SpellsZoneBy by m) zone eq? m (λ a w s. (_, s .spelled)) (reads-line (rndf-by N by) (part-due m zero (suc z)) (theNumber m) refl (λ v. refl) (λ g. always (by .strict)))
+      (reads-as (rndf-by N by) zoneOf (to-zone m) (from-zone m) (parts-zone m z))

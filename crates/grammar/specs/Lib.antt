@@ -1,4 +1,5 @@
 pub mod Language
+pub mod Editions
 pub mod Statements
 pub mod Network
 pub mod MissionStatements

@@ -7,6 +7,7 @@ use Prim.Native.Nat.{ℕ, suc, _+_, _≤_}
 use lib.ListN.{length}
 use lib.IntN.{natAbs}
 use Rattle.terms.specs.Words.{Each, perhaps, Between, InTurn}
+use Rattle.grammar.specs.Editions.{Edition, march, Enough}
 use Rattle.grammar.specs.Statements.{Boundary, PointId, Position, CheckpointLine, ExitLine, Statement, say, ofKind, Only, part-id, point-id, point-line, numbered, RNDF-name, num-segments, num-zones, format-version, creation-date, segment, num-lanes, segment-name, end-segment, lane, num-waypoints, lane-width, left-boundary, right-boundary, checkpoint, stop, exit, end-lane, zone, num-spots, zone-name, end-zone, perimeter, num-perimeterpoints, end-perimeter, spot, spot-width, end-spot, end-file}
 pub use Rattle.law.specs.Network.{largest, Checkpoint, Exit, Lane, Segment, Spot, Perimeter, Zone, Network, OnEarth, GoodCheckpoint, GoodSpot}
 
@@ -45,6 +46,14 @@ checkpoint-of m n c = record { waypoint = point-id m n (c .waypoint); number = c
 
 abbrev pub exit-of : ℕ → ℕ → Exit → ExitLine
 exit-of m n e = record { waypoint = point-id m n (e .waypoint); entry = e .entry }
+
+-- in which edition, and with L8's rule or without
+pub record Under : Type 0 where
+  pub edition : Edition
+  pub strict : Bool
+
+abbrev pub under : Edition → Bool → Under
+under e strict = record { edition = e; strict = strict }
 
 -- L8: "A spot must have its checkpoint": how many it has at least, by the rule and without it
 abbrev pub least : Bool → ℕ
@@ -103,11 +112,11 @@ module _ {N : Type 0} where
     pub no-other : Only (spot-width ∷ checkpoint ∷ []) os
 
   -- 01: "Spot: `spot` m.n; options ..; two waypoints; `end_spot`"; with L8's rule, or without
-  pub record SpellsSpotBy (strict : Bool) (m n : ℕ) (a : Spot) (l : List (Statement N)) : Type 0 where
+  pub record SpellsSpotBy (by : Under) (m n : ℕ) (a : Spot) (l : List (Statement N)) : Type 0 where
     pub options : List (Statement N)
     pub given : SpotOptions m n a options
     pub good : GoodSpot a
-    pub marked : least strict ≤ length (perhaps (a .checkpoint))
+    pub marked : least (by .strict) ≤ length (perhaps (a .checkpoint))
     pub spelled : l ≡ say spot (part-id m n) ∷ options ++ (point-line (point-id m n 1) (a .first) ∷ point-line (point-id m n 2) (a .second) ∷ say end-spot tt ∷ [])
 
   -- 01: "option `zone_name`"
@@ -115,15 +124,15 @@ module _ {N : Type 0} where
     pub name : ofKind zone-name os ≡ perhaps (a .name)
     pub no-other : Only (zone-name ∷ []) os
 
-  -- 01: "Zone: `zone` id; `num_spots` ≥ 0; option `zone_name`; the perimeter; spots 1, 2, ..; `end_zone`"
-  pub record SpellsZoneBy (strict : Bool) (m : ℕ) (a : Zone N) (l : List (Statement N)) : Type 0 where
+  -- 01: "Zone: `zone` id; `num_spots` ≥ 0 (L10: > 0 in the older edition); option `zone_name`; the perimeter; spots 1, 2, ..; `end_zone`"
+  pub record SpellsZoneBy (by : Under) (m : ℕ) (a : Zone N) (l : List (Statement N)) : Type 0 where
     pub options : List (Statement N)
     pub border : List (Statement N)
     pub spots : List (Statement N)
     pub given : ZoneOptions a options
-    pub count : length (a .spots) ≤ largest
+    pub count : Enough (by .edition) (length (a .spots))
     pub bordered : SpellsPerimeter m (a .border) border
-    pub each : InTurn (SpellsSpotBy strict m) 1 (a .spots) spots
+    pub each : InTurn (SpellsSpotBy by m) 1 (a .spots) spots
     pub spelled : l ≡ say zone m ∷ say num-spots (length (a .spots)) ∷ options ++ (border ++ (spots ++ (say end-zone tt ∷ [])))
 
   -- 01: "options `format_version` and `creation_date` (names)"
@@ -133,7 +142,7 @@ module _ {N : Type 0} where
     pub no-other : Only (format-version ∷ creation-date ∷ []) os
 
   -- 01: "`RNDF_name` name; `num_segments` M > 0; `num_zones` N ≥ 0, with M + N ≤ 32,768; options ..; segments 1 to M; zones M+1 to M+N; `end_file`"
-  pub record SpellsNetworkBy (strict : Bool) (a : Network N) (l : List (Statement N)) : Type 0 where
+  pub record SpellsNetworkBy (by : Under) (a : Network N) (l : List (Statement N)) : Type 0 where
     pub options : List (Statement N)
     pub segments : List (Statement N)
     pub zones : List (Statement N)
@@ -141,15 +150,15 @@ module _ {N : Type 0} where
     pub some-segment : 1 ≤ length (a .segments)
     pub count : length (a .segments) + length (a .zones) ≤ largest
     pub each-segment : InTurn SpellsSegment 1 (a .segments) segments
-    pub each-zone : InTurn (SpellsZoneBy strict) (suc (length (a .segments))) (a .zones) zones
+    pub each-zone : InTurn (SpellsZoneBy by) (suc (length (a .segments))) (a .zones) zones
     pub spelled : l ≡ say RNDF-name (a .name) ∷ say num-segments (length (a .segments)) ∷ say num-zones (length (a .zones)) ∷ options ++ (segments ++ (zones ++ (say end-file tt ∷ [])))
 
-  -- L8: "From now on it is a rule"
+  -- L8: "From now on it is a rule"; in the present edition
   abbrev pub SpellsSpot : (m n : ℕ) → Spot → List (Statement N) → Type 0
-  SpellsSpot = SpellsSpotBy true
+  SpellsSpot = SpellsSpotBy (under march true)
 
   abbrev pub SpellsZone : (m : ℕ) → Zone N → List (Statement N) → Type 0
-  SpellsZone = SpellsZoneBy true
+  SpellsZone = SpellsZoneBy (under march true)
 
   abbrev pub SpellsNetwork : Network N → List (Statement N) → Type 0
-  SpellsNetwork = SpellsNetworkBy true
+  SpellsNetwork = SpellsNetworkBy (under march true)

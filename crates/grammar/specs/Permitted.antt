@@ -7,6 +7,7 @@ use lib.IntN.{natAbs}
 use Rattle.terms.specs.Words.{Between}
 use Rattle.grammar.specs.Forms.{via, and?, le?, eq?, Form, free, within, only}
 use Rattle.grammar.specs.Choices.{Choice}
+use Rattle.grammar.specs.Editions.{Edition, march, december, Enough}
 use Rattle.grammar.specs.Statements.{Boundary, PartId, PointId, Position, CheckpointLine, ExitLine, PointLine, Kind, Says, part-id, point-id, format-version, creation-date, segment-name, lane-width, left-boundary, right-boundary, checkpoint, stop, exit, zone-name, spot-width}
 use Rattle.grammar.specs.Network.{largest, Checkpoint, Exit, OnEarth, GoodCheckpoint, GoodEntry, GoodExit, GoodPerimeterExit, checkpoint-of, exit-of}
 
@@ -46,6 +47,14 @@ upto c = within (λ n. c + n ≤ largest) (λ n. le? (c + n) largest)
 
 abbrev pub atMost : Form ℕ
 atMost = within (λ n. n ≤ largest) (λ n. le? n largest)
+
+-- how many spots: in an edition
+abbrev pub enough? : (e : Edition) (n : ℕ) → Dec (Enough e n)
+enough? march n = le? n largest
+enough? december n = between? 1 largest n
+
+abbrev pub spotsOf : Edition → Form ℕ
+spotsOf e = within (Enough e) (enough? e)
 
 abbrev pub theNumber : ℕ → Form ℕ
 theNumber = only eq?

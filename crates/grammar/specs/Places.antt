@@ -9,7 +9,9 @@ use Rattle.grammar.specs.Machine.{Opt, Due, Machine, lacks, distinct}
 use Rattle.grammar.specs.Forms.{Form, tested, free}
 use Rattle.grammar.specs.Choices.{opts as row}
 use Rattle.grammar.specs.Statements.{Kind, RNDF-name, num-segments, num-zones, format-version, creation-date, segment, num-lanes, segment-name, end-segment, lane, num-waypoints, lane-width, left-boundary, right-boundary, checkpoint, stop, exit, end-lane, zone, num-spots, zone-name, end-zone, perimeter, num-perimeterpoints, end-perimeter, spot, spot-width, end-spot, end-file, point, Says, lines}
-use Rattle.grammar.specs.Permitted.{counted, upto, atMost, theNumber, thePart, thePoint, fileRow, segmentRow, laneRow, zoneRow, perimeterRow, spotRow}
+use Rattle.grammar.specs.Editions.{Edition, march}
+use Rattle.grammar.specs.Network.{Under, under}
+use Rattle.grammar.specs.Permitted.{counted, upto, spotsOf, theNumber, thePart, thePoint, fileRow, segmentRow, laneRow, zoneRow, perimeterRow, spotRow}
 
 -- what is due, with the identifier m, n, k that is due, and how much is owed after the open part: o segments, z zones, l lanes, w waypoints, s spots, p perimeter points; at a `first`, how many there are in all
 -- (`part-due`: a segment, a zone or `end_file`; `lane-due`: a lane or `end_segment`; and so on: owed nothing, the end is due)
@@ -89,66 +91,70 @@ module _ (N : Type 0) where
   abbrev nothing : Form (Unit {0})
   nothing = free (Unit {0})
 
+  abbrev pub due-in : Edition → Base → D
+  due-in e name-due = wait RNDF-name (free N) (λ v. num-segments-due)
+  due-in e num-segments-due = wait num-segments counted num-zones-due
+  due-in e (num-zones-due o) = wait num-zones (upto o) (first-segment-due o)
+  due-in e (first-segment-due o z) = wait segment (theNumber 1) (λ v. num-lanes-due 1 (pred o) z)
+  due-in e (part-due m (suc o) z) = wait segment (theNumber m) (λ v. num-lanes-due m o z)
+  due-in e (part-due m zero (suc z)) = wait zone (theNumber m) (λ v. num-spots-due m z)
+  due-in e (part-due m zero zero) = record { on = end-file; test = tested nothing; then = λ v. none }
+  due-in e (num-lanes-due m o z) = wait num-lanes counted (first-lane-due m o z)
+  due-in e (first-lane-due m o z l) = wait lane (thePart m 1) (λ v. num-waypoints-due m o z 1 (pred l))
+  due-in e (lane-due m o z n zero) = wait end-segment nothing (λ v. part-due (suc m) o z)
+  due-in e (lane-due m o z n (suc l)) = wait lane (thePart m n) (λ v. num-waypoints-due m o z n l)
+  due-in e (num-waypoints-due m o z n l) = wait num-waypoints counted (first-waypoint-due m o z n l)
+  due-in e (first-waypoint-due m o z n l w) = wait point (thePoint m n 1) (λ v. waypoint-due m o z n l 2 (pred w))
+  due-in e (waypoint-due m o z n l k zero) = wait end-lane nothing (λ v. lane-due m o z (suc n) l)
+  due-in e (waypoint-due m o z n l k (suc w)) = wait point (thePoint m n k) (λ v. waypoint-due m o z n l (suc k) w)
+  due-in e (num-spots-due m z) = wait num-spots (spotsOf e) (perimeter-due m z)
+  due-in e (perimeter-due m z s) = wait perimeter (thePart m 0) (λ v. num-perimeterpoints-due m z s)
+  due-in e (num-perimeterpoints-due m z s) = wait num-perimeterpoints counted (first-perimeterpoint-due m z s)
+  due-in e (first-perimeterpoint-due m z s p) = wait point (thePoint m 0 1) (λ v. perimeterpoint-due m z s 2 (pred p))
+  due-in e (perimeterpoint-due m z s k zero) = wait end-perimeter nothing (λ v. spot-due m z 1 s)
+  due-in e (perimeterpoint-due m z s k (suc p)) = wait point (thePoint m 0 k) (λ v. perimeterpoint-due m z s (suc k) p)
+  due-in e (spot-due m z n zero) = wait end-zone nothing (λ v. part-due (suc m) 0 z)
+  due-in e (spot-due m z n (suc s)) = wait spot (thePart m n) (λ v. first-of-spot-due m z n s)
+  due-in e (first-of-spot-due m z n s) = wait point (thePoint m n 1) (λ v. second-of-spot-due m z n s)
+  due-in e (second-of-spot-due m z n s) = wait point (thePoint m n 2) (λ v. end-spot-due m z n s)
+  due-in e (end-spot-due m z n s) = wait end-spot nothing (λ v. spot-due m z (suc n) s)
+
+  -- in the present edition
   abbrev pub due : Base → D
-  due name-due = wait RNDF-name (free N) (λ v. num-segments-due)
-  due num-segments-due = wait num-segments counted num-zones-due
-  due (num-zones-due o) = wait num-zones (upto o) (first-segment-due o)
-  due (first-segment-due o z) = wait segment (theNumber 1) (λ v. num-lanes-due 1 (pred o) z)
-  due (part-due m (suc o) z) = wait segment (theNumber m) (λ v. num-lanes-due m o z)
-  due (part-due m zero (suc z)) = wait zone (theNumber m) (λ v. num-spots-due m z)
-  due (part-due m zero zero) = record { on = end-file; test = tested nothing; then = λ v. none }
-  due (num-lanes-due m o z) = wait num-lanes counted (first-lane-due m o z)
-  due (first-lane-due m o z l) = wait lane (thePart m 1) (λ v. num-waypoints-due m o z 1 (pred l))
-  due (lane-due m o z n zero) = wait end-segment nothing (λ v. part-due (suc m) o z)
-  due (lane-due m o z n (suc l)) = wait lane (thePart m n) (λ v. num-waypoints-due m o z n l)
-  due (num-waypoints-due m o z n l) = wait num-waypoints counted (first-waypoint-due m o z n l)
-  due (first-waypoint-due m o z n l w) = wait point (thePoint m n 1) (λ v. waypoint-due m o z n l 2 (pred w))
-  due (waypoint-due m o z n l k zero) = wait end-lane nothing (λ v. lane-due m o z (suc n) l)
-  due (waypoint-due m o z n l k (suc w)) = wait point (thePoint m n k) (λ v. waypoint-due m o z n l (suc k) w)
-  due (num-spots-due m z) = wait num-spots atMost (perimeter-due m z)
-  due (perimeter-due m z s) = wait perimeter (thePart m 0) (λ v. num-perimeterpoints-due m z s)
-  due (num-perimeterpoints-due m z s) = wait num-perimeterpoints counted (first-perimeterpoint-due m z s)
-  due (first-perimeterpoint-due m z s p) = wait point (thePoint m 0 1) (λ v. perimeterpoint-due m z s 2 (pred p))
-  due (perimeterpoint-due m z s k zero) = wait end-perimeter nothing (λ v. spot-due m z 1 s)
-  due (perimeterpoint-due m z s k (suc p)) = wait point (thePoint m 0 k) (λ v. perimeterpoint-due m z s (suc k) p)
-  due (spot-due m z n zero) = wait end-zone nothing (λ v. part-due (suc m) 0 z)
-  due (spot-due m z n (suc s)) = wait spot (thePart m n) (λ v. first-of-spot-due m z n s)
-  due (first-of-spot-due m z n s) = wait point (thePoint m n 1) (λ v. second-of-spot-due m z n s)
-  due (second-of-spot-due m z n s) = wait point (thePoint m n 2) (λ v. end-spot-due m z n s)
-  due (end-spot-due m z n s) = wait end-spot nothing (λ v. spot-due m z (suc n) s)
+  due = due-in march
 
   -- no due statement is an option of its place
-  pub apart : (b : Base) → T (lacks (lines N) (due b .on) (opts b) && distinct (lines N) (opts b))
-  apart name-due = tt
-  apart num-segments-due = tt
-  apart (num-zones-due o) = tt
-  apart (first-segment-due o z) = tt
-  apart (part-due m (suc o) z) = tt
-  apart (part-due m zero (suc z)) = tt
-  apart (part-due m zero zero) = tt
-  apart (num-lanes-due m o z) = tt
-  apart (first-lane-due m o z l) = tt
-  apart (lane-due m o z n zero) = tt
-  apart (lane-due m o z n (suc l)) = tt
-  apart (num-waypoints-due m o z n l) = tt
-  apart (first-waypoint-due m o z n l w) = tt
-  apart (waypoint-due m o z n l k zero) = tt
-  apart (waypoint-due m o z n l k (suc w)) = tt
-  apart (num-spots-due m z) = tt
-  apart (perimeter-due m z s) = tt
-  apart (num-perimeterpoints-due m z s) = tt
-  apart (first-perimeterpoint-due m z s p) = tt
-  apart (perimeterpoint-due m z s k zero) = tt
-  apart (perimeterpoint-due m z s k (suc p)) = tt
-  apart (spot-due m z n zero) = tt
-  apart (spot-due m z n (suc s)) = tt
-  apart (first-of-spot-due m z n s) = tt
-  apart (second-of-spot-due m z n s) = tt
-  apart (end-spot-due m z n s) = tt
+  pub apart : (e : Edition) (b : Base) → T (lacks (lines N) (due-in e b .on) (opts b) && distinct (lines N) (opts b))
+  apart e name-due = tt
+  apart e num-segments-due = tt
+  apart e (num-zones-due o) = tt
+  apart e (first-segment-due o z) = tt
+  apart e (part-due m (suc o) z) = tt
+  apart e (part-due m zero (suc z)) = tt
+  apart e (part-due m zero zero) = tt
+  apart e (num-lanes-due m o z) = tt
+  apart e (first-lane-due m o z l) = tt
+  apart e (lane-due m o z n zero) = tt
+  apart e (lane-due m o z n (suc l)) = tt
+  apart e (num-waypoints-due m o z n l) = tt
+  apart e (first-waypoint-due m o z n l w) = tt
+  apart e (waypoint-due m o z n l k zero) = tt
+  apart e (waypoint-due m o z n l k (suc w)) = tt
+  apart e (num-spots-due m z) = tt
+  apart e (perimeter-due m z s) = tt
+  apart e (num-perimeterpoints-due m z s) = tt
+  apart e (first-perimeterpoint-due m z s p) = tt
+  apart e (perimeterpoint-due m z s k zero) = tt
+  apart e (perimeterpoint-due m z s k (suc p)) = tt
+  apart e (spot-due m z n zero) = tt
+  apart e (spot-due m z n (suc s)) = tt
+  apart e (first-of-spot-due m z n s) = tt
+  apart e (second-of-spot-due m z n s) = tt
+  apart e (end-spot-due m z n s) = tt
 
-  -- the places where a spot must have its checkpoint, and where it may be without
-  abbrev pub rndf-by : Bool → Machine (lines N)
-  rndf-by strict = record { Base = Base; opts = opts; due = due; ready = λ b g. pick strict (marked b g) true; apart = apart }
+  -- the places in an edition, where a spot must have its checkpoint, and where it may be without
+  abbrev pub rndf-by : Under → Machine (lines N)
+  rndf-by by = record { Base = Base; opts = opts; due = due-in (by .edition); ready = λ b g. pick (by .strict) (marked b g) true; apart = apart (by .edition) }
 
   abbrev pub rndf : Machine (lines N)
-  rndf = rndf-by true
+  rndf = rndf-by (under march true)

@@ -79,11 +79,11 @@ module _ (rules : Rules) {Net : Type 0} (Spells : Rules → Net → List Line �
     -- 01: 7 "wrong number of fields"
     miscounted : (line : Line) → MayStand before f line → (length (f ∷ fs) ≡ length line → ⊥) → FieldFault before f fs 7
     -- 01: 8 "field not of its kind (spelling, name length, boundary word)"
-    misspelt : (line : Line) → MayStand before f line → length (f ∷ fs) ≡ length line → ((l : Line) → map sort l ≡ map sort line → SpellFields (f ∷ fs) l → ⊥) → FieldFault before f fs 8
+    misspelt : (line : Line) → MayStand before f line → length (f ∷ fs) ≡ length line → ((l : Line) → map sort l ≡ map sort line → SpellFields (rules .edition) (f ∷ fs) l → ⊥) → FieldFault before f fs 8
     -- 01: 9 "value not permitted here (range, not the due identifier, point not of this part, minimum above maximum)"
-    forbidden : (line l : Line) → MayStand before f line → map sort l ≡ map sort line → SpellFields (f ∷ fs) l → (Follows before l → ⊥) → FieldFault before f fs 9
+    forbidden : (line l : Line) → MayStand before f line → map sort l ≡ map sort line → SpellFields (rules .edition) (f ∷ fs) l → (Follows before l → ⊥) → FieldFault before f fs 9
     -- L8: 25 "at a first waypoint that has no fault of 2 to 9", in "a spot whose options give no checkpoint": the line may stand there but for the missing checkpoint
-    unmarked : (l : Line) → SpellFields (f ∷ fs) l → Follows before l → (Begins rules Spells (before ++ (l ∷ [])) → ⊥) → FieldFault before f fs 25
+    unmarked : (l : Line) → SpellFields (rules .edition) (f ∷ fs) l → Follows before l → (Begins rules Spells (before ++ (l ∷ [])) → ⊥) → FieldFault before f fs 25
 
   pub data Fault (before : List Line) (line : Bytes) (number : ℕ) : Type 0 where
     -- 01: 2 "line over 512 bytes"; 3 "comment not closed, or followed by more than tabs"; 4 "byte not allowed"

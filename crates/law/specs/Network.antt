@@ -1,5 +1,5 @@
 -- WHAT A READER MUST BELIEVE. What an RNDF and an MDF say, which values are permitted, and how they are spelled: the lines of each part, and what a text spells. Document 01, "Lines, comments, fields", "The order of an RNDF", "The order of an MDF". Assumes nothing.
-use Rattle.terms.specs.Words.{_≡_, List, [], _∷_, _++_, map, Option, Bool, ℕ, suc, _+_, _≤_, _<_, String, length, ℤ, natAbs, Bytes, ascii, Each, perhaps, Between, InTurn}
+use Rattle.terms.specs.Words.{_≡_, List, [], _∷_, _++_, map, Option, Bool, ℕ, suc, _+_, _≤_, _<_, String, length, ℤ, natAbs, Bytes, ascii, Each, Among, perhaps, Between, InTurn}
 use Rattle.scan.specs.Allowed.{separates}
 use Rattle.line.specs.Line.{Cut, Ended, Field, Content}
 use Rattle.number.specs.Decimal.{decimal}
@@ -8,6 +8,21 @@ use Rattle.coordinate.specs.Spelling.{SpellsCoordinate}
 -- 01: "each of `double_yellow`, `solid_yellow`, `solid_white`, `broken_white`"
 pub data Boundary : Type 0 where
   double-yellow solid-yellow solid-white broken-white : Boundary
+
+-- ## Editions. L10: "State the common grammar once over the edition": which boundaries there are, and how few spots a zone may have
+pub record Edition : Type 0 where
+  pub boundaries : List Boundary
+  pub fewest-spots : ℕ
+
+-- 01: ""Source 004" is the RNDF and MDF format document of March 14, 2007"; "`num_spots` ≥ 0"
+abbrev pub march-2007 : Edition
+march-2007 = record { boundaries = double-yellow ∷ solid-yellow ∷ solid-white ∷ broken-white ∷ []; fewest-spots = 0 }
+
+-- L10: "as it stood on December 6, 2006 .. `solid_yellow` was not yet a boundary, and the note of February 20 is what allowed a zone without spots; the rest we read by the present rules"
+abbrev pub december-2006 : Edition
+december-2006 = record { boundaries = double-yellow ∷ solid-white ∷ broken-white ∷ []; fewest-spots = 1 }
+
+-- ## What is said
 
 -- 01: "**Identifiers**: integers joined by dots": x.y.z
 pub record PointId : Type 0 where
@@ -163,20 +178,21 @@ dotted [] = []
 dotted (n ∷ []) = decimal n
 dotted (m ∷ n ∷ l) = decimal m ++ (ascii "." ++ dotted (n ∷ l))
 
--- 01: "a keyword of that file, byte for byte"; "**Name**: 1 to 128 bytes"; "**Integer**: 1 to 5 digits, no leading zero but `0` itself"
-abbrev pub SpellsField : Field → Said → Type 0
-SpellsField f (word w) = f .bytes ≡ w
-SpellsField f (name g) = (f ≡ g) × Between 1 128 (length (f .bytes))
-SpellsField f (numbers l) = (f .bytes ≡ dotted l) × Each (λ n. n ≤ 99999) l
-SpellsField f (coordinate z) = SpellsCoordinate (f .bytes) z
-SpellsField f (boundary b) = f .bytes ≡ boundary-word b
+module _ (edition : Edition) where
+  -- 01: "a keyword of that file, byte for byte"; "**Name**: 1 to 128 bytes"; "**Integer**: 1 to 5 digits, no leading zero but `0` itself"; L10: "in the older edition 8 for `solid_yellow`"
+  abbrev pub SpellsField : Field → Said → Type 0
+  SpellsField f (word w) = f .bytes ≡ w
+  SpellsField f (name g) = (f ≡ g) × Between 1 128 (length (f .bytes))
+  SpellsField f (numbers l) = (f .bytes ≡ dotted l) × Each (λ n. n ≤ 99999) l
+  SpellsField f (coordinate z) = SpellsCoordinate (f .bytes) z
+  SpellsField f (boundary b) = (f .bytes ≡ boundary-word b) × Among b (edition .boundaries)
 
--- fields, one for one
-abbrev pub SpellFields : List Field → Line → Type 0
-SpellFields [] [] = Unit {0}
-SpellFields [] (s ∷ said) = ⊥
-SpellFields (f ∷ fields) [] = ⊥
-SpellFields (f ∷ fields) (s ∷ said) = SpellsField f s × SpellFields fields said
+  -- fields, one for one
+  abbrev pub SpellFields : List Field → Line → Type 0
+  SpellFields [] [] = Unit {0}
+  SpellFields [] (s ∷ said) = ⊥
+  SpellFields (f ∷ fields) [] = ⊥
+  SpellFields (f ∷ fields) (s ∷ said) = SpellsField f s × SpellFields fields said
 
 -- ## Options. Each list: all that a part has of one option, in file order
 -- two lists mixed, each in its own order
@@ -198,14 +214,18 @@ pub record Rules : Type 1 where
   pub Options : List (List Line) → List Line → Type 0
   -- how many checkpoints a spot has at least. L8: "From now on it is a rule": 1
   pub spot-checkpoints : ℕ
+  pub edition : Edition
 
--- the rules of document 01, as the requests have it
+-- the rules of document 01, as the requests have it, in an edition. L10: "the rest we read by the present rules, L8 included"
+abbrev pub reading : Edition → Rules
+reading edition = record { separates = separates; Options = AnyOrder; spot-checkpoints = 1; edition = edition }
+
 abbrev pub present : Rules
-present = record { separates = separates; Options = AnyOrder; spot-checkpoints = 1 }
+present = reading march-2007
 
 -- the same but for L8: 2 to 9 are told as if a spot could be without its checkpoint
 abbrev pub lenient : Rules → Rules
-lenient rules = record { separates = rules .separates; Options = rules .Options; spot-checkpoints = 0 }
+lenient rules = record { separates = rules .separates; Options = rules .Options; spot-checkpoints = 0; edition = rules .edition }
 
 -- ## Lines of an RNDF
 -- a keyword and what stands behind it
@@ -265,11 +285,11 @@ module _ (rules : Rules) where
     pub marked : rules .spot-checkpoints ≤ length (perhaps (a .checkpoint))
     pub spelled : l ≡ line "spot" (numbers (m ∷ n ∷ []) ∷ []) ∷ options ++ (points m n 1 (a .first ∷ a .second ∷ []) ++ (line "end_spot" [] ∷ []))
 
-  -- 01: "Zone: `zone` id; `num_spots` ≥ 0; option `zone_name`; the perimeter; spots 1, 2, ..; `end_zone`"
+  -- 01: "Zone: `zone` id; `num_spots` ≥ 0" (L10: "9 for 0 spots" in the older edition); "option `zone_name`; the perimeter; spots 1, 2, ..; `end_zone`"
   pub record SpellsZone (m : ℕ) (a : Zone Field) (l : List Line) : Type 0 where
     pub border : List Line
     pub spots : List Line
-    pub count : length (a .spots) ≤ largest
+    pub count : Between (rules .edition .fewest-spots) largest (length (a .spots))
     pub bordered : SpellsPerimeter m (a .border) border
     pub each : InTurn (SpellsSpot m) 1 (a .spots) spots
     pub spelled : l ≡ line "zone" (numbers (m ∷ []) ∷ []) ∷ line "num_spots" (numbers (length (a .spots) ∷ []) ∷ []) ∷ map (λ v. line "zone_name" (name v ∷ [])) (perhaps (a .name)) ++ (border ++ (spots ++ (line "end_zone" [] ∷ [])))
@@ -312,7 +332,7 @@ module _ (rules : Rules) where
     pub fields : List Field
     pub ended : Ended line content
     pub fielded : Content (rules .separates) start content fields
-    pub spelled : SpellFields fields said
+    pub spelled : SpellFields (rules .edition) fields said
 
   -- lines one behind the other, the first of which starts at this place, and what they say. 01: "A line without fields is blank and may stand anywhere"
   pub data SayLines : ℕ → List Bytes → List Line → Type 0 where

@@ -22,6 +22,7 @@ use Rattle.line.proofs.Ends.{ended-is}
 use Rattle.line.proofs.Contents.{opened-at, content-fields}
 use Rattle.line.proofs.Faults.{bad-byte, byte-bad}
 use Rattle.word.specs.Number.{digit-first}
+use Rattle.grammar.specs.Editions.{Edition, law-of}
 use Rattle.grammar.specs.Language.{Lang, S, say}
 use Rattle.grammar.specs.Machine.{Out, next, refuse, Machine, Place, step}
 use Rattle.grammar.specs.Machine as Machine
@@ -34,7 +35,7 @@ use Rattle.text.specs.Faults as Old
 use Rattle.text.proofs.FieldReading.{said, read-only, all-only, all-right}
 use Rattle.text.proofs.FieldReading as Reading
 use Rattle.text.proofs.Telling.{Lawful, line-is, args-spelled, spelled-args}
-use Rattle.law.specs.Network.{Line, word, numbers, SpellsField, Rules, present, lenient}
+use Rattle.law.specs.Network.{Line, word, numbers, SpellsField, Rules, reading, lenient}
 use Rattle.law.specs.Network as Law
 use Rattle.law.specs.Faults.{sort, Nth, Opens, keyword, Follows, MayStand}
 use Rattle.law.specs.Faults as Faults
@@ -49,13 +50,14 @@ use Rattle.law_columns.specs.Finding.{badAt, taken?, takes, wrongAt, sta
 use Rattle.law_columns.proofs.Bytes.{first-bad}
 use Rattle.law_columns.proofs.Wrong.{Spelled, Wrong, started, misspelt-wrong, Completes, forbidden-wrong}
 use Rattle.law_columns.proofs.Taking.{tested}
-use Rattle.law_columns.proofs.Starting.{Lines, first-wrong}
+use Rattle.law_columns.proofs.Starting.{SortOf, Lines, first-wrong}
 
 -- what is asked of a file: low values, with which what is permitted stays so; a line without a keyword begins with a digit, whatever stands behind its first field
-pub record Lows {L : Lang} (A : Machine L) (X : Lexis L) (low : (k : L .Kind) → Vals (X .sorts k)) : Type 0 where
+pub record Lows (ed : Edition) {L : Lang} (A : Machine L) (X : Lexis L) (low : (k : L .Kind) → Vals (X .sorts k)) : Type 0 where
   pub options : (b : A .Base) → Each (λ o. Completes (X .sorts (o .on)) (λ u. o .test (X .make (o .on) u)) (low (o .on))) (A .opts b)
   pub owed : (b : A .Base) → Completes (X .sorts (A .due b .on)) (λ u. A .due b .test (X .make (A .due b .on) u)) (low (A .due b .on))
-  pub digits : (k : L .Kind) → X .keyword k ≡ none → (u : Vals (X .sorts k)) (x : Law.Said) (l : Line) → law-said (X .sorts k) u ≡ x ∷ l → (f : Field) → SpellsField f x → digit-first (f .bytes) ≡ true
+  pub sorts : (k : L .Kind) → Each (SortOf ed) (X .sorts k)
+  pub digits : (k : L .Kind) → X .keyword k ≡ none → (u : Vals (X .sorts k)) (x : Law.Said) (l : Line) → law-said (X .sorts k) u ≡ x ∷ l → (f : Field) → SpellsField (law-of ed) f x → digit-first (f .bytes) ≡ true
 
 -- fields that spell values
 spelled-all : (ss : List Sort) (fs : List Field) (w : Vals ss) → Texts.SpellFields fs (said ss w) → Spelled ss fs w
@@ -69,8 +71,8 @@ so-taken (next q) h t = (q, refl)
 so-taken (refuse c) h t = absurd (subst (λ (c : ℕ). T (eqb c 25)) (h c refl) t)
 
 -- N, A: the file where no option has to be given
-module _ {L : Lang} (strict : Machine L) (X : Lexis L) (line-of : (k : L .Kind) → L .Pay k → List Texts.Said) {Net : Type 0} (Said : Net → List (S L) → Type 0) (Spells : Rules → Net → List Line → Type 0) (first : strict .Base)
-    (N : Needs (lenient present) (Machine.lenient strict) X line-of Said Spells first) (low : (k : L .Kind) → Vals (X .sorts k)) (M : Lows (Machine.lenient strict) X low) where
+module _ {ed : Edition} {L : Lang} (strict : Machine L) (X : Lexis L) (line-of : (k : L .Kind) → L .Pay k → List Texts.Said) {Net : Type 0} (Said : Net → List (S L) → Type 0) (Spells : Rules → Net → List Line → Type 0) (first : strict .Base)
+    (N : Needs ed (lenient (reading (law-of ed))) (Machine.lenient strict) X line-of Said Spells first) (low : (k : L .Kind) → Vals (X .sorts k)) (M : Lows ed (Machine.lenient strict) X low) where
   open Lang L using (Kind, Pay)
 
   abbrev A : Machine L
@@ -86,14 +88,14 @@ module _ {L : Lang} (strict : Machine L) (X : Lexis L) (line-of : (k : L .Kind) 
   as-kind k s e = pathJ (λ k e. (v : Pay k) × (s ≡ say L k v)) (s .val, refl) e
 
   -- a field that spells the first of a line opens it
-  spelled-opens : (f : Field) (k : Kind) (v : Pay k) (x : Law.Said) (l : Line) → x ∷ l ≡ law (say L k v) → SpellsField f x → Opens f (law (say L k v))
+  spelled-opens : (f : Field) (k : Kind) (v : Pay k) (x : Law.Said) (l : Line) → x ∷ l ≡ law (say L k v) → SpellsField (law-of ed) f x → Opens f (law (say L k v))
   spelled-opens f k v x l e h = go (X .keyword k) refl
     where
       go : (o : Option Bytes) → X .keyword k ≡ o → Opens f (law (say L k v))
       go (some w) q =
           let z = word-line A X line-of Said Spells first N k v w q in
           let y : x ≡ word w = head-eq-of-cons-eq (e ∙ z) in
-          subst (Opens f) (sym z) (keyword (subst (SpellsField f) y h))
+          subst (Opens f) (sym z) (keyword (subst (SpellsField (law-of ed) f) y h))
       go none q =
           let z : law (say L k v) ≡ law-said (X .sorts k) (W .parts k v) = law-line-is A X line-of W k v ∙ ap (λ (o : Option Bytes). law-front o ++ law-said (X .sorts k) (W .parts k v)) q in
           let n = N .numeric k q (W .parts k v) in
@@ -121,10 +123,10 @@ module _ {L : Lang} (strict : Machine L) (X : Lexis L) (line-of : (k : L .Kind) 
       abbrev fields : List Field
       fields = args A X (X .keyword k) f fs
 
-      may : (v : Pay k) × MayStand present Spells front f (law (say L k v))
+      may : (v : Pay k) × MayStand (reading (law-of ed)) Spells front f (law (say L k v))
       may = may-to strict X line-of Said Spells first N said p came f k is here
 
-      by-sorts : Lines A X ss (λ u. Unit {0}) (λ l. map sort l ≡ map sort (law (say L k (may .0)))) f fs (X .keyword k)
+      by-sorts : Lines ed A X ss (M .sorts k) (λ u. Unit {0}) (λ l. map sort l ≡ map sort (law (say L k (may .0)))) f fs (X .keyword k)
       by-sorts = record {
         opened = opened f k (may .0) (may .1 .opens);
         to = λ u g. ap (map sort) (sym (made-line A X line-of W k u)) ∙ kind-sorts A X line-of W k (X .make k u) (may .0);
@@ -133,11 +135,11 @@ module _ {L : Lang} (strict : Machine L) (X : Lexis L) (line-of : (k : L .Kind) 
             (W .parts k (y .0), tt, y .1 ∙ law-line-is A X line-of W k (y .0));
       }
 
-      eight : length fields ≡ length ss → readAll ss fields ≡ none → (g : Field) × AtFault present Spells front f fs 8 g × (startOf (behindWord (X .keyword k) (wrongAt ss (λ u. true) (low k) fields)) (f ∷ fs) ≡ g .start)
+      eight : length fields ≡ length ss → readAll ss fields ≡ none → (g : Field) × AtFault (reading (law-of ed)) Spells front f fs 8 g × (startOf (behindWord (X .keyword k) (wrongAt ss (λ u. true) (low k) fields)) (f ∷ fs) ≡ g .start)
       eight m e =
           let i = wrongAt ss (λ u. true) (low k) fields in
           let w = misspelt-wrong ss fields m e (low k) (W .parts k (may .0)) in
-          (w .f, misspelt (law (say L k (may .0))) (may .1) (first-wrong A X ss (λ u. Unit {0}) (λ l. map sort l ≡ map sort (law (say L k (may .0)))) f fs (X .keyword k) by-sorts i w), start-behind ss (λ u. Unit {0}) (X .keyword k) f fs i w)
+          (w .f, misspelt (law (say L k (may .0))) (may .1) (first-wrong ed A X ss (M .sorts k) (λ u. Unit {0}) (λ l. map sort l ≡ map sort (law (say L k (may .0)))) f fs (X .keyword k) by-sorts i w), start-behind ss (λ u. Unit {0}) (X .keyword k) f fs i w)
 
       abbrev test : Vals ss → Bool
       test = takes A X low p k
@@ -152,12 +154,12 @@ module _ {L : Lang} (strict : Machine L) (X : Lexis L) (line-of : (k : L .Kind) 
           let e : step A p (say L k (X .make k (W .parts k (may .0)))) ≡ next (y .1) = ap (λ (v : Pay k). step A p (say L k v)) (W .made k (may .0)) ∙ ap (step A p) (N .one (say L k (may .0)) (y .0) (y .2)) ∙ y .3 in
           rw e tt
 
-      by-place : Lines A X ss (λ u. T (test u)) (Follows present Spells front) f fs (X .keyword k)
+      by-place : Lines ed A X ss (M .sorts k) (λ u. T (test u)) (Follows (reading (law-of ed)) Spells front) f fs (X .keyword k)
       by-place = record {
         opened = opened f k (may .0) (may .1 .opens);
         to = λ u g.
             let q = taken u g in
-            subst (Follows present Spells front) (made-line A X line-of W k u) (line-to A X line-of Said Spells first N said p (q .0) (say L k (X .make k u)) came (q .1));
+            subst (Follows (reading (law-of ed)) Spells front) (made-line A X line-of W k u) (line-to A X line-of Said Spells first N said p (q .0) (say L k (X .make k u)) came (q .1));
         back = back;
       }
         where
@@ -166,7 +168,7 @@ module _ {L : Lang} (strict : Machine L) (X : Lexis L) (line-of : (k : L .Kind) 
               let y : step A p (say L k (X .make k (W .parts k v))) ≡ next q = ap (λ (v : Pay k). step A p (say L k v)) (W .made k v) ∙ ap (step A p) (sym i) ∙ t in
               (W .parts k v, rw y tt, e ∙ ap law i ∙ law-line-is A X line-of W k v)
 
-          back : (x : Law.Said) (l : Line) → SpellsField f x → Follows present Spells front (x ∷ l) → (u : Vals ss) × T (test u) × (x ∷ l ≡ law-front (X .keyword k) ++ law-said ss u)
+          back : (x : Law.Said) (l : Line) → SpellsField (law-of ed) f x → Follows (reading (law-of ed)) Spells front (x ∷ l) → (u : Vals ss) × T (test u) × (x ∷ l ≡ law-front (X .keyword k) ++ law-said ss u)
           back x l h b =
               let y = line-back A X line-of Said Spells first N said p (x ∷ l) came b in
               let s = y .0 in
@@ -179,11 +181,11 @@ module _ {L : Lang} (strict : Machine L) (X : Lexis L) (line-of : (k : L .Kind) 
           let t = tested A (λ k test. Completes (X .sorts k) (λ u. test (X .make k u)) (low k)) (M .options) (M .owed) p k here in
           subst (λ (t : Vals ss → Bool). Completes ss t (low k)) (λ i u. sym (t .by (X .make k u)) i) (t .known)
 
-      nine : (w : Vals ss) → Texts.SpellFields fields (Reading.said ss w) → (T (test w) → ⊥) → (g : Field) × AtFault present Spells front f fs 9 g × (startOf (behindWord (X .keyword k) (wrongAt ss test (low k) fields)) (f ∷ fs) ≡ g .start)
+      nine : (w : Vals ss) → Texts.SpellFields fields (Reading.said ss w) → (T (test w) → ⊥) → (g : Field) × AtFault (reading (law-of ed)) Spells front f fs 9 g × (startOf (behindWord (X .keyword k) (wrongAt ss test (low k) fields)) (f ∷ fs) ≡ g .start)
       nine w h n =
           let i = wrongAt ss test (low k) fields in
           let x = forbidden-wrong ss test w (low k) (W .parts k (may .0)) some-taken completes n fields (spelled-all ss fields w h) (all-only ss fields w h .1) in
-          (x .f, forbidden (first-wrong A X ss (λ u. T (test u)) (Follows present Spells front) f fs (X .keyword k) by-place i x), start-behind ss (λ u. T (test u)) (X .keyword k) f fs i x)
+          (x .f, forbidden (first-wrong ed A X ss (M .sorts k) (λ u. T (test u)) (Follows (reading (law-of ed)) Spells front) f fs (X .keyword k) by-place i x), start-behind ss (λ u. T (test u)) (X .keyword k) f fs i x)
 
       -- the field that is found
       pub found : (n : ℕ) → length fields ≡ length ss → kindField A X low p n (kindAt A X p f) f fs ≡ behindWord (X .keyword k) (wrongAt ss (tests A X low p k n) (low k) fields)
@@ -204,34 +206,34 @@ module _ {L : Lang} (strict : Machine L) (X : Lexis L) (line-of : (k : L .Kind) 
           go none q = refl
           go (some w) q = absurd (n (X .make k w) (spelled-args A X line-of W p f fs k e w (all-right (X .sorts k) (args A X (X .keyword k) f fs) w q)))
 
-      pub column-to : (n : ℕ) → Old.Fault A X line-of p 0 line n → Column present Spells front line n (columnOf A X low p n line)
+      pub column-to : (n : ℕ) → Old.Fault A X line-of p 0 line n → Column (reading (law-of ed)) Spells front line n (columnOf A X low p n line)
       unfolding columnOf fieldAt
       column-to n (Old.form e (Form.long h)) = long
-      column-to n (Old.form {content = c} e (Form.comment h b)) = subst (Column present Spells front line 3) (ap suc (sym (opened-at c (b .outer) (b .rest) (b .opened .spelled) (b .opened .first)) ∙ ap (upTo opens) (sym (ended-is e)))) (comment e (b .opened))
+      column-to n (Old.form {content = c} e (Form.comment h b)) = subst (Column (reading (law-of ed)) Spells front line 3) (ap suc (sym (opened-at c (b .outer) (b .rest) (b .opened .spelled) (b .opened .first)) ∙ ap (upTo opens) (sym (ended-is e)))) (comment e (b .opened))
       column-to n (Old.form {content = c} e (Form.byte h m b)) =
           let x = first-bad c (byte-bad c b) in
-          subst (Column present Spells front line 4) (ap suc (sym (x .at) ∙ ap badAt (sym (ended-is e))))
+          subst (Column (reading (law-of ed)) Spells front line 4) (ap suc (sym (x .at) ∙ ap badAt (sym (ended-is e))))
           (byte (x .good) (x .behind) (x .b) (subst (Ended line) (x .is) e) (λ h. clash (sym (x .before) ∙ byte-bad (x .good) h)) (bad-byte (x .good ++ (x .b ∷ [])) (x .with-it)))
-      column-to n (unknown h e) = subst (Column present Spells front line 5) (sym (by-fields 5 refl refl refl h)) (field (h .ended) (h .fields) (listed (inl refl) Faults.first))
-      column-to n (Old.misplaced h e s) = subst (Column present Spells front line 5) (sym (by-fields 5 refl refl refl h)) (field (h .ended) (h .fields) (listed (inl refl) Faults.first))
-      column-to n (Old.given-again h e s) = subst (Column present Spells front line 6) (sym (by-fields 6 refl refl refl h)) (field (h .ended) (h .fields) (listed (inr (inl refl)) Faults.first))
-      column-to n (Old.miscounted h c) = subst (Column present Spells front line 7) (sym (by-fields 7 refl refl refl (h .fields))) (field (h .fields .ended) (h .fields .fields) (listed (inr (inr (inl refl))) Faults.first))
+      column-to n (unknown h e) = subst (Column (reading (law-of ed)) Spells front line 5) (sym (by-fields 5 refl refl refl h)) (field (h .ended) (h .fields) (listed (inl refl) Faults.first))
+      column-to n (Old.misplaced h e s) = subst (Column (reading (law-of ed)) Spells front line 5) (sym (by-fields 5 refl refl refl h)) (field (h .ended) (h .fields) (listed (inl refl) Faults.first))
+      column-to n (Old.given-again h e s) = subst (Column (reading (law-of ed)) Spells front line 6) (sym (by-fields 6 refl refl refl h)) (field (h .ended) (h .fields) (listed (inr (inl refl)) Faults.first))
+      column-to n (Old.miscounted h c) = subst (Column (reading (law-of ed)) Spells front line 7) (sym (by-fields 7 refl refl refl (h .fields))) (field (h .fields .ended) (h .fields .fields) (listed (inr (inr (inl refl))) Faults.first))
       column-to n (Old.misspelt {f = f} {fs = fs} {k = k} h c m) =
           let x = eight f fs k (h .is) (h .here) c (misread f fs k (h .is) m) in
-          subst (Column present Spells front line 8) (ap suc (sym (x .2) ∙ ap (λ (i : ℕ). startOf i (f ∷ fs)) (sym (found f fs k (h .is) (h .here) 8 c))) ∙ sym (by-fields 8 refl refl refl (h .fields))) (field (h .fields .ended) (h .fields .fields) (x .1))
+          subst (Column (reading (law-of ed)) Spells front line 8) (ap suc (sym (x .2) ∙ ap (λ (i : ℕ). startOf i (f ∷ fs)) (sym (found f fs k (h .is) (h .here) 8 c))) ∙ sym (by-fields 8 refl refl refl (h .fields))) (field (h .fields .ended) (h .fields .fields) (x .1))
       column-to n (Old.forbidden {f = f} {fs = fs} {k = k} h v s m) =
           let w = W .parts k v in
           let fields = args A X (X .keyword k) f fs in
           let t = args-spelled A X line-of W p f fs k (h .is) w (subst (Texts.SpellFields (f ∷ fs)) (line-is A X line-of W k v) s) in
           let refuses : taken? (step A p (say L k (X .make k w))) ≡ false = ap (λ (v : Pay k). taken? (step A p (say L k v))) (W .made k v) ∙ ap taken? m in
           let x = nine f fs k (h .is) (h .here) w t (subst T refuses) in
-          subst (Column present Spells front line 9) (ap suc (sym (x .2) ∙ ap (λ (i : ℕ). startOf i (f ∷ fs)) (sym (found f fs k (h .is) (h .here) 9 (all-only (X .sorts k) fields w t .1)))) ∙ sym (by-fields 9 refl refl refl (h .fields))) (field (h .fields .ended) (h .fields .fields) (x .1))
+          subst (Column (reading (law-of ed)) Spells front line 9) (ap suc (sym (x .2) ∙ ap (λ (i : ℕ). startOf i (f ∷ fs)) (sym (found f fs k (h .is) (h .here) 9 (all-only (X .sorts k) fields w t .1)))) ∙ sym (by-fields 9 refl refl refl (h .fields))) (field (h .fields .ended) (h .fields .fields) (x .1))
       column-to n (Old.unmarked {k = k} h v s e) = absurd (let z = lenient-nine strict p k v 25 (sym (stands-lenient strict p k) ∙ h .here) e in omega arith)
 
       -- 25: the first field
-      pub column-bare : (n : ℕ) → Bare Spells front line n → Column present Spells front line n (columnOf A X low p n line)
+      pub column-bare : (n : ℕ) → Bare ed Spells front line n → Column (reading (law-of ed)) Spells front line n (columnOf A X low p n line)
       unfolding fieldAt
       column-bare n b =
           let h = b .fielded in
-          subst (λ (n : ℕ). Column present Spells front line n (columnOf A X low p n line)) (sym (b .is))
-          (subst (Column present Spells front line 25) (sym (by-fields 25 refl refl refl h)) (field (h .ended) (h .fields) (listed (inr (inr (inr (inr (inr (inr (inr (inr (inr (inr (inl refl))))))))))) Faults.first)))
+          subst (λ (n : ℕ). Column (reading (law-of ed)) Spells front line n (columnOf A X low p n line)) (sym (b .is))
+          (subst (Column (reading (law-of ed)) Spells front line 25) (sym (by-fields 25 refl refl refl h)) (field (h .ended) (h .fields) (listed (inr (inr (inr (inr (inr (inr (inr (inr (inr (inr (inl refl))))))))))) Faults.first)))

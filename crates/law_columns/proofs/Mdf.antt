@@ -10,6 +10,7 @@ use Rattle.terms.proofs.Tests.{nothing}
 use Rattle.line.specs.Content.{Field}
 use Rattle.number.proofs.House.{house-integer-one, house-integer-first}
 use Rattle.word.specs.Number.{digit-first}
+use Rattle.grammar.specs.Editions.{Edition, law-of}
 use Rattle.grammar.specs.MissionStatements.{Kind, MDF-name, RNDF, format-version, creation-date, checkpoints, num-checkpoints, end-checkpoints, speed-limits, num-speed-limits, end-speed-limits, end-file, goal, limit}
 use Rattle.grammar.specs.Forms.{tested}
 use Rattle.grammar.specs.Machine.{lenient}
@@ -26,6 +27,7 @@ use Rattle.law_faults.proofs.Sorts.{law-said}
 use Rattle.law_columns.specs.Files.{mdf-low}
 use Rattle.law_columns.proofs.Wrong.{Completes}
 use Rattle.law_columns.proofs.LineColumns.{Lows}
+use Rattle.law_columns.proofs.Starting.{SortOf}
 
 -- an id goes on with the low minimum and the low maximum, which is no ceiling; so does every minimum
 abbrev minimum : ℕ
@@ -73,25 +75,40 @@ due-low (limit-due (suc l)) = limit-low
 due-low end-file-due = tt
 
 -- ## A goal's line and a limit's begin with a digit
-integer-digit : (f : Field) (n : ℕ) (x : Law.Said) → Law.numbers (n ∷ []) ≡ x → SpellsField f x → digit-first (f .bytes) ≡ true
-integer-digit f n x e h =
-    let z : Texts.SpellsField f (Texts.integer n) = field-back f (Texts.integer n) (subst (SpellsField f) (sym e) h) in
+integer-digit : (d : Edition) (f : Field) (n : ℕ) (x : Law.Said) → Law.numbers (n ∷ []) ≡ x → SpellsField (law-of d) f x → digit-first (f .bytes) ≡ true
+integer-digit d f n x e h =
+    let z : Texts.SpellsField f (Texts.integer n) = field-back d f (Texts.integer n) tt (subst (SpellsField (law-of d) f) (sym e) h) in
     rw (house-integer-one n (f .bytes) z) (house-integer-first n)
 
-digits : (k : Kind) → word-at (mission-kind-row k) ≡ none → (u : Vals (mdf-sorts k)) (x : Law.Said) (l : Line) → law-said (mdf-sorts k) u ≡ x ∷ l → (f : Field) → SpellsField f x → digit-first (f .bytes) ≡ true
-digits MDF-name e u x l q f h = nothing (sym e)
-digits RNDF e u x l q f h = nothing (sym e)
-digits format-version e u x l q f h = nothing (sym e)
-digits creation-date e u x l q f h = nothing (sym e)
-digits checkpoints e u x l q f h = nothing (sym e)
-digits num-checkpoints e u x l q f h = nothing (sym e)
-digits end-checkpoints e u x l q f h = nothing (sym e)
-digits speed-limits e u x l q f h = nothing (sym e)
-digits num-speed-limits e u x l q f h = nothing (sym e)
-digits end-speed-limits e u x l q f h = nothing (sym e)
-digits end-file e u x l q f h = nothing (sym e)
-digits goal e u x l q f h = integer-digit f (u .0) x (head-eq-of-cons-eq q) h
-digits limit e u x l q f h = integer-digit f (u .0) x (head-eq-of-cons-eq q) h
+digits : (d : Edition) (k : Kind) → word-at (mission-kind-row k) ≡ none → (u : Vals (mdf-sorts k)) (x : Law.Said) (l : Line) → law-said (mdf-sorts k) u ≡ x ∷ l → (f : Field) → SpellsField (law-of d) f x → digit-first (f .bytes) ≡ true
+digits d MDF-name e u x l q f h = nothing (sym e)
+digits d RNDF e u x l q f h = nothing (sym e)
+digits d format-version e u x l q f h = nothing (sym e)
+digits d creation-date e u x l q f h = nothing (sym e)
+digits d checkpoints e u x l q f h = nothing (sym e)
+digits d num-checkpoints e u x l q f h = nothing (sym e)
+digits d end-checkpoints e u x l q f h = nothing (sym e)
+digits d speed-limits e u x l q f h = nothing (sym e)
+digits d num-speed-limits e u x l q f h = nothing (sym e)
+digits d end-speed-limits e u x l q f h = nothing (sym e)
+digits d end-file e u x l q f h = nothing (sym e)
+digits d goal e u x l q f h = integer-digit d f (u .0) x (head-eq-of-cons-eq q) h
+digits d limit e u x l q f h = integer-digit d f (u .0) x (head-eq-of-cons-eq q) h
 
-pub mdf-lows : Lows (lenient (mdf Field)) mdf-lexis mdf-low
-mdf-lows = record { options = options-low; owed = due-low; digits = digits }
+sorts-of : (d : Edition) (k : Kind) → Each (SortOf d) (mdf-sorts k)
+sorts-of d MDF-name = (tt, tt)
+sorts-of d RNDF = (tt, tt)
+sorts-of d format-version = (tt, tt)
+sorts-of d creation-date = (tt, tt)
+sorts-of d checkpoints = tt
+sorts-of d num-checkpoints = (tt, tt)
+sorts-of d end-checkpoints = tt
+sorts-of d speed-limits = tt
+sorts-of d num-speed-limits = (tt, tt)
+sorts-of d end-speed-limits = tt
+sorts-of d end-file = tt
+sorts-of d goal = (tt, tt)
+sorts-of d limit = (tt, (tt, (tt, tt)))
+
+pub mdf-lows : (d : Edition) → Lows d (lenient (mdf Field)) mdf-lexis mdf-low
+mdf-lows d = record { options = options-low; owed = due-low; sorts = sorts-of d; digits = digits d }

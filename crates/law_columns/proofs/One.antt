@@ -19,13 +19,14 @@ use Rattle.line.specs.Forms.{opens, outerOf, fieldsAt, clean}
 use Rattle.line.proofs.Ends.{ended-is}
 use Rattle.line.proofs.Contents.{opened-at, content-fields}
 use Rattle.line.proofs.Faults.{bad-byte, byte-bad}
+use Rattle.grammar.specs.Editions.{Edition, law-of}
 use Rattle.grammar.specs.Language.{Lang, S, say}
 use Rattle.grammar.specs.Machine.{next, Machine, Place, at}
 use Rattle.grammar.specs.Machine as Machine
 use Rattle.text.specs.Said as Texts
 use Rattle.text.specs.Judge.{Lexis}
 use Rattle.text.proofs.Telling.{Lawful}
-use Rattle.law.specs.Network.{Line, SpellFields, Rules, present, lenient}
+use Rattle.law.specs.Network.{Line, SpellFields, Rules, reading, lenient}
 use Rattle.law.specs.Faults.{sort, Nth, Begins, Follows, MayStand}
 use Rattle.law.specs.Faults as Faults
 use Rattle.law_spelling.specs.LineOf.{law-line}
@@ -46,21 +47,21 @@ first-of P k (x ∷ a) b (y ∷ c) d f g e p np q nq =
     let s : y ≡ x = sym (head-eq-of-cons-eq e) in
     first-of (λ l. P (x ∷ l)) (λ l r. k (x ∷ l) r) a b c d f g (tail-eq-of-cons-eq e) p np (subst (λ (z : Field). P (z ∷ c)) s q) (λ h. nq (subst (λ (z : Field). P (z ∷ (c ++ (g ∷ [])))) (sym s) h))
 
-fields-split : (a b : List Field) (said : Line) → SpellFields (a ++ b) said → (s : Line) × (t : Line) × (said ≡ s ++ t) × SpellFields a s
-fields-split [] b said h = ([], said, refl, tt)
-fields-split (f ∷ a) b [] h = absurd h
-fields-split (f ∷ a) b (x ∷ said) h =
-    let r = fields-split a b said (h .1) in
+fields-split : (ed : Edition) (a b : List Field) (said : Line) → SpellFields (law-of ed) (a ++ b) said → (s : Line) × (t : Line) × (said ≡ s ++ t) × SpellFields (law-of ed) a s
+fields-split ed [] b said h = ([], said, refl, tt)
+fields-split ed (f ∷ a) b [] h = absurd h
+fields-split ed (f ∷ a) b (x ∷ said) h =
+    let r = fields-split ed a b said (h .1) in
     (x ∷ (r .0), r .1, ap (_∷_ x) (r .2), (h .0, r .3))
 
 -- what begins with more fields begins with fewer
-fewer : (Is : Line → Type 0) (a b : List Field) → Start Is (a ++ b) → Start Is a
-fewer Is a b h =
-    let r = fields-split a b (h .0) (h .2) in
+fewer : (ed : Edition) (Is : Line → Type 0) (a b : List Field) → Start (law-of ed) Is (a ++ b) → Start (law-of ed) Is a
+fewer ed Is a b h =
+    let r = fields-split ed a b (h .0) (h .2) in
     (r .0, r .1 ++ h .1, r .3, subst Is (ap (λ (l : Line). l ++ h .1) (r .2) ∙ append-assoc (r .0) (r .1) (h .1)) (h .3))
 
-pub first-wrong-one : (Is : Line → Type 0) (fields : List Field) (f g : Field) → FirstWrongField Is fields f → FirstWrongField Is fields g → f ≡ g
-first-wrong-one Is fields f g p q = first-of (Start Is) (fewer Is) (p .before) (p .behind) (q .before) (q .behind) f g (sym (p .among) ∙ q .among) (p .right) (p .wrong) (q .right) (q .wrong)
+pub first-wrong-one : (ed : Edition) (Is : Line → Type 0) (fields : List Field) (f g : Field) → FirstWrongField (law-of ed) Is fields f → FirstWrongField (law-of ed) Is fields g → f ≡ g
+first-wrong-one ed Is fields f g p q = first-of (Start (law-of ed) Is) (fewer ed Is) (p .before) (p .behind) (q .before) (q .behind) f g (sym (p .among) ∙ q .among) (p .right) (p .wrong) (q .right) (q .wrong)
 
 -- ## The listed fields
 -- the numbers whose column is found in another way
@@ -107,7 +108,7 @@ nth-one {l = l} e h k =
     let z : x .0 ≡ y .0 = omega arith in
     one-kind (x .2) (ap (λ (m : ℕ). nth m l) z ∙ y .2)
 
-module _ {rules : Rules} {L : Lang} (A : Machine L) (X : Lexis L) (line-of : (k : L .Kind) → L .Pay k → List Texts.Said) {Net : Type 0} (Said : Net → List (S L) → Type 0) (Spells : Rules → Net → List Line → Type 0) (first : A .Base) (N : Needs rules A X line-of Said Spells first) where
+module _ {ed : Edition} {rules : Rules} {L : Lang} (A : Machine L) (X : Lexis L) (line-of : (k : L .Kind) → L .Pay k → List Texts.Said) {Net : Type 0} (Said : Net → List (S L) → Type 0) (Spells : Rules → Net → List Line → Type 0) (first : A .Base) (N : Needs ed rules A X line-of Said Spells first) where
   -- lines behind which another follows lead to a place
   pub reached : (front : List Line) (line : Line) → Begins rules Spells (front ++ (line ∷ [])) → (said : List (S L)) × (p : Place A) × (front ≡ laws line-of said) × Came A X line-of Said Spells first N said p
   reached front line b =
@@ -117,8 +118,8 @@ module _ {rules : Rules} {L : Lang} (A : Machine L) (X : Lexis L) (line-of : (k 
       (s .0, r .0, s .3, r .1)
 
 -- N, A: the file where no option has to be given
-module _ {L : Lang} (strict : Machine L) (X : Lexis L) (line-of : (k : L .Kind) → L .Pay k → List Texts.Said) {Net : Type 0} (Said : Net → List (S L) → Type 0) (Spells : Rules → Net → List Line → Type 0) (first : strict .Base)
-    (N : Needs (lenient present) (Machine.lenient strict) X line-of Said Spells first) where
+module _ {ed : Edition} {L : Lang} (strict : Machine L) (X : Lexis L) (line-of : (k : L .Kind) → L .Pay k → List Texts.Said) {Net : Type 0} (Said : Net → List (S L) → Type 0) (Spells : Rules → Net → List Line → Type 0) (first : strict .Base)
+    (N : Needs ed (lenient (reading (law-of ed))) (Machine.lenient strict) X line-of Said Spells first) where
   abbrev A : Machine L
   A = Machine.lenient strict
 
@@ -126,12 +127,12 @@ module _ {L : Lang} (strict : Machine L) (X : Lexis L) (line-of : (k : L .Kind) 
   W = N .file .lawful
 
   -- the lines that a field opens there are of the same sorts
-  same-sorts : (front : List Line) (f : Field) (l m : Line) → MayStand present Spells front f l → MayStand present Spells front f m → map sort l ≡ map sort m
+  same-sorts : (front : List Line) (f : Field) (l m : Line) → MayStand (reading (law-of ed)) Spells front f l → MayStand (reading (law-of ed)) Spells front f m → map sort l ≡ map sort m
   same-sorts front f l m a b =
       let r = reached A X line-of Said Spells first N front l (a .follows) in
-      there (r .0) (r .1) (r .3) (subst (λ (x : List Line). MayStand present Spells x f l) (r .2) a) (subst (λ (x : List Line). MayStand present Spells x f m) (r .2) b)
+      there (r .0) (r .1) (r .3) (subst (λ (x : List Line). MayStand (reading (law-of ed)) Spells x f l) (r .2) a) (subst (λ (x : List Line). MayStand (reading (law-of ed)) Spells x f m) (r .2) b)
     where
-      there : (said : List (S L)) (p : Place A) → Came A X line-of Said Spells first N said p → MayStand present Spells (laws line-of said) f l → MayStand present Spells (laws line-of said) f m → map sort l ≡ map sort m
+      there : (said : List (S L)) (p : Place A) → Came A X line-of Said Spells first N said p → MayStand (reading (law-of ed)) Spells (laws line-of said) f l → MayStand (reading (law-of ed)) Spells (laws line-of said) f m → map sort l ≡ map sort m
       there said p came a b =
           let x = may-back strict X line-of Said Spells first N said p came f l a in
           let y = may-back strict X line-of Said Spells first N said p came f m b in
@@ -143,10 +144,10 @@ module _ {L : Lang} (strict : Machine L) (X : Lexis L) (line-of : (k : L .Kind) 
   -- ## The field at fault
   data Which (front : List Line) (f : Field) (fs : List Field) (n : ℕ) (g : Field) : Type 0 where
     by-list : (i : ℕ) → Listed n i → Nth i g (f ∷ fs) → Which front f fs n g
-    by-sorts : n ≡ 8 → (line : Line) → MayStand present Spells front f line → FirstWrongField (λ l. map sort l ≡ map sort line) (f ∷ fs) g → Which front f fs n g
-    by-place : n ≡ 9 → FirstWrongField (Follows present Spells front) (f ∷ fs) g → Which front f fs n g
+    by-sorts : n ≡ 8 → (line : Line) → MayStand (reading (law-of ed)) Spells front f line → FirstWrongField (law-of ed) (λ l. map sort l ≡ map sort line) (f ∷ fs) g → Which front f fs n g
+    by-place : n ≡ 9 → FirstWrongField (law-of ed) (Follows (reading (law-of ed)) Spells front) (f ∷ fs) g → Which front f fs n g
 
-  which : {front : List Line} {f : Field} {fs : List Field} {n : ℕ} {g : Field} → AtFault present Spells front f fs n g → Which front f fs n g
+  which : {front : List Line} {f : Field} {fs : List Field} {n : ℕ} {g : Field} → AtFault (reading (law-of ed)) Spells front f fs n g → Which front f fs n g
   which (listed {i = i} a h) = by-list i (listed-is a) h
   which (misspelt line m w) = by-sorts refl line m w
   which (forbidden w) = by-place refl w
@@ -159,11 +160,11 @@ module _ {L : Lang} (strict : Machine L) (X : Lexis L) (line-of : (k : L .Kind) 
   one-field front f fs n g h (by-list i a x) (by-sorts e l m w) = not-apart e refl (a .1)
   one-field front f fs n g h (by-list i a x) (by-place e w) = not-apart e refl (a .1)
   one-field front f fs n g h (by-sorts e l m w) (by-list j b y) = not-apart e refl (b .1)
-  one-field front f fs n g h (by-sorts e l m w) (by-sorts e′ l′ m′ w′) = first-wrong-one (λ x. map sort x ≡ map sort l) (f ∷ fs) g h w (subst (λ (s : List _). FirstWrongField (λ x. map sort x ≡ s) (f ∷ fs) h) (same-sorts front f l′ l m′ m) w′)
+  one-field front f fs n g h (by-sorts e l m w) (by-sorts e′ l′ m′ w′) = first-wrong-one ed (λ x. map sort x ≡ map sort l) (f ∷ fs) g h w (subst (λ (s : List _). FirstWrongField (law-of ed) (λ x. map sort x ≡ s) (f ∷ fs) h) (same-sorts front f l′ l m′ m) w′)
   one-field front f fs n g h (by-sorts e l m w) (by-place e′ w′) = absurd (omega arith)
   one-field front f fs n g h (by-place e w) (by-list j b y) = not-apart e refl (b .1)
   one-field front f fs n g h (by-place e w) (by-sorts e′ l m w′) = absurd (omega arith)
-  one-field front f fs n g h (by-place e w) (by-place e′ w′) = first-wrong-one (Follows present Spells front) (f ∷ fs) g h w w′
+  one-field front f fs n g h (by-place e w) (by-place e′ w′) = first-wrong-one ed (Follows (reading (law-of ed)) Spells front) (f ∷ fs) g h w w′
 
   -- ## The column
   data How (front : List Line) (line : Bytes) (n c : ℕ) : Type 0 where
@@ -172,7 +173,7 @@ module _ {L : Lang} (strict : Machine L) (X : Lexis L) (line-of : (k : L .Kind) 
     at-byte : n ≡ 4 → c ≡ suc (badAt (dropCr line)) → How front line n c
     at-field : (f g : Field) (fs : List Field) → fieldsAt 0 (outerOf (dropCr line)) ≡ f ∷ fs → Which front f fs n g → c ≡ suc (g .start) → How front line n c
 
-  how : {front : List Line} {line : Bytes} {n c : ℕ} → Column present Spells front line n c → How front line n c
+  how : {front : List Line} {line : Bytes} {n c : ℕ} → Column (reading (law-of ed)) Spells front line n c → How front line n c
   how long = is-long refl refl
   how (comment {content = x} {outer = o} {rest = r} e h) = in-comment refl (ap suc (sym (ap (upTo opens) (ended-is e) ∙ opened-at x o r (h .spelled) (h .first))))
   how (byte good behind b e n y) = at-byte refl (ap suc (sym (ap badAt (ended-is e) ∙ bad-at good behind b (not-bad (clean good) refl) (byte-bad (good ++ (b ∷ [])) y))))
@@ -209,5 +210,5 @@ module _ {L : Lang} (strict : Machine L) (X : Lexis L) (line-of : (k : L .Kind) 
   one-how front line n c d (at-field f g fs l w p) (at-field f′ g′ fs′ l′ w′ q) = p ∙ ap (λ (x : Field). suc (x .start)) (same-field front n f g f′ g′ fs fs′ (sym l ∙ l′) w w′) ∙ sym q
 
   -- a line behind these has one column at most
-  pub column-one : (front : List Line) (line : Bytes) (n c d : ℕ) → Column present Spells front line n c → Column present Spells front line n d → c ≡ d
+  pub column-one : (front : List Line) (line : Bytes) (n c d : ℕ) → Column (reading (law-of ed)) Spells front line n c → Column (reading (law-of ed)) Spells front line n d → c ≡ d
   column-one front line n c d a b = one-how front line n c d (how a) (how b)

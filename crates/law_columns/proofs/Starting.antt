@@ -4,38 +4,57 @@ use mathlib.Core.List.{List, [], _∷_, _++_, map, head-eq-of-cons-eq, tail-eq-o
 use mathlib.Core.Option.{Option, none, some}
 use Prim.Native.Nat.{ℕ}
 use Rattle.terms.specs.Ascii.{Bytes}
+use Rattle.terms.specs.Words.{Each}
 use Rattle.line.specs.Content.{Field}
+use Rattle.grammar.specs.Editions.{Edition, law-of}
 use Rattle.grammar.specs.Language.{Lang}
 use Rattle.grammar.specs.Machine.{Machine}
 use Rattle.text.specs.Said as Old
-use Rattle.text.specs.Judge.{Sort, Val, Vals, Lexis, args}
+use Rattle.text.specs.Judge.{Sort, a-name, an-integer, a-pair, a-triple, a-coordinate, a-boundary, Val, Vals, Lexis, args}
 use Rattle.text.proofs.FieldReading.{says, said, read-right, read-only}
 use Rattle.text.proofs.Telling.{in-front}
 use Rattle.law.specs.Network.{Said, Line, word, SpellsField, SpellFields}
-use Rattle.law_spelling.specs.LineOf.{said-of}
+use Rattle.law_spelling.specs.LineOf.{said-of, Of}
 use Rattle.law_spelling.proofs.Fields.{field-to, field-back}
 use Rattle.law_faults.proofs.Sorts.{law-said, law-front}
 use Rattle.law_faults.proofs.Reached.{cons-nil}
 use Rattle.law_columns.specs.Columns.{Start, FirstWrongField}
 use Rattle.law_columns.proofs.Wrong.{Spelled, Wrong}
 
+-- a sort of boundaries is of this edition
+abbrev pub SortOf : Edition → Sort → Type 0
+SortOf e a-name = Unit {0}
+SortOf e an-integer = Unit {0}
+SortOf e a-pair = Unit {0}
+SortOf e a-triple = Unit {0}
+SortOf e a-coordinate = Unit {0}
+SortOf e (a-boundary d) = d ≡ e
+
+says-of : (e : Edition) (s : Sort) → SortOf e s → (v : Val s) → Of e (says s v)
+says-of e a-name h v = tt
+says-of e an-integer h v = tt
+says-of e a-pair h v = tt
+says-of e a-triple h v = tt
+says-of e a-coordinate h v = tt
+says-of e (a-boundary d) h v = h
+
 -- fields that spell the first values spell the first of what is said ..
-pub spelled-to : (ss : List Sort) (fs : List Field) (u : Vals ss) → Spelled ss fs u → (a : Line) × (r : Line) × (law-said ss u ≡ a ++ r) × SpellFields fs a
-spelled-to ss [] u h = ([], law-said ss u, refl, tt)
-spelled-to [] (f ∷ fs) u h = absurd h
-spelled-to (s ∷ ss) (f ∷ fs) u h =
-    let x = spelled-to ss fs (u .1) (h .1) in
+pub spelled-to : (ed : Edition) (ss : List Sort) → Each (SortOf ed) ss → (fs : List Field) (u : Vals ss) → Spelled ss fs u → (a : Line) × (r : Line) × (law-said ss u ≡ a ++ r) × SpellFields (law-of ed) fs a
+spelled-to ed ss o [] u h = ([], law-said ss u, refl, tt)
+spelled-to ed [] o (f ∷ fs) u h = absurd h
+spelled-to ed (s ∷ ss) o (f ∷ fs) u h =
+    let x = spelled-to ed ss (o .1) fs (u .1) (h .1) in
     let v = said-of (says s (u .0)) in
-    (v ∷ x .0, x .1, ap (_∷_ v) (x .2), (field-to f (says s (u .0)) (read-right s f (u .0) (h .0)), x .3))
+    (v ∷ x .0, x .1, ap (_∷_ v) (x .2), (field-to ed f (says s (u .0)) (says-of ed s (o .0) (u .0)) (read-right s f (u .0) (h .0)), x .3))
 
 -- .. and back
-pub spelled-back : (ss : List Sort) (fs : List Field) (u : Vals ss) (a r : Line) → law-said ss u ≡ a ++ r → SpellFields fs a → Spelled ss fs u
-spelled-back ss [] u a r e h = tt
-spelled-back ss (f ∷ fs) u [] r e h = absurd h
-spelled-back [] (f ∷ fs) u (x ∷ a) r e h = cons-nil e
-spelled-back (s ∷ ss) (f ∷ fs) u (x ∷ a) r e h =
+pub spelled-back : (ed : Edition) (ss : List Sort) → Each (SortOf ed) ss → (fs : List Field) (u : Vals ss) (a r : Line) → law-said ss u ≡ a ++ r → SpellFields (law-of ed) fs a → Spelled ss fs u
+spelled-back ed ss o [] u a r e h = tt
+spelled-back ed ss o (f ∷ fs) u [] r e h = absurd h
+spelled-back ed [] o (f ∷ fs) u (x ∷ a) r e h = cons-nil e
+spelled-back ed (s ∷ ss) o (f ∷ fs) u (x ∷ a) r e h =
     let q : said-of (says s (u .0)) ≡ x = head-eq-of-cons-eq e in
-    (read-only s f (u .0) (field-back f (says s (u .0)) (subst (SpellsField f) (sym q) (h .0))), spelled-back ss fs (u .1) a r (tail-eq-of-cons-eq e) (h .1))
+    (read-only s f (u .0) (field-back ed f (says s (u .0)) (says-of ed s (o .0) (u .0)) (subst (SpellsField (law-of ed) f) (sym q) (h .0))), spelled-back ed ss (o .1) fs (u .1) a r (tail-eq-of-cons-eq e) (h .1))
 
 -- up to a field there is at least the first
 up-to-first : (f : Field) (fs before : List Field) (g : Field) (behind : List Field) → f ∷ fs ≡ before ++ (g ∷ behind) → (l : List Field) × (before ++ (g ∷ []) ≡ f ∷ l)
@@ -43,48 +62,48 @@ up-to-first f fs [] g behind e = ([], ap (λ (x : Field). x ∷ []) (sym (head-e
 up-to-first f fs (x ∷ before) g behind e = (before ++ (g ∷ []), ap (λ (x : Field). x ∷ (before ++ (g ∷ []))) (sym (head-eq-of-cons-eq e)))
 
 -- what spells fields that begin with f begins with what f spells
-begun : (f : Field) (fs : List Field) (l : List Field) → l ≡ f ∷ fs → (a : Line) → SpellFields l a → (x : Said) × (b : Line) × (a ≡ x ∷ b) × SpellsField f x
-begun f fs [] e a h = cons-nil e
-begun f fs (g ∷ l) e [] h = absurd h
-begun f fs (g ∷ l) e (x ∷ a) h = (x, a, refl, subst (λ (g : Field). SpellsField g x) (head-eq-of-cons-eq e) (h .0))
+begun : (ed : Edition) (f : Field) (fs : List Field) (l : List Field) → l ≡ f ∷ fs → (a : Line) → SpellFields (law-of ed) l a → (x : Said) × (b : Line) × (a ≡ x ∷ b) × SpellsField (law-of ed) f x
+begun ed f fs [] e a h = cons-nil e
+begun ed f fs (g ∷ l) e [] h = absurd h
+begun ed f fs (g ∷ l) e (x ∷ a) h = (x, a, refl, subst (λ (g : Field). SpellsField (law-of ed) g x) (head-eq-of-cons-eq e) (h .0))
 
 -- a line f ∷ fs of the keyword o, where there is one, with values of the sorts ss: what is so are the lines of good values
-module _ {L : Lang} (A : Machine L) (X : Lexis L) (ss : List Sort) (Good : Vals ss → Type 0) (Is : Line → Type 0) (f : Field) (fs : List Field) where
+module _ (ed : Edition) {L : Lang} (A : Machine L) (X : Lexis L) (ss : List Sort) (of : Each (SortOf ed) ss) (Good : Vals ss → Type 0) (Is : Line → Type 0) (f : Field) (fs : List Field) where
   pub record Lines (o : Option Bytes) : Type 0 where
     pub opened : (b : Bytes) → o ≡ some b → f .bytes ≡ b
     pub to : (u : Vals ss) → Good u → Is (law-front o ++ law-said ss u)
-    pub back : (x : Said) (l : Line) → SpellsField f x → Is (x ∷ l) → (u : Vals ss) × Good u × (x ∷ l ≡ law-front o ++ law-said ss u)
+    pub back : (x : Said) (l : Line) → SpellsField (law-of ed) f x → Is (x ∷ l) → (u : Vals ss) × Good u × (x ∷ l ≡ law-front o ++ law-said ss u)
 
-  pub first-wrong : (o : Option Bytes) → Lines o → (i : ℕ) (w : Wrong ss Good (args A X o f fs) i) → FirstWrongField Is (f ∷ fs) (w .f)
+  pub first-wrong : (o : Option Bytes) → Lines o → (i : ℕ) (w : Wrong ss Good (args A X o f fs) i) → FirstWrongField (law-of ed) Is (f ∷ fs) (w .f)
   first-wrong (some b) h i w = record {
     before = f ∷ w .before;
     behind = w .behind;
     among = ap (_∷_ f) (w .among);
     right =
-        let x = spelled-to ss (w .before) (w .u) (w .right) in
+        let x = spelled-to ed ss of (w .before) (w .u) (w .right) in
         (word b ∷ x .0, x .1, (h .opened b refl, x .3), subst (λ (l : Line). Is (word b ∷ l)) (x .2) (h .to (w .u) (w .good)));
     wrong = λ s. go (s .0) (s .1) (s .2) (s .3);
   }
     where
-      go : (said rest : Line) → SpellFields (f ∷ (w .before ++ (w .f ∷ []))) said → Is (said ++ rest) → ⊥
+      go : (said rest : Line) → SpellFields (law-of ed) (f ∷ (w .before ++ (w .f ∷ []))) said → Is (said ++ rest) → ⊥
       go [] rest s is = s
       go (x ∷ said) rest s is =
           let y = h .back x (said ++ rest) (s .0) is in
-          w .wrong (y .0) (y .1) (spelled-back ss (w .before ++ (w .f ∷ [])) (y .0) said rest (sym (tail-eq-of-cons-eq (y .2))) (s .1))
+          w .wrong (y .0) (y .1) (spelled-back ed ss of (w .before ++ (w .f ∷ [])) (y .0) said rest (sym (tail-eq-of-cons-eq (y .2))) (s .1))
   first-wrong none h i w = record {
     before = w .before;
     behind = w .behind;
     among = w .among;
     right =
-        let x = spelled-to ss (w .before) (w .u) (w .right) in
+        let x = spelled-to ed ss of (w .before) (w .u) (w .right) in
         (x .0, x .1, x .3, subst Is (x .2) (h .to (w .u) (w .good)));
     wrong = λ s. go (s .0) (s .1) (s .2) (s .3);
   }
     where
-      go : (said rest : Line) → SpellFields (w .before ++ (w .f ∷ [])) said → Is (said ++ rest) → ⊥
+      go : (said rest : Line) → SpellFields (law-of ed) (w .before ++ (w .f ∷ [])) said → Is (said ++ rest) → ⊥
       go said rest s is =
           let l = up-to-first f fs (w .before) (w .f) (w .behind) (w .among) in
-          let x = begun f (l .0) (w .before ++ (w .f ∷ [])) (l .1) said s in
+          let x = begun ed f (l .0) (w .before ++ (w .f ∷ [])) (l .1) said s in
           let e : said ++ rest ≡ x .0 ∷ (x .1 ++ rest) = ap (λ (a : Line). a ++ rest) (x .2) in
           let y = h .back (x .0) (x .1 ++ rest) (x .3) (subst Is e is) in
-          w .wrong (y .0) (y .1) (spelled-back ss (w .before ++ (w .f ∷ [])) (y .0) said rest (sym (y .2) ∙ sym e) s)
+          w .wrong (y .0) (y .1) (spelled-back ed ss of (w .before ++ (w .f ∷ [])) (y .0) said rest (sym (y .2) ∙ sym e) s)

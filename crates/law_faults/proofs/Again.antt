@@ -10,6 +10,7 @@ use Rattle.terms.specs.Ascii.{Bytes}
 use Rattle.terms.specs.Words.{Each}
 use Rattle.terms.proofs.Tests.{nothing, clash}
 use Rattle.terms.proofs.Lists.{each-append}
+use Rattle.grammar.specs.Editions.{Edition}
 use Rattle.grammar.specs.Language.{Lang, S, say, asKind}
 use Rattle.grammar.specs.Machine.{next, Opt, Verdict, other, bad, good, optAt, guard, Machine, over, inside, Place, at, enter, hit, settle, step, run}
 use Rattle.grammar.specs.Stands.{given, asDue, ofRow, stands}
@@ -84,7 +85,7 @@ module _ (L : Lang) where
       go (no n) (inl a) ih = absurd (n (ap (λ (s : S L). s .kind) (a .1)))
       go (no n) (inr a) ih = ih a
 
-module _ {rules : Rules} {L : Lang} (A : Machine L) (X : Lexis L) (line-of : (k : L .Kind) → L .Pay k → List Old.Said) {Net : Type 0} (Said : Net → List (S L) → Type 0) (Spells : Rules → Net → List Line → Type 0) (first : A .Base) (N : Needs rules A X line-of Said Spells first) where
+module _ {ed : Edition} {rules : Rules} {L : Lang} (A : Machine L) (X : Lexis L) (line-of : (k : L .Kind) → L .Pay k → List Old.Said) {Net : Type 0} (Said : Net → List (S L) → Type 0) (Spells : Rules → Net → List Line → Type 0) (first : A .Base) (N : Needs ed rules A X line-of Said Spells first) where
   open Lang L using (Kind, Pay, disc)
 
   abbrev law : S L → Line

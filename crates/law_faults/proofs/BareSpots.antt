@@ -17,9 +17,10 @@ use Rattle.law.specs.Network.{Line, numbers, coordinate, line, present}
 use Rattle.law.specs.Network as Law
 use Rattle.law.specs.Faults.{BadLine}
 use Rattle.law.specs.Faults as Faults
+use Rattle.grammar.specs.Editions.{march}
 use Rattle.grammar.specs.Language.{asKind, allOf}
 use Rattle.grammar.specs.Language as Language
-use Rattle.grammar.specs.Network.{SpellsNetworkBy, SpellsNetwork}
+use Rattle.grammar.specs.Network.{under, SpellsNetworkBy, SpellsNetwork}
 use Rattle.grammar.specs.Statements.{Kind, Says, Statement, PointLine, lines, say, part-id, spot, spot-width, checkpoint, point}
 use Rattle.grammar.specs.Forms.{tested}
 use Rattle.grammar.specs.Choices.{opts as row}
@@ -32,10 +33,11 @@ use Rattle.grammar.proofs.LanguageLaws.{as-inv, kinds-on, Allowed, Fine, all-no
 use Rattle.grammar.proofs.MachineLaws.{Agrees, clear-agrees, differ, refused, told, none-of}
 use Rattle.grammar.proofs.Options.{fine-given, all-memb}
 use Rattle.grammar.proofs.StandLaws.{lenient-nine}
-use Rattle.text.specs.RndfLines.{rndf-line}
+use Rattle.text.specs.RndfLines.{rndf-line-in, rndf-line}
 use Rattle.text.specs.RndfWords.{rndf-lexis}
 use Rattle.text.specs.Faults.{Fault, form, unknown, misplaced, given-again, miscounted, misspelt, forbidden, unmarked}
 use Rattle.law_spelling.specs.LineOf.{rndf-law-line}
+use Rattle.law_spelling.proofs.OneLine.{rndf-all}
 use Rattle.law_spelling.proofs.Fields.{fields-to}
 use Rattle.law_faults.specs.Bare.{BareSpot}
 use Rattle.law_faults.proofs.Reached.{laws, run-one, nil-run, begins-back}
@@ -246,7 +248,7 @@ abbrev IsWidth : Line → Type 0
 IsWidth l = (w : ℕ) × (l ≡ line "spot_width" (numbers (w ∷ []) ∷ []))
 
 widths : (os : List St) → Each (λ s. Among (s .kind) (spot-width ∷ checkpoint ∷ [])) os → length (allOf L checkpoint os) ≡ 0 → Each IsWidth (map rndf-law-line os)
-unfolding rndf-line
+unfolding rndf-line-in
 widths [] a e = tt
 widths (s ∷ os) a e = go (a .0) (widths os (a .1))
   where
@@ -275,11 +277,11 @@ no-mark m n os (x ∷ y ∷ g) a e = go (length (allOf L checkpoint os)) refl
 
 -- ## Together
 its-first : (m n : ℕ) (v : PointLine) → T (tested (thePoint m n 1) v) → rndf-law-line (say point v) ≡ numbers (m ∷ n ∷ 1 ∷ []) ∷ coordinate (v .position .latitude) ∷ coordinate (v .position .longitude) ∷ []
-unfolding rndf-line
+unfolding rndf-line-in
 its-first m n v t = ap (λ (v : PointLine). rndf-law-line (say point v)) (sym (pick-form (thePoint m n 1) v t .0))
 
 at-spot : (said : List St) (m z n k : ℕ) (g : List Bool) (s : St) → Opened said (first-of-spot-due m z n k) g → second g ≡ false → (v : PointLine) → s ≡ say point v → T (tested (thePoint m n 1) v) → BareSpot (laws rndf-line said) (rndf-law-line s)
-unfolding rndf-line
+unfolding rndf-line-in
 at-spot said m z n k g s o e v i t =
     let opener = say (due Field (o .from) .on) (o .w) in
     let h = fine-given L (spotRow Field m n) (o .since) tt (o .fine) in
@@ -313,7 +315,7 @@ bare-at said (inside b g) s c h e = go (bare-only b g (a .missing)) (history-run
 pub bare-spot : (text : Bytes) (i : ℕ) (b : BadLine present Law.SpellsNetwork text i 25) → (l : Line) × Law.Says present 0 (b .this) l × BareSpot (b .front) l
 bare-spot text i b =
     let x = begins-back A rndf-lexis rndf-line SpellsNetwork Law.SpellsNetwork name-due rndf-needs (b .front) (b .begins) in
-    let f = fault-back A rndf-lexis rndf-line SpellsNetwork (SpellsNetworkBy false) Law.SpellsNetwork name-due rndf-needs rndf-lenient-needs (x .0) (x .1) (x .3) (b .this) 25 (subst (λ (front : List Line). Faults.Fault present Law.SpellsNetwork front (b .this) 25) (x .2) (b .fault)) in
+    let f = fault-back A rndf-lexis rndf-line SpellsNetwork (SpellsNetworkBy (under march false)) Law.SpellsNetwork name-due rndf-needs rndf-lenient-needs (x .0) (x .1) (x .3) (b .this) 25 (subst (λ (front : List Line). Faults.Fault present Law.SpellsNetwork front (b .this) 25) (x .2) (b .fault)) in
     let y = go (x .0) (x .1) (x .3) 25 f refl in
     (y .0, y .1, subst (λ (front : List Line). BareSpot front (y .0)) (sym (x .2)) (y .2))
   where
@@ -328,4 +330,4 @@ bare-spot text i b =
     go said p c n (misspelt h d m) q = absurd (omega arith)
     go said p c n (forbidden h v s e) q = absurd (omega arith)
     go said p c n (unmarked {f = f} {fs = fs} {k = k} h v s e) q =
-        (rndf-law-line (say k v), record { content = h .fields .content; fields = f ∷ fs; ended = h .fields .ended; fielded = h .fields .fields; spelled = fields-to (f ∷ fs) (rndf-line k v) s }, bare-at said p (say k v) c (h .here) e)
+        (rndf-law-line (say k v), record { content = h .fields .content; fields = f ∷ fs; ended = h .fields .ended; fielded = h .fields .fields; spelled = fields-to march (f ∷ fs) (rndf-line k v) (rndf-all march k v) s }, bare-at said p (say k v) c (h .here) e)

@@ -11,13 +11,14 @@ use Rattle.terms.specs.Ascii.{Bytes}
 use Rattle.terms.specs.Words.{Each}
 use Rattle.line.specs.Text.{Ended}
 use Rattle.line.specs.Content.{Field, Content}
-use Rattle.law.specs.Network.{Line, numbers, coordinate, line, present, SpellFields}
+use Rattle.law.specs.Network.{Line, numbers, coordinate, line, march-2007, present, SpellFields}
 use Rattle.law.specs.Network as Law
 use Rattle.law.specs.Faults.{BadLine}
 use Rattle.law.specs.Faults as Faults
+use Rattle.grammar.specs.Editions.{march}
 use Rattle.grammar.specs.Language.{asKind}
 use Rattle.grammar.specs.Language as Language
-use Rattle.grammar.specs.Network.{SpellsNetworkBy, SpellsNetwork}
+use Rattle.grammar.specs.Network.{under, SpellsNetworkBy, SpellsNetwork}
 use Rattle.grammar.specs.Statements.{PartId, PointLine, Says, Statement, lines, say, part-id, point-id, spot, spot-width, point}
 use Rattle.grammar.specs.Forms.{tested}
 use Rattle.grammar.specs.Permitted.{counted, thePart, thePoint}
@@ -30,12 +31,12 @@ use Rattle.grammar.proofs.LanguageLaws.{as-same}
 use Rattle.grammar.proofs.MachineLaws.{refused, no-option}
 use Rattle.grammar.proofs.StandLaws.{asked, stands-due, lenient-nine}
 use Rattle.text.specs.Said as Old
-use Rattle.text.specs.RndfLines.{rndf-line}
+use Rattle.text.specs.RndfLines.{rndf-line-in, rndf-line}
 use Rattle.text.specs.RndfWords.{rndf-lexis}
 use Rattle.text.specs.Faults.{Fault, forbidden}
 use Rattle.law_spelling.specs.LineOf.{rndf-law-line}
 use Rattle.law_spelling.proofs.Fields.{fields-back}
-use Rattle.law_spelling.proofs.OneLine.{rndf-line-one}
+use Rattle.law_spelling.proofs.OneLine.{rndf-line-one, rndf-all}
 use Rattle.law_faults.specs.Bare.{BareSpot}
 use Rattle.law_faults.proofs.Reached.{laws, split, run-parts, run-one, nil-run, run-lenient, begins-back, line-to, line-back}
 use Rattle.law_faults.proofs.Opening.{spelled-opens, opens-kind}
@@ -134,7 +135,7 @@ width-taken m z n k w x q e = go x (tested counted w) e
 
 widths-taken : (m z n k : ℕ) (x : Bool) (os : List St) (q : Place A) → Each (λ l. (w : ℕ) × (l ≡ line "spot_width" (numbers (w ∷ []) ∷ []))) (laws rndf-line os) → run A (inside (first-of-spot-due m z n k) (x ∷ false ∷ [])) os ≡ next q
     → (y : Bool) × (q ≡ inside (first-of-spot-due m z n k) (y ∷ false ∷ []))
-unfolding rndf-line
+unfolding rndf-line-in
 widths-taken m z n k x [] q h e = (x, sym (nil-run A (inside (first-of-spot-due m z n k) (x ∷ false ∷ [])) q e))
 widths-taken m z n k x (s ∷ os) q h e =
     let r = run-one A (inside (first-of-spot-due m z n k) (x ∷ false ∷ [])) q s os e in
@@ -148,7 +149,7 @@ abbrev bare : (m z n k : ℕ) → Bool → Place (rndf Field)
 bare m z n k x = inside (first-of-spot-due m z n k) (x ∷ false ∷ [])
 
 at-bare : (said : List St) (p : Place A) (l : Line) → run A (at A name-due) said ≡ next p → (b : BareSpot (laws rndf-line said) l) → (z : ℕ) × (k : ℕ) × (x : Bool) × (p ≡ bare (b .m) z (b .n) k x)
-unfolding rndf-line
+unfolding rndf-line-in
 at-bare said p l c b = go (split rndf-line (b .earlier) (line "spot" (numbers (b .m ∷ b .n ∷ []) ∷ []) ∷ b .options) said (sym (b .was)))
   where
     here : (a : List St) (s : St) (os : List St) → said ≡ a ++ (s ∷ os) → rndf-law-line (say spot (part-id (b .m) (b .n))) ≡ rndf-law-line s → b .options ≡ laws rndf-line os → (z : ℕ) × (k : ℕ) × (x : Bool) × (p ≡ bare (b .m) z (b .n) k x)
@@ -177,12 +178,12 @@ module _ (said : List St) (m z n k : ℕ) (x : Bool) (came : run A (at A name-du
   here = bare m z n k x
 
   -- the line's fields spell this waypoint
-  module _ (content : Bytes) (f : Field) (fs : List Field) (ended : Ended this content) (fielded : Content 0 content (f ∷ fs)) (spelled : SpellFields (f ∷ fs) (rndf-law-line (say point v))) where
+  module _ (content : Bytes) (f : Field) (fs : List Field) (ended : Ended this content) (fielded : Content 0 content (f ∷ fs)) (spelled : SpellFields march-2007 (f ∷ fs) (rndf-law-line (say point v))) where
     stands-here : stands A here point ≡ none
     stands-here = stands-due A (first-of-spot-due m z n k) (x ∷ false ∷ [])
 
     old : Old.SpellFields (f ∷ fs) (rndf-line point v)
-    old = fields-back (f ∷ fs) (rndf-line point v) spelled
+    old = fields-back march (f ∷ fs) (rndf-line point v) (rndf-all march point v) spelled
 
     nine : step A here (say point v) ≡ refuse 9 → Fault A rndf-lexis rndf-line here 0 this 9
     nine e = forbidden (record {
@@ -200,23 +201,23 @@ module _ (said : List St) (m z n k : ℕ) (x : Bool) (came : run A (at A name-du
 
         go : (o : Out (Place A)) → step (lenient A) here (say point v) ≡ o → Faults.Fault present Law.SpellsNetwork (laws rndf-line said) this 25
         go (next q) t = Faults.fields ended fielded (Faults.unmarked (rndf-law-line (say point v)) spelled
-            (line-to (lenient A) rndf-lexis rndf-line (SpellsNetworkBy false) Law.SpellsNetwork name-due rndf-lenient-needs said here q (say point v) (run-lenient A (at A name-due) here said came) t)
+            (line-to (lenient A) rndf-lexis rndf-line (SpellsNetworkBy (under march false)) Law.SpellsNetwork name-due rndf-lenient-needs said here q (say point v) (run-lenient A (at A name-due) here said came) t)
             λ b.
             let y = line-back A rndf-lexis rndf-line SpellsNetwork Law.SpellsNetwork name-due rndf-needs said here (rndf-law-line (say point v)) came b in
             not-taken m z n k x v (y .1) (ap (step A here) (rndf-line-one (say point v) (y .0) (y .2)) ∙ y .3))
         go (refuse c) t =
             let i : c ≡ 9 = lenient-nine A here point v c stands-here t in
             let e = strict (t ∙ ap refuse i) (asked A here (say point v)) in
-            absurd (fine 9 (omega arith) (fault-to A rndf-lexis rndf-line SpellsNetwork (SpellsNetworkBy false) Law.SpellsNetwork name-due rndf-needs rndf-lenient-needs said here came this 9 (nine e)))
+            absurd (fine 9 (omega arith) (fault-to A rndf-lexis rndf-line SpellsNetwork (SpellsNetworkBy (under march false)) Law.SpellsNetwork name-due rndf-needs rndf-lenient-needs said here came this 9 (nine e)))
 
 told-behind : (said : List St) (p : Place A) → run A (at A name-due) said ≡ next p → (this : Bytes) (l : Line) → Law.Says present 0 this l → BareSpot (laws rndf-line said) l
     → ((i : ℕ) → i ≤ 9 → Faults.Fault present Law.SpellsNetwork (laws rndf-line said) this i → ⊥) → Faults.Fault present Law.SpellsNetwork (laws rndf-line said) this 25
-unfolding rndf-line
+unfolding rndf-line-in
 told-behind said p c this l says b fine =
     let y = at-bare said p l c b in
-    go (y .0) (y .1) (y .2) (subst (λ (p : Place A). run A (at A name-due) said ≡ next p) (y .3) c) (says .fields) (says .fielded) (subst (SpellFields (says .fields)) (b .is) (says .spelled))
+    go (y .0) (y .1) (y .2) (subst (λ (p : Place A). run A (at A name-due) said ≡ next p) (y .3) c) (says .fields) (says .fielded) (subst (SpellFields march-2007 (says .fields)) (b .is) (says .spelled))
   where
-    go : (z k : ℕ) (x : Bool) → run A (at A name-due) said ≡ next (bare (b .m) z (b .n) k x) → (fs : List Field) → Content 0 (says .content) fs → SpellFields fs (numbers (b .m ∷ b .n ∷ 1 ∷ []) ∷ coordinate (b .first .latitude) ∷ coordinate (b .first .longitude) ∷ []) → Faults.Fault present Law.SpellsNetwork (laws rndf-line said) this 25
+    go : (z k : ℕ) (x : Bool) → run A (at A name-due) said ≡ next (bare (b .m) z (b .n) k x) → (fs : List Field) → Content 0 (says .content) fs → SpellFields march-2007 fs (numbers (b .m ∷ b .n ∷ 1 ∷ []) ∷ coordinate (b .first .latitude) ∷ coordinate (b .first .longitude) ∷ []) → Faults.Fault present Law.SpellsNetwork (laws rndf-line said) this 25
     go z k x c [] h s = absurd s
     go z k x c (f ∷ fs) h s = told-here said (b .m) z (b .n) k x c this (record { id = point-id (b .m) (b .n) 1; position = b .first }) (says .content) f fs (says .ended) h s fine
 

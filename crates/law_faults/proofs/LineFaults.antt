@@ -10,6 +10,7 @@ use Rattle.terms.specs.Ascii.{Bytes}
 use Rattle.terms.specs.Words.{Each}
 use Rattle.terms.proofs.Tests.{nothing}
 use Rattle.line.specs.Content.{Field}
+use Rattle.grammar.specs.Editions.{Edition, law-of}
 use Rattle.grammar.specs.Language.{Lang, S, say}
 use Rattle.grammar.specs.Machine.{Out, next, refuse, Machine, Place, at, step}
 use Rattle.grammar.specs.Machine as Machine
@@ -23,7 +24,7 @@ use Rattle.text.specs.Faults.{Fielded, unknown}
 use Rattle.text.specs.Faults as Old
 use Rattle.text.proofs.Telling.{Lawful}
 use Rattle.text.proofs.FaultLaws.{five-or-six}
-use Rattle.law.specs.Network.{Line, SpellFields, Rules, present, lenient}
+use Rattle.law.specs.Network.{Line, SpellFields, Rules, reading, lenient}
 use Rattle.law.specs.Faults.{sort, Opens, IsOption, Begins, Follows, MayStand, GivenAgain, FieldFault, Fault, form, fields, misplaced, given-again, miscounted, misspelt, forbidden, unmarked}
 use Rattle.law_spelling.specs.LineOf.{law-line}
 use Rattle.law_spelling.proofs.Fields.{fields-to, fields-back}
@@ -38,17 +39,17 @@ pub one-kind : {K : Type 0} {o : Option K} {j k : K} → o ≡ some j → o ≡ 
 one-kind {o = o} {j = j} {k = k} e f = let h : some j ≡ some k = sym e ∙ f in cc
 
 -- 25 is not told here: what the law says of it
-pub record Bare {Net : Type 0} (Spells : Rules → Net → List Line → Type 0) (front : List Line) (line : Bytes) (n : ℕ) : Type 0 where
+pub record Bare (ed : Edition) {Net : Type 0} (Spells : Rules → Net → List Line → Type 0) (front : List Line) (line : Bytes) (n : ℕ) : Type 0 where
   pub is : n ≡ 25
   pub f : Field
   pub fs : List Field
   pub fielded : Fielded 0 line f fs
   pub says : Line
-  pub spelled : SpellFields (f ∷ fs) says
-  pub follows : Follows present Spells front says
-  pub unmarked : Begins present Spells (front ++ (says ∷ [])) → ⊥
+  pub spelled : SpellFields (law-of ed) (f ∷ fs) says
+  pub follows : Follows (reading (law-of ed)) Spells front says
+  pub unmarked : Begins (reading (law-of ed)) Spells (front ++ (says ∷ [])) → ⊥
 
-module _ {L : Lang} (strict : Machine L) (X : Lexis L) (line-of : (k : L .Kind) → L .Pay k → List Said.Said) {Net : Type 0} (Said : Net → List (S L) → Type 0) (Spells : Rules → Net → List Line → Type 0) (first : strict .Base) (N : Needs (lenient present) (Machine.lenient strict) X line-of Said Spells first) where
+module _ {ed : Edition} {L : Lang} (strict : Machine L) (X : Lexis L) (line-of : (k : L .Kind) → L .Pay k → List Said.Said) {Net : Type 0} (Said : Net → List (S L) → Type 0) (Spells : Rules → Net → List Line → Type 0) (first : strict .Base) (N : Needs ed (lenient (reading (law-of ed))) (Machine.lenient strict) X line-of Said Spells first) where
   open Lang L using (Kind, Pay)
 
   abbrev A : Machine L
@@ -73,7 +74,7 @@ module _ {L : Lang} (strict : Machine L) (X : Lexis L) (line-of : (k : L .Kind) 
 
     module _ (f : Field) where
       -- ## A line that may stand
-      pub may-to : (k : Kind) → kindAt A X p f ≡ some k → stands A p k ≡ none → (v : Pay k) × MayStand present Spells front f (law (say L k v))
+      pub may-to : (k : Kind) → kindAt A X p f ≡ some k → stands A p k ≡ none → (v : Pay k) × MayStand (reading (law-of ed)) Spells front f (law (say L k v))
       may-to k e s =
           let x = some-value A X line-of Said Spells first N (λ b g. tt) p values-at good-at k s in
           (x .0, record { opens = kind-opens A X line-of Said Spells first N p f k (x .0) e; follows = line-to A X line-of Said Spells first N said p (x .1) (say L k (x .0)) came (x .2) })
@@ -85,7 +86,7 @@ module _ {L : Lang} (strict : Machine L) (X : Lexis L) (line-of : (k : L .Kind) 
         pub made-out : kindAt A X p f ≡ some k
         pub here : stands A p k ≡ none
 
-      pub may-back : (line : Line) → MayStand present Spells front f line → Stands line
+      pub may-back : (line : Line) → MayStand (reading (law-of ed)) Spells front f line → Stands line
       may-back line m =
           let x = line-back A X line-of Said Spells first N said p line came (m .follows) in
           let s = x .0 in
@@ -93,16 +94,16 @@ module _ {L : Lang} (strict : Machine L) (X : Lexis L) (line-of : (k : L .Kind) 
           record { k = s .kind; v = s .val; is = x .2; made-out = opens-kind A X line-of Said Spells first N p f (s .kind) (s .val) h (subst (Opens f) (x .2) (m .opens)); here = h }
 
       -- no line may stand where no kind is made out, or one that may not
-      none-may : kindAt A X p f ≡ none → (line : Line) → MayStand present Spells front f line → ⊥
+      none-may : kindAt A X p f ≡ none → (line : Line) → MayStand (reading (law-of ed)) Spells front f line → ⊥
       none-may e line m = let x = may-back line m in nothing (sym e ∙ x .made-out)
 
-      not-may : (k : Kind) (n : ℕ) → kindAt A X p f ≡ some k → stands A p k ≡ some n → (line : Line) → MayStand present Spells front f line → ⊥
+      not-may : (k : Kind) (n : ℕ) → kindAt A X p f ≡ some k → stands A p k ≡ some n → (line : Line) → MayStand (reading (law-of ed)) Spells front f line → ⊥
       not-may k n e s line m =
           let x = may-back line m in
           nothing (sym (x .here) ∙ ap (stands A p) (one-kind (x .made-out) e) ∙ s)
 
       -- ## An option that was given
-      again-to : (k : Kind) → kindAt A X p f ≡ some k → stands A p k ≡ some 6 → GivenAgain present Spells front f
+      again-to : (k : Kind) → kindAt A X p f ≡ some k → stands A p k ≡ some 6 → GivenAgain (reading (law-of ed)) Spells front f
       again-to k e s =
           let x = given-before A X line-of Said Spells first N said p k came s in
           record {
@@ -115,7 +116,7 @@ module _ {L : Lang} (strict : Machine L) (X : Lexis L) (line-of : (k : L .Kind) 
             not-here = not-may k 6 e s;
           }
 
-      again-back : GivenAgain present Spells front f → (k : Kind) × (kindAt A X p f ≡ some k) × (stands A p k ≡ some 6)
+      again-back : GivenAgain (reading (law-of ed)) Spells front f → (k : Kind) × (kindAt A X p f ≡ some k) × (stands A p k ≡ some 6)
       again-back g = go (split line-of (g .earlier) (g .given ∷ g .since) said (sym (g .was)))
         where
           settled : (s : S L) → kindAt A X p f ≡ some (s .kind) → (stands A p (s .kind) ≡ none) ⊎ (stands A p (s .kind) ≡ some 6) → (k : Kind) × (kindAt A X p f ≡ some k) × (stands A p k ≡ some 6)
@@ -134,10 +135,10 @@ module _ {L : Lang} (strict : Machine L) (X : Lexis L) (line-of : (k : L .Kind) 
           go (a, [], e, q, h) = cons-nil (sym h)
           go (a, s ∷ b, e, q, h) = here a s b e h
 
-      none-again : kindAt A X p f ≡ none → GivenAgain present Spells front f → ⊥
+      none-again : kindAt A X p f ≡ none → GivenAgain (reading (law-of ed)) Spells front f → ⊥
       none-again e g = let x = again-back g in nothing (sym e ∙ x .1)
 
-      not-again : (k : Kind) → kindAt A X p f ≡ some k → stands A p k ≡ some 5 → GivenAgain present Spells front f → ⊥
+      not-again : (k : Kind) → kindAt A X p f ≡ some k → stands A p k ≡ some 5 → GivenAgain (reading (law-of ed)) Spells front f → ⊥
       not-again k e s g =
           let x = again-back g in
           let z : _≡_ {A = Option ℕ} (some 6) (some 5) = sym (x .2) ∙ ap (stands A p) (one-kind (x .1) e) ∙ s in
@@ -145,7 +146,7 @@ module _ {L : Lang} (strict : Machine L) (X : Lexis L) (line-of : (k : L .Kind) 
 
     -- ## A line at fault
     module _ (line : Bytes) where
-      pub fault-to : (n : ℕ) → Old.Fault A X line-of p 0 line n → Fault present Spells front line n
+      pub fault-to : (n : ℕ) → Old.Fault A X line-of p 0 line n → Fault (reading (law-of ed)) Spells front line n
       fault-to n (Old.form e h) = form e h
       fault-to n (unknown {f = f} {fs = fs} h e) = fields (h .ended) (h .fields) (misplaced (none-may f e) (none-again f e))
       fault-to n (Old.misplaced {f = f} {k = k} h e s) = fields (h .ended) (h .fields) (misplaced (not-may f k 5 e s) (not-again f k e s))
@@ -157,15 +158,15 @@ module _ {L : Lang} (strict : Machine L) (X : Lexis L) (line-of : (k : L .Kind) 
           let x = may-to f k (h .is) (h .here) in
           fields (h .fields .ended) (h .fields .fields) (misspelt (law (say L k (x .0))) (x .1) (count-to A X line-of W k (x .0) f fs c) λ l e s.
           let y = of-kind A X line-of W k (x .0) l e in
-          m (y .0) (fields-back (f ∷ fs) (line-of k (y .0)) (subst (SpellFields (f ∷ fs)) (y .1) s)))
+          m (y .0) (fields-back ed (f ∷ fs) (line-of k (y .0)) (N .all k (y .0)) (subst (SpellFields (law-of ed) (f ∷ fs)) (y .1) s)))
       fault-to n (Old.forbidden {f = f} {fs = fs} {k = k} h v s e) =
           let x = may-to f k (h .is) (h .here) in
-          fields (h .fields .ended) (h .fields .fields) (forbidden (law (say L k (x .0))) (law (say L k v)) (x .1) (kind-sorts A X line-of W k v (x .0)) (fields-to (f ∷ fs) (line-of k v) s) λ b.
+          fields (h .fields .ended) (h .fields .fields) (forbidden (law (say L k (x .0))) (law (say L k v)) (x .1) (kind-sorts A X line-of W k v (x .0)) (fields-to ed (f ∷ fs) (line-of k v) (N .all k v) s) λ b.
           let y = line-back A X line-of Said Spells first N said p (law (say L k v)) came b in
           refused (sym e ∙ ap (step A p) (N .one (say L k v) (y .0) (y .2)) ∙ y .3))
       fault-to n (Old.unmarked {k = k} h v s e) = absurd (let z = lenient-nine strict p k v 25 (sym (stands-lenient strict p k) ∙ h .here) e in omega arith)
 
-      pub fault-back : (n : ℕ) → Fault present Spells front line n → Old.Fault A X line-of p 0 line n ⊎ Bare Spells front line n
+      pub fault-back : (n : ℕ) → Fault (reading (law-of ed)) Spells front line n → Old.Fault A X line-of p 0 line n ⊎ Bare ed Spells front line n
       fault-back n (form e h) = inl (Old.form e h)
       fault-back n (fields {content = c} {f = f} {fs = fs} e h b) = go n b
         where
@@ -175,11 +176,11 @@ module _ {L : Lang} (strict : Machine L) (X : Lexis L) (line-of : (k : L .Kind) 
           may : {l : Line} (x : Stands f l) → Old.MayStand A X line-of p 0 line (x .k) f fs
           may x = record { fields = fielded; is = x .made-out; here = x .here }
 
-          misplaced-at : (k : Kind) → kindAt A X p f ≡ some k → (GivenAgain present Spells front f → ⊥) → (m : ℕ) → stands A p k ≡ some m → (m ≡ 5) ⊎ (m ≡ 6) → Old.Fault A X line-of p 0 line 5
+          misplaced-at : (k : Kind) → kindAt A X p f ≡ some k → (GivenAgain (reading (law-of ed)) Spells front f → ⊥) → (m : ℕ) → stands A p k ≡ some m → (m ≡ 5) ⊎ (m ≡ 6) → Old.Fault A X line-of p 0 line 5
           misplaced-at k q again m s (inl i) = Old.misplaced fielded q (s ∙ ap some i)
           misplaced-at k q again m s (inr i) = absurd (again (again-to f k q (s ∙ ap some i)))
 
-          unfit : ((l : Line) → MayStand present Spells front f l → ⊥) → (GivenAgain present Spells front f → ⊥) → (x : Option Kind) → kindAt A X p f ≡ x → Old.Fault A X line-of p 0 line 5
+          unfit : ((l : Line) → MayStand (reading (law-of ed)) Spells front f l → ⊥) → (GivenAgain (reading (law-of ed)) Spells front f → ⊥) → (x : Option Kind) → kindAt A X p f ≡ x → Old.Fault A X line-of p 0 line 5
           unfit none-stands again none q = unknown fielded q
           unfit none-stands again (some k) q = at-kind (stands A p k) refl
             where
@@ -195,7 +196,7 @@ module _ {L : Lang} (strict : Machine L) (X : Lexis L) (line-of : (k : L .Kind) 
               told (next q) t = absurd (none-taken q t)
               told (refuse c) t = ap refuse (lenient-nine strict p k v c (sym (stands-lenient strict p k) ∙ h) t)
 
-          go : (n : ℕ) → FieldFault present Spells front f fs n → Old.Fault A X line-of p 0 line n ⊎ Bare Spells front line n
+          go : (n : ℕ) → FieldFault (reading (law-of ed)) Spells front f fs n → Old.Fault A X line-of p 0 line n ⊎ Bare ed Spells front line n
           go n (misplaced m again) = inl (unfit m again (kindAt A X p f) refl)
           go n (given-again g) = let x = again-back f g in inl (Old.given-again fielded (x .1) (x .2))
           go n (miscounted l m c) =
@@ -204,10 +205,10 @@ module _ {L : Lang} (strict : Machine L) (X : Lexis L) (line-of : (k : L .Kind) 
           go n (misspelt l m c s) =
               let x = may-back f l m in
               inl (Old.misspelt (may x) (count-back A X line-of W (x .k) (x .v) f fs (c ∙ ap length (x .is)))
-              (λ u t. s (law (say L (x .k) u)) (kind-sorts A X line-of W (x .k) u (x .v) ∙ ap (map sort) (sym (x .is))) (fields-to (f ∷ fs) (line-of (x .k) u) t)))
+              (λ u t. s (law (say L (x .k) u)) (kind-sorts A X line-of W (x .k) u (x .v) ∙ ap (map sort) (sym (x .is))) (fields-to ed (f ∷ fs) (line-of (x .k) u) (N .all (x .k) u) t)))
           go n (forbidden l u m e s b) =
               let x = may-back f l m in
               let y = of-kind A X line-of W (x .k) (x .v) u (e ∙ ap (map sort) (x .is)) in
-              inl (Old.forbidden (may x) (y .0) (fields-back (f ∷ fs) (line-of (x .k) (y .0)) (subst (SpellFields (f ∷ fs)) (y .1) s))
-              (nine (x .k) (y .0) (x .here) (λ q t. b (subst (λ (u : Line). Follows present Spells front u) (sym (y .1)) (line-to A X line-of Said Spells first N said p q (say L (x .k) (y .0)) came t)))))
+              inl (Old.forbidden (may x) (y .0) (fields-back ed (f ∷ fs) (line-of (x .k) (y .0)) (N .all (x .k) (y .0)) (subst (SpellFields (law-of ed) (f ∷ fs)) (y .1) s))
+              (nine (x .k) (y .0) (x .here) (λ q t. b (subst (λ (u : Line). Follows (reading (law-of ed)) Spells front u) (sym (y .1)) (line-to A X line-of Said Spells first N said p q (say L (x .k) (y .0)) came t)))))
           go n (unmarked l s t b) = inr (record { is = refl; f = f; fs = fs; fielded = fielded; says = l; spelled = s; follows = t; unmarked = b })

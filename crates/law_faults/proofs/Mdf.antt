@@ -11,8 +11,9 @@ use Rattle.line.specs.Content.{Field, at}
 use Rattle.scan.specs.Reach.{sameBytes}
 use Rattle.word.specs.Keywords.{mdf-keywords}
 use Rattle.word.specs.Number.{indexOf}
-use Rattle.law.specs.Network.{Mission, Line, numbers, present, lenient}
+use Rattle.law.specs.Network.{Mission, Line, numbers, reading, present, lenient}
 use Rattle.law.specs.Network as Law
+use Rattle.grammar.specs.Editions.{Edition, march, law-of}
 use Rattle.grammar.specs.Language.{say}
 use Rattle.grammar.specs.Mission.{SpellsMission}
 use Rattle.grammar.specs.MissionStatements.{Kind, Says, orders, MDF-name, RNDF, format-version, creation-date, checkpoints, num-checkpoints, end-checkpoints, speed-limits, num-speed-limits, end-speed-limits, end-file, goal, limit}
@@ -28,8 +29,8 @@ use Rattle.text.specs.MdfWords.{word-at, mdf-sorts, mdf-make, mdf-lexis}
 use Rattle.text.specs.Judge.{Vals}
 use Rattle.text.specs.Spelling.{Name, bytes, bytes-of}
 use Rattle.text.proofs.Theorems.{mdf-file}
-use Rattle.law_spelling.proofs.MdfParts.{mission-to, mission-back}
-use Rattle.law_spelling.proofs.OneLine.{mdf-line-one, mdf-begins}
+use Rattle.law_spelling.proofs.MdfParts.{mission-to-in, mission-back-in}
+use Rattle.law_spelling.proofs.OneLine.{mdf-line-one, mdf-begins, mdf-all}
 use Rattle.law_faults.proofs.Sorts.{law-said}
 use Rattle.law_faults.proofs.Moved.{Alike}
 use Rattle.law_faults.proofs.Needs.{Values, Needs}
@@ -117,39 +118,49 @@ alike limit u w h = λ i. record { id = h .0 i; minimum = h .1 .0 i; maximum = h
 steady : (p : Place (mdf Field)) (k : Kind) (u w : Vals (mdf-sorts k)) → Alike (mdf-sorts k) u w → step (mdf Field) p (say (orders Field) k (mdf-make k u)) ≡ step (mdf Field) p (say (orders Field) k (mdf-make k w))
 steady p k u w h = sym (mdf-renamed bytes-of p (say (orders Field) k (mdf-make k u))) ∙ ap (λ (v : Says Name k). step (mdf Name) p (say (orders Name) k v)) (alike k u w h) ∙ mdf-renamed bytes-of p (say (orders Field) k (mdf-make k w))
 
-pub mdf-needs : Needs present (mdf Field) mdf-lexis mdf-line SpellsMission Law.SpellsMission name-due
-mdf-needs = record {
-  file = mdf-file;
-  to = mission-to;
-  back = mission-back;
-  one = mdf-line-one;
-  begins = mdf-begins;
-  values-first = tt;
-  values-after = values-after;
-  listed = λ b. all-listed-so (orders Field) keyword (opts Field b) (options-listed b);
-  unlisted = λ b. unlisted-so (keyword (due Field b .on)) (due-unlisted b);
-  numeric = numeric;
-  steady = steady;
-}
+module _ (d : Edition) where
+  pub mdf-needs-in : Needs d (reading (law-of d)) (mdf Field) mdf-lexis mdf-line SpellsMission Law.SpellsMission name-due
+  mdf-needs-in = record {
+    file = mdf-file;
+    to = mission-to-in d;
+    back = mission-back-in d;
+    one = mdf-line-one;
+    all = mdf-all d;
+    begins = mdf-begins;
+    values-first = tt;
+    values-after = values-after;
+    listed = λ b. all-listed-so (orders Field) keyword (opts Field b) (options-listed b);
+    unlisted = λ b. unlisted-so (keyword (due Field b .on)) (due-unlisted b);
+    numeric = numeric;
+    steady = steady;
+  }
 
--- L8's rule asks nothing of a mission
-to-lenient : (n : Mission Field) (l : List Line) → Law.SpellsMission present n l → Law.SpellsMission (lenient present) n l
-to-lenient n l h = record { options = h .options; given = h .given; good = h .good; spelled = h .spelled }
+  -- L8's rule asks nothing of a mission
+  to-lenient : (n : Mission Field) (l : List Line) → Law.SpellsMission (reading (law-of d)) n l → Law.SpellsMission (lenient (reading (law-of d))) n l
+  to-lenient n l h = record { options = h .options; given = h .given; good = h .good; spelled = h .spelled }
 
-to-present : (n : Mission Field) (l : List Line) → Law.SpellsMission (lenient present) n l → Law.SpellsMission present n l
-to-present n l h = record { options = h .options; given = h .given; good = h .good; spelled = h .spelled }
+  to-present : (n : Mission Field) (l : List Line) → Law.SpellsMission (lenient (reading (law-of d))) n l → Law.SpellsMission (reading (law-of d)) n l
+  to-present n l h = record { options = h .options; given = h .given; good = h .good; spelled = h .spelled }
 
-pub mdf-lenient-needs : Needs (lenient present) (Machine.lenient (mdf Field)) mdf-lexis mdf-line SpellsMission Law.SpellsMission name-due
-mdf-lenient-needs = record {
-  file = mdf-file;
-  to = λ n l h. to-lenient n _ (mission-to n l h);
-  back = λ n l h. mission-back n l (to-present n l h);
-  one = mdf-line-one;
-  begins = mdf-begins;
-  values-first = tt;
-  values-after = values-after;
-  listed = mdf-needs .listed;
-  unlisted = mdf-needs .unlisted;
-  numeric = numeric;
-  steady = steady;
-}
+  pub mdf-lenient-needs-in : Needs d (lenient (reading (law-of d))) (Machine.lenient (mdf Field)) mdf-lexis mdf-line SpellsMission Law.SpellsMission name-due
+  mdf-lenient-needs-in = record {
+    file = mdf-file;
+    to = λ n l h. to-lenient n _ (mission-to-in d n l h);
+    back = λ n l h. mission-back-in d n l (to-present n l h);
+    one = mdf-line-one;
+    all = mdf-all d;
+    begins = mdf-begins;
+    values-first = tt;
+    values-after = values-after;
+    listed = mdf-needs-in .listed;
+    unlisted = mdf-needs-in .unlisted;
+    numeric = numeric;
+    steady = steady;
+  }
+
+-- in the present edition
+pub mdf-needs : Needs march present (mdf Field) mdf-lexis mdf-line SpellsMission Law.SpellsMission name-due
+mdf-needs = mdf-needs-in march
+
+pub mdf-lenient-needs : Needs march (lenient present) (Machine.lenient (mdf Field)) mdf-lexis mdf-line SpellsMission Law.SpellsMission name-due
+mdf-lenient-needs = mdf-lenient-needs-in march

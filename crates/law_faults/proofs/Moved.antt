@@ -56,7 +56,7 @@ Like an-integer u v = u ≡ v
 Like a-pair u v = u ≡ v
 Like a-triple u v = u ≡ v
 Like a-coordinate u v = u ≡ v
-Like a-boundary u v = u ≡ v
+Like (a-boundary d) u v = u ≡ v
 
 abbrev pub Alike : (ss : List Sort) → Vals ss → Vals ss → Type 0
 Alike [] u v = Unit {0}
@@ -68,7 +68,7 @@ value-at an-integer f g v e h = (v, refl, subst (λ (b : Bytes). SpellsInteger b
 value-at a-pair f g v e h = (v, refl, subst (λ (b : Bytes). SpellsPair b (v .m) (v .n)) e h)
 value-at a-triple f g v e h = (v, refl, subst (λ (b : Bytes). SpellsTriple b (v .x) (v .y) (v .z)) e h)
 value-at a-coordinate f g v e h = (v, refl, subst (λ (b : Bytes). SpellsCoordinate b v) e h)
-value-at a-boundary f g v e h = (v, refl, subst (λ (b : Bytes). Word.Boundary (colour v) b) e h)
+value-at (a-boundary d) f g v e h = (v, refl, (subst (λ (b : Bytes). Word.Boundary (colour v) b) e (h .0), h .1))
 
 values-at : (ss : List Sort) (fs gs : List Field) (w : Vals ss) → Same fs gs → SpellFields fs (said ss w) → (u : Vals ss) × Alike ss w u × SpellFields gs (said ss u)
 values-at [] [] [] w e h = (tt, tt, tt)

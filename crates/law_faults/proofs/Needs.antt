@@ -6,6 +6,7 @@ use Prim.Native.Nat.{ℕ}
 use lib.Dec.{T}
 use Rattle.terms.specs.Ascii.{Bytes}
 use Rattle.terms.specs.Words.{Each, Among}
+use Rattle.grammar.specs.Editions.{Edition}
 use Rattle.grammar.specs.Language.{Lang, S, say}
 use Rattle.grammar.specs.Machine.{Machine, Place, step}
 use Rattle.grammar.proofs.Keeping.{GoodNext}
@@ -14,7 +15,7 @@ use Rattle.text.specs.Judge.{Vals, Lexis}
 use Rattle.text.proofs.TextReading.{File}
 use Rattle.law.specs.Network.{Line, numbers, Rules}
 use Rattle.law.specs.Faults.{options}
-use Rattle.law_spelling.specs.LineOf.{law-line}
+use Rattle.law_spelling.specs.LineOf.{AllOf, law-line}
 use Rattle.law_spelling.proofs.Lines.{Begins}
 use Rattle.law_faults.proofs.Sorts.{law-said}
 use Rattle.law_faults.proofs.Moved.{Alike}
@@ -28,13 +29,15 @@ Listed (some w) = Among w options
 abbrev pub Values : {L : Lang} (A : Machine L) → A .Base → Type 0
 Values {L} A b = Each (λ o. (v : L .Pay (o .on)) × T (o .test v)) (A .opts b)
 
--- Said: how statements spell; Spells: how lines do, by these rules
-pub record Needs (rules : Rules) {L : Lang} (A : Machine L) (X : Lexis L) (line-of : (k : L .Kind) → L .Pay k → List Old.Said) {Net : Type 0} (Said : Net → List (S L) → Type 0) (Spells : Rules → Net → List Line → Type 0) (first : A .Base) : Type 1 where
+-- ed: the edition; Said: how statements spell; Spells: how lines do, by these rules
+pub record Needs (ed : Edition) (rules : Rules) {L : Lang} (A : Machine L) (X : Lexis L) (line-of : (k : L .Kind) → L .Pay k → List Old.Said) {Net : Type 0} (Said : Net → List (S L) → Type 0) (Spells : Rules → Net → List Line → Type 0) (first : A .Base) : Type 1 where
   pub file : File A X line-of Said first
   -- statements and lines spell the same, and a line is one statement's
   pub to : (n : Net) (l : List (S L)) → Said n l → Spells rules n (map (law-line line-of) l)
   pub back : (n : Net) (lines : List Line) → Spells rules n lines → (l : List (S L)) × (lines ≡ map (law-line line-of) l) × Said n l
   pub one : (s t : S L) → law-line line-of s ≡ law-line line-of t → s ≡ t
+  -- boundaries are of the edition
+  pub all : AllOf ed line-of
   pub begins : (k : L .Kind) (v : L .Pay k) → Begins (line-of k v)
   -- where an option may stand, some value of it is permitted
   pub values-first : Values A first

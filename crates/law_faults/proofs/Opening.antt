@@ -13,6 +13,7 @@ use Rattle.line.specs.Content.{Field}
 use Rattle.word.specs.Keywords.{BeginsWithDigit}
 use Rattle.word.specs.Number.{digit-first}
 use Rattle.word.proofs.Digit.{digit-only, digit-all}
+use Rattle.grammar.specs.Editions.{Edition}
 use Rattle.grammar.specs.Language.{Lang, S, say}
 use Rattle.grammar.specs.Machine.{judge, next, Opt, good, optAt, take, Machine, over, inside, Place, enter, step}
 use Rattle.grammar.specs.Stands.{given, asDue, ofRow, stands}
@@ -83,7 +84,7 @@ module _ (L : Lang) where
           let x = ih e in
           (x .0, f ∷ x .1, rw (none-of L (o .on) (say L k (x .0)) n, x .2))
 
-module _ {rules : Rules} {L : Lang} (A : Machine L) (X : Lexis L) (line-of : (k : L .Kind) → L .Pay k → List Old.Said) {Net : Type 0} (Said : Net → List (S L) → Type 0) (Spells : Rules → Net → List Line → Type 0) (first : A .Base) (N : Needs rules A X line-of Said Spells first) where
+module _ {ed : Edition} {rules : Rules} {L : Lang} (A : Machine L) (X : Lexis L) (line-of : (k : L .Kind) → L .Pay k → List Old.Said) {Net : Type 0} (Said : Net → List (S L) → Type 0) (Spells : Rules → Net → List Line → Type 0) (first : A .Base) (N : Needs ed rules A X line-of Said Spells first) where
   open Lang L using (Kind, Pay, disc)
 
   abbrev W : Lawful A X line-of

@@ -4,6 +4,7 @@ use mathlib.Core.List.{List, [], _∷_, _++_, map, map-append, head-eq-of-cons-e
 use mathlib.Core.Logic.{_⊎_, inl, inr}
 use Prim.Native.Nat.{ℕ}
 use native.Mathlib.Omega.{arith}
+use Rattle.grammar.specs.Editions.{Edition}
 use Rattle.grammar.specs.Language.{Lang, Stmt, S}
 use Rattle.grammar.specs.Machine.{Out, next, refuse, Machine, lenient, over, andThen, Place, at, step, run}
 use Rattle.grammar.proofs.MachineLaws.{Goes-on, refused, run-nil, run-append}
@@ -90,7 +91,7 @@ module _ {L : Lang} (A : Machine L) where
   pub one-place : {o : Out (Place A)} {p q : Place A} → o ≡ next p → o ≡ next q → p ≡ q
   one-place {o} {p} {q} e f = let h : next p ≡ next q = sym e ∙ f in cc
 
-module _ {rules : Rules} {L : Lang} (A : Machine L) (X : Lexis L) (line-of : (k : L .Kind) → L .Pay k → List Old.Said) {Net : Type 0} (Said : Net → List (S L) → Type 0) (Spells : Rules → Net → List Line → Type 0) (first : A .Base) (N : Needs rules A X line-of Said Spells first) where
+module _ {ed : Edition} {rules : Rules} {L : Lang} (A : Machine L) (X : Lexis L) (line-of : (k : L .Kind) → L .Pay k → List Old.Said) {Net : Type 0} (Said : Net → List (S L) → Type 0) (Spells : Rules → Net → List Line → Type 0) (first : A .Base) (N : Needs ed rules A X line-of Said Spells first) where
   -- statements that lead to a place
   abbrev pub Came : List (S L) → Place A → Type 0
   Came said p = run A (at A first) said ≡ next p

@@ -87,7 +87,7 @@ of-sort a-triple v x e =
     let l = three (i .0) (i .2) in
     (record { x = l .0; y = l .1; z = l .2 }, i .1 ∙ ap numbers (l .3))
 of-sort a-coordinate v x e = is-coordinate x e
-of-sort a-boundary v x e = is-boundary x e
+of-sort (a-boundary d) v x e = is-boundary x e
 
 one-sort : (s : Judge.Sort) (u v : Val s) → sort (said-of (says s u)) ≡ sort (said-of (says s v))
 one-sort a-name u v = refl
@@ -95,7 +95,7 @@ one-sort an-integer u v = refl
 one-sort a-pair u v = refl
 one-sort a-triple u v = refl
 one-sort a-coordinate u v = refl
-one-sort a-boundary u v = refl
+one-sort (a-boundary d) u v = refl
 
 -- ## Values, one for one
 abbrev pub law-said : (ss : List Judge.Sort) → Vals ss → Line

@@ -9,6 +9,7 @@ use Rattle.terms.specs.Ascii.{Bytes}
 use Rattle.terms.specs.Words.{pick}
 use Rattle.line.specs.Content.{Field}
 use Rattle.word.specs.Number.{digit-first}
+use Rattle.grammar.specs.Editions.{Edition, law-of}
 use Rattle.grammar.specs.Language.{Lang, S, say}
 use Rattle.grammar.specs.Machine.{Out, next, refuse, Machine, over, inside, Place, at, step}
 use Rattle.grammar.specs.Machine as Machine
@@ -18,7 +19,7 @@ use Rattle.grammar.proofs.StandLaws.{asked, stands-lenient, stands-all, lenient
 use Rattle.text.specs.Said as Said
 use Rattle.text.specs.Judge.{Lexis, numbered, kindAt}
 use Rattle.text.specs.Faults.{Fielded, MayStand, Fault, form, unknown, misplaced, given-again, miscounted, misspelt, forbidden, unmarked}
-use Rattle.law.specs.Network.{Line, Rules, SpellFields, present, lenient}
+use Rattle.law.specs.Network.{Line, Rules, SpellFields, reading, lenient}
 use Rattle.law.specs.Faults as Law
 use Rattle.law_spelling.specs.LineOf.{law-line}
 use Rattle.law_spelling.proofs.Fields.{fields-to, fields-back}
@@ -39,8 +40,8 @@ module _ {L : Lang} (A : Machine L) (X : Lexis L) where
   kind-same p f = ap (λ (o : Option (L .Kind)). pick (digit-first (f .bytes)) o (X .lookup (f .bytes))) (numbered-same p)
 
 -- N: the file; M: the same where no option has to be given
-module _ {L : Lang} (A : Machine L) (X : Lexis L) (line-of : (k : L .Kind) → L .Pay k → List Said.Said) {Net : Type 0} (Said Loose : Net → List (S L) → Type 0) (Spells : Rules → Net → List Line → Type 0) (first : A .Base)
-    (N : Needs present A X line-of Said Spells first) (M : Needs (lenient present) (Machine.lenient A) X line-of Loose Spells first) where
+module _ {ed : Edition} {L : Lang} (A : Machine L) (X : Lexis L) (line-of : (k : L .Kind) → L .Pay k → List Said.Said) {Net : Type 0} (Said Loose : Net → List (S L) → Type 0) (Spells : Rules → Net → List Line → Type 0) (first : A .Base)
+    (N : Needs ed (reading (law-of ed)) A X line-of Said Spells first) (M : Needs ed (lenient (reading (law-of ed))) (Machine.lenient A) X line-of Loose Spells first) where
   open Lang L using (Kind, Pay)
 
   abbrev B : Machine L
@@ -95,10 +96,10 @@ module _ {L : Lang} (A : Machine L) (X : Lexis L) (line-of : (k : L .Kind) → L
     may-back {f = f} {k = k} h = record { fields = h .fields; is = sym (kind-same A X p f) ∙ h .is; here = sym (stands-lenient A p k) ∙ h .here }
 
     -- 2 to 9 are told as if no option had to be given
-    from-lenient : (n : ℕ) → Fault B X line-of p 0 line n → Law.Fault present Spells front line n
+    from-lenient : (n : ℕ) → Fault B X line-of p 0 line n → Law.Fault (reading (law-of ed)) Spells front line n
     from-lenient = Lenient.fault-to A X line-of Loose Spells first M said p came-lenient line
 
-    pub fault-to : (n : ℕ) → Fault A X line-of p 0 line n → Law.Fault present Spells front line n
+    pub fault-to : (n : ℕ) → Fault A X line-of p 0 line n → Law.Fault (reading (law-of ed)) Spells front line n
     fault-to n (form e h) = from-lenient n (form e h)
     fault-to n (unknown {f = f} h e) = from-lenient n (unknown h (kind-same A X p f ∙ e))
     fault-to n (misplaced {f = f} {k = k} h e s) = from-lenient n (misplaced h (kind-same A X p f ∙ e) (stands-lenient A p k ∙ s))
@@ -108,7 +109,7 @@ module _ {L : Lang} (A : Machine L) (X : Lexis L) (line-of : (k : L .Kind) → L
     fault-to n (forbidden {k = k} h v s e) = from-lenient n (forbidden (may-to h) v s (nine-to p (say L k v) e))
     fault-to n (unmarked {f = f} {fs = fs} {k = k} h v s e) =
         let x = missing-to p k v (h .here) e in
-        Law.fields (h .fields .ended) (h .fields .fields) (Law.unmarked (law (say L k v)) (fields-to (f ∷ fs) (line-of k v) s) (line-to B X line-of Loose Spells first M said p (x .0) (say L k v) came-lenient (x .1)) λ b.
+        Law.fields (h .fields .ended) (h .fields .fields) (Law.unmarked (law (say L k v)) (fields-to ed (f ∷ fs) (line-of k v) (N .all k v) s) (line-to B X line-of Loose Spells first M said p (x .0) (say L k v) came-lenient (x .1)) λ b.
         let y = line-back A X line-of Said Spells first N said p (law (say L k v)) came b in
         refused (sym e ∙ ap (step A p) (N .one (say L k v) (y .0) (y .2)) ∙ y .3))
 
@@ -123,19 +124,19 @@ module _ {L : Lang} (A : Machine L) (X : Lexis L) (line-of : (k : L .Kind) → L
     to-strict n (unmarked {k = k} h v s e) = absurd (let z = lenient-nine A p k v 25 (may-back h .here) e in omega arith)
 
     -- a line that the law lets stand but for the missing checkpoint
-    bare : (n : ℕ) → Bare Spells front line n → Fault A X line-of p 0 line n
+    bare : (n : ℕ) → Bare ed Spells front line n → Fault A X line-of p 0 line n
     bare n b =
         let x = line-back B X line-of Loose Spells first M said p (b .says) came-lenient (b .follows) in
         let s = x .0 in
-        let spelled = fields-back (b .f ∷ b .fs) (line-of (s .kind) (s .val)) (subst (SpellFields (b .f ∷ b .fs)) (x .2) (b .spelled)) in
+        let spelled = fields-back ed (b .f ∷ b .fs) (line-of (s .kind) (s .val)) (N .all (s .kind) (s .val)) (subst (SpellFields (law-of ed) (b .f ∷ b .fs)) (x .2) (b .spelled)) in
         let here = stands-all B p (s .kind) (s .val) (x .1) (x .3) in
         let is = opens-kind B X line-of Loose Spells first M p (b .f) (s .kind) (s .val) here (spelled-opens B X line-of Loose Spells first M (b .f) (b .fs) (s .kind) (s .val) spelled) in
-        let e = missing-back p (x .1) s (x .3) (λ m t. b .unmarked (subst (λ (l : Line). Law.Begins present Spells (front ++ (l ∷ []))) (sym (x .2)) (line-to A X line-of Said Spells first N said p m s came t))) in
+        let e = missing-back p (x .1) s (x .3) (λ m t. b .unmarked (subst (λ (l : Line). Law.Begins (reading (law-of ed)) Spells (front ++ (l ∷ []))) (sym (x .2)) (line-to A X line-of Said Spells first N said p m s came t))) in
         subst (Fault A X line-of p 0 line) (sym (b .is)) (unmarked (may-back (record { fields = b .fielded; is = is; here = here })) (s .val) spelled e)
 
-    pub fault-back : (n : ℕ) → Law.Fault present Spells front line n → Fault A X line-of p 0 line n
+    pub fault-back : (n : ℕ) → Law.Fault (reading (law-of ed)) Spells front line n → Fault A X line-of p 0 line n
     fault-back n h = go (Lenient.fault-back A X line-of Loose Spells first M said p came-lenient line n h)
       where
-        go : Fault B X line-of p 0 line n ⊎ Bare Spells front line n → Fault A X line-of p 0 line n
+        go : Fault B X line-of p 0 line n ⊎ Bare ed Spells front line n → Fault A X line-of p 0 line n
         go (inl f) = to-strict n f
         go (inr b) = bare n b

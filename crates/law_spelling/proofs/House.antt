@@ -2,6 +2,7 @@
 use mathlib.Core.Path.{_≡_, refl, sym, ap, ap₂, subst, _∙_}
 use mathlib.Core.List.{List, [], _∷_, _++_, map, append-nil}
 use Prim.Native.Nat.{ℕ, suc, _≤_}
+use native.Mathlib.Omega.{arith}
 use lib.ListN.{length}
 use Rattle.terms.specs.Words.{Each, perhaps, InTurn, nothing, then}
 use Rattle.line.specs.Content.{Field}
@@ -9,13 +10,14 @@ use Rattle.law.specs.Network.{Line, Lane, Segment, Perimeter, Spot, Zone, Netwo
 use Rattle.law.specs.Short.{parted, counted, named, bare}
 use Rattle.law.specs.House.{AsListed, house}
 use Rattle.law.specs.Network as Law
+use Rattle.grammar.specs.Editions.{march}
 use Rattle.grammar.specs.Statements.{Statement, say, numbered, point-id, format-version, creation-date, segment-name, end-segment, lane-width, left-boundary, right-boundary, checkpoint, stop, exit, end-lane, zone-name, end-zone, end-perimeter, spot-width, end-spot, end-file}
 use Rattle.grammar.specs.MissionStatements as M
 use Rattle.grammar.specs.Network.{checkpoint-of, exit-of}
 use Rattle.grammar.specs.HouseOrder.{GoodSegment, GoodZone, GoodNetwork, in-turn, house-lane, house-segment, house-perimeter, house-spot, house-zone, house-network, house-mission}
 use Rattle.grammar.specs.HouseOrder as H
 use Rattle.grammar.proofs.Written.{each-both}
-use Rattle.text.specs.RndfLines.{rndf-line}
+use Rattle.text.specs.RndfLines.{rndf-line-in}
 use Rattle.text.specs.MdfLines.{mdf-line}
 use Rattle.law_spelling.specs.LineOf.{rndf-law-line, mdf-law-line}
 use Rattle.grammar.specs.Network.{GoodLane, GoodPerimeter}
@@ -60,7 +62,7 @@ last f l = map-map f ll l ∙ sym (append-nil (map (λ a. ll (f a)) l))
 
 -- ## A lane
 lane-options : (m n : ℕ) (a : Lane) → map ll (H.lane-options m n a) ≡ listed (Law.lane-options m n a)
-unfolding H.lane-options rndf-line
+unfolding H.lane-options rndf-line-in
 lane-options m n a =
     let exits : List (Statement Field) = map (λ e. say exit (exit-of m n e)) (a .exits) in
     let stops : List (Statement Field) = map (λ i. say stop (point-id m n i)) (a .stops) in
@@ -76,8 +78,8 @@ lane-options m n a =
     last (λ e. say exit (exit-of m n e)) (a .exits))))))
 
 lane-lines : (m n : ℕ) (a : Lane) → map ll (house-lane m n a) ≡ parted "lane" m n ∷ counted "num_waypoints" (length (a .points)) ∷ listed (Law.lane-options m n a) ++ (points m n 1 (a .points) ++ (bare "end_lane" ∷ []))
-unfolding house-lane rndf-line
-lane-lines m n a = cons refl (cons refl (part-same ll (H.lane-options m n a) (numbered m n 1 (a .points)) (say end-lane tt ∷ []) (lane-options m n a) (points-same m n 1 (a .points))))
+unfolding house-lane rndf-line-in
+lane-lines m n a = cons refl (cons refl (part-same ll (H.lane-options m n a) (numbered m n 1 (a .points)) (say end-lane tt ∷ []) (lane-options m n a) (points-same march m n 1 (a .points))))
 
 lane-only : (m n : ℕ) (a : Lane) (l : List Line) → Law.SpellsLane house m n a l → l ≡ map ll (house-lane m n a)
 lane-only m n a l h = h .spelled ∙ ap (λ (o : List Line). parted "lane" m n ∷ counted "num_waypoints" (length (a .points)) ∷ o ++ (points m n 1 (a .points) ++ (bare "end_lane" ∷ []))) (only-listed (Law.lane-options m n a) (h .options) (h .given)) ∙ sym (lane-lines m n a)
@@ -87,7 +89,7 @@ lane-house m n a g = record { options = listed (Law.lane-options m n a); given =
 
 -- ## A segment
 segment-lines : (m : ℕ) (a : Segment Field) → map ll (house-segment m a) ≡ counted "segment" m ∷ counted "num_lanes" (length (a .lanes)) ∷ map (named "segment_name") (perhaps (a .name)) ++ (map ll (in-turn (house-lane m) 1 (a .lanes)) ++ (bare "end_segment" ∷ []))
-unfolding house-segment H.segment-options rndf-line
+unfolding house-segment H.segment-options rndf-line-in
 segment-lines m a = cons refl (cons refl (part-same ll (H.segment-options a) (in-turn (house-lane m) 1 (a .lanes)) (say end-segment tt ∷ []) (map-map (say segment-name) ll (perhaps (a .name))) refl))
 
 segment-only : (m : ℕ) (a : Segment Field) (l : List Line) → Law.SpellsSegment house m a l → l ≡ map ll (house-segment m a)
@@ -98,8 +100,8 @@ segment-house m a g = record { lanes = map ll (in-turn (house-lane m) 1 (a .lane
 
 -- ## A perimeter
 perimeter-lines : (m : ℕ) (a : Perimeter) → map ll (house-perimeter m a) ≡ parted "perimeter" m 0 ∷ counted "num_perimeterpoints" (length (a .points)) ∷ map (exit-line m 0) (a .exits) ++ (points m 0 1 (a .points) ++ (bare "end_perimeter" ∷ []))
-unfolding house-perimeter H.perimeter-options rndf-line
-perimeter-lines m a = cons refl (cons refl (part-same ll (H.perimeter-options m a) (numbered m 0 1 (a .points)) (say end-perimeter tt ∷ []) (map-map (λ e. say exit (exit-of m 0 e)) ll (a .exits)) (points-same m 0 1 (a .points))))
+unfolding house-perimeter H.perimeter-options rndf-line-in
+perimeter-lines m a = cons refl (cons refl (part-same ll (H.perimeter-options m a) (numbered m 0 1 (a .points)) (say end-perimeter tt ∷ []) (map-map (λ e. say exit (exit-of m 0 e)) ll (a .exits)) (points-same march m 0 1 (a .points))))
 
 perimeter-only : (m : ℕ) (a : Perimeter) (l : List Line) → Law.SpellsPerimeter house m a l → l ≡ map ll (house-perimeter m a)
 perimeter-only m a l h = h .spelled ∙ sym (perimeter-lines m a)
@@ -109,12 +111,12 @@ perimeter-house m a g = record { good = perimeter-good-to a g; spelled = perimet
 
 -- ## A spot
 spot-options : (m n : ℕ) (a : Spot) → map ll (H.spot-options m n a) ≡ listed (Law.spot-options m n a)
-unfolding H.spot-options rndf-line
+unfolding H.spot-options rndf-line-in
 spot-options m n a = behind ll (map (say spot-width) (perhaps (a .width))) (map (λ c. say checkpoint (checkpoint-of m n c)) (perhaps (a .checkpoint))) (map-map (say spot-width) ll (perhaps (a .width))) (last (λ c. say checkpoint (checkpoint-of m n c)) (perhaps (a .checkpoint)))
 
 spot-lines : (m n : ℕ) (a : Spot) → map ll (house-spot m n a) ≡ parted "spot" m n ∷ listed (Law.spot-options m n a) ++ (points m n 1 (a .first ∷ a .second ∷ []) ++ (bare "end_spot" ∷ []))
-unfolding house-spot numbered rndf-line
-spot-lines m n a = cons refl (part-same ll (H.spot-options m n a) (numbered m n 1 (a .first ∷ a .second ∷ [])) (say end-spot tt ∷ []) (spot-options m n a) (points-same m n 1 (a .first ∷ a .second ∷ [])))
+unfolding house-spot numbered rndf-line-in
+spot-lines m n a = cons refl (part-same ll (H.spot-options m n a) (numbered m n 1 (a .first ∷ a .second ∷ [])) (say end-spot tt ∷ []) (spot-options m n a) (points-same march m n 1 (a .first ∷ a .second ∷ [])))
 
 spot-only : (m n : ℕ) (a : Spot) (l : List Line) → Law.SpellsSpot house m n a l → l ≡ map ll (house-spot m n a)
 spot-only m n a l h = h .spelled ∙ ap (λ (o : List Line). parted "spot" m n ∷ o ++ (points m n 1 (a .first ∷ a .second ∷ []) ++ (bare "end_spot" ∷ []))) (only-listed (Law.spot-options m n a) (h .options) (h .given)) ∙ sym (spot-lines m n a)
@@ -125,7 +127,7 @@ spot-house m n a g = record { options = listed (Law.spot-options m n a); given =
 -- ## A zone
 zone-lines : (m : ℕ) (a : Zone Field)
     → map ll (house-zone m a) ≡ counted "zone" m ∷ counted "num_spots" (length (a .spots)) ∷ map (named "zone_name") (perhaps (a .name)) ++ (map ll (house-perimeter m (a .border)) ++ (map ll (in-turn (house-spot m) 1 (a .spots)) ++ (bare "end_zone" ∷ [])))
-unfolding house-zone H.zone-options rndf-line
+unfolding house-zone H.zone-options rndf-line-in
 zone-lines m a = cons refl (cons refl (parts-same ll (H.zone-options a) (house-perimeter m (a .border)) (in-turn (house-spot m) 1 (a .spots)) (say end-zone tt ∷ []) (map-map (say zone-name) ll (perhaps (a .name))) refl refl))
 
 zone-only : (m : ℕ) (a : Zone Field) (l : List Line) → Law.SpellsZone house m a l → l ≡ map ll (house-zone m a)
@@ -138,7 +140,7 @@ zone-house : (m : ℕ) (a : Zone Field) → GoodZone a → Law.SpellsZone house 
 zone-house m a g = record {
   border = map ll (house-perimeter m (a .border));
   spots = map ll (in-turn (house-spot m) 1 (a .spots));
-  count = g .count;
+  count = record { low = omega arith; high = g .count };
   bordered = perimeter-house m (a .border) (g .border);
   each = turn-house ll (Law.SpellsSpot house m) (house-spot m) (λ s. GoodSpot s × (1 ≤ length (perhaps (s .checkpoint)))) (spot-house m) 1 (a .spots) (each-both GoodSpot (λ s. 1 ≤ length (perhaps (s .checkpoint))) (a .spots) (g .spots) (g .marked));
   spelled = zone-lines m a;
@@ -146,7 +148,7 @@ zone-house m a g = record {
 
 -- ## The file
 file-options : (a : Network Field) → map ll (H.file-options a) ≡ listed (Law.file-options (a .version) (a .date))
-unfolding H.file-options rndf-line
+unfolding H.file-options rndf-line-in
 file-options a = behind ll (map (say format-version) (perhaps (a .version))) (map (say creation-date) (perhaps (a .date))) (map-map (say format-version) ll (perhaps (a .version))) (last (say creation-date) (perhaps (a .date)))
 
 abbrev file-lines : Network Field → (options segments zones : List Line) → List Line
@@ -159,7 +161,7 @@ abbrev house-zones : Network Field → List Line
 house-zones a = map ll (in-turn house-zone (suc (length (a .segments))) (a .zones))
 
 network-lines : (a : Network Field) → map ll (house-network a) ≡ file-lines a (listed (Law.file-options (a .version) (a .date))) (house-segments a) (house-zones a)
-unfolding house-network rndf-line
+unfolding house-network rndf-line-in
 network-lines a = cons refl (cons refl (cons refl (parts-same ll (H.file-options a) (in-turn house-segment 1 (a .segments)) (in-turn house-zone (suc (length (a .segments))) (a .zones)) (say end-file tt ∷ []) (file-options a) refl refl)))
 
 pub network-house-only : (n : Network Field) (l : List Line) → Law.SpellsNetwork house n l → l ≡ map rndf-law-line (house-network n)
@@ -188,7 +190,7 @@ network-house-good a l h = record {
   some-segment = h .some-segment;
   count = h .count;
   segments = turn-good (Law.SpellsSegment house) GoodSegment (λ i a u s. record { count = s .count; lanes = turn-good (Law.SpellsLane house i) GoodLane (λ j a u s. lane-good-back a (s .good)) 1 (a .lanes) (s .lanes) (s .each) }) 1 (a .segments) (h .segments) (h .each-segment);
-  zones = turn-good (Law.SpellsZone house) GoodZone (λ i a u s. record { count = s .count; border = perimeter-good-back (a .border) (s .bordered .good); spots = turn-good (Law.SpellsSpot house i) GoodSpot (λ j a u s. s .good) 1 (a .spots) (s .spots) (s .each); marked = turn-good (Law.SpellsSpot house i) (λ s. 1 ≤ length (perhaps (s .checkpoint))) (λ j a u s. s .marked) 1 (a .spots) (s .spots) (s .each) }) (suc (length (a .segments))) (a .zones) (h .zones) (h .each-zone);
+  zones = turn-good (Law.SpellsZone house) GoodZone (λ i a u s. record { count = s .count .high; border = perimeter-good-back (a .border) (s .bordered .good); spots = turn-good (Law.SpellsSpot house i) GoodSpot (λ j a u s. s .good) 1 (a .spots) (s .spots) (s .each); marked = turn-good (Law.SpellsSpot house i) (λ s. 1 ≤ length (perhaps (s .checkpoint))) (λ j a u s. s .marked) 1 (a .spots) (s .spots) (s .each) }) (suc (length (a .segments))) (a .zones) (h .zones) (h .each-zone);
 }
 
 -- ## The mission

@@ -4,9 +4,10 @@ use mathlib.Core.List.{List, [], _∷_, _++_, map}
 use lib.ListN.{length}
 use Rattle.terms.specs.Words.{perhaps}
 use Rattle.line.specs.Content.{Field}
-use Rattle.law.specs.Network.{Line, Mission, AnyOrder, present}
+use Rattle.law.specs.Network.{Line, Mission, AnyOrder, reading, present}
 use Rattle.law.specs.Network as Law
 use Rattle.law.specs.Short as Short
+use Rattle.grammar.specs.Editions.{Edition, march, law-of}
 use Rattle.grammar.specs.MissionStatements.{Statement, Kind, orders, say, MDF-name, RNDF, format-version, creation-date, checkpoints, num-checkpoints, end-checkpoints, speed-limits, num-speed-limits, end-speed-limits, end-file, goal, limit}
 use Rattle.grammar.specs.Mission.{SpellsMission}
 use Rattle.text.specs.MdfLines.{mdf-line}
@@ -50,8 +51,8 @@ mission-same a os l e =
     let goals = behind ll (map (say goal) (a .goals)) (said-limits a) (map-map (say goal) ll (a .goals)) (cons refl (cons refl (cons refl limits))) in
     cons refl (cons refl (behind ll os (said-goals a) e (cons refl (cons refl goals))))
 
-pub mission-to : (n : Mission Field) (said : List (Statement Field)) → SpellsMission n said → Law.SpellsMission present n (map mdf-law-line said)
-mission-to a l h =
+pub mission-to-in : (e : Edition) (n : Mission Field) (said : List (Statement Field)) → SpellsMission n said → Law.SpellsMission (reading (law-of e)) n (map mdf-law-line said)
+mission-to-in e a l h =
     let g = h .given in
     record {
       options = map ll (h .options);
@@ -60,7 +61,14 @@ mission-to a l h =
       spelled = ap (map ll) (h .spelled) ∙ mission-same a (h .options) (map ll (h .options)) refl;
     }
 
-pub mission-back : (n : Mission Field) (l : List Line) → Law.SpellsMission present n l → (said : List (Statement Field)) × (l ≡ map mdf-law-line said) × SpellsMission n said
-mission-back a l h =
+pub mission-back-in : (e : Edition) (n : Mission Field) (l : List Line) → Law.SpellsMission (reading (law-of e)) n l → (said : List (Statement Field)) × (l ≡ map mdf-law-line said) × SpellsMission n said
+mission-back-in e a l h =
     let x = options-back (orders Field) ll file-kinds (file-values a) (Law.file-options (a .version) (a .date)) (h .options) tt (file-same a) (h .given) in
     (said-with a (x .0), h .spelled ∙ sym (mission-same a (x .0) (h .options) (sym (x .1))), record { options = x .0; given = record { version = x .2 .0; date = x .2 .1 .0; no-other = x .3 }; good = h .good; spelled = refl })
+
+-- in the present edition
+pub mission-to : (n : Mission Field) (said : List (Statement Field)) → SpellsMission n said → Law.SpellsMission present n (map mdf-law-line said)
+mission-to = mission-to-in march
+
+pub mission-back : (n : Mission Field) (l : List Line) → Law.SpellsMission present n l → (said : List (Statement Field)) × (l ≡ map mdf-law-line said) × SpellsMission n said
+mission-back = mission-back-in march

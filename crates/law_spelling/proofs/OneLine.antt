@@ -2,6 +2,7 @@
 use mathlib.Core.Path.{_≡_, refl, sym, ap, subst, _∙_, pathJ}
 use mathlib.Core.List.{List, [], _∷_, _++_, map, head-eq-of-cons-eq, tail-eq-of-cons-eq}
 use mathlib.Core.Option.{Option, none, some, Option·some-injective}
+use mathlib.Core.Bool.{true}
 use Prim.Native.Nat.{ℕ, zero, suc}
 use lib.ListN.{length}
 use Rattle.terms.specs.Ascii.{Bytes}
@@ -13,19 +14,21 @@ use Rattle.grammar.specs.Machine.{Machine}
 use Rattle.grammar.specs.Statements as Rndf
 use Rattle.grammar.specs.Statements.{RNDF-name, num-segments, num-zones, format-version, creation-date, segment, num-lanes, segment-name, end-segment, lane, num-waypoints, lane-width, left-boundary, right-boundary, checkpoint, stop, exit, end-lane, zone, num-spots, zone-name, end-zone, perimeter, num-perimeterpoints, end-perimeter, spot, spot-width, end-spot, end-file, point}
 use Rattle.grammar.specs.MissionStatements as Mdf
-use Rattle.grammar.specs.Places.{rndf}
+use Rattle.grammar.specs.Editions.{Edition, march}
+use Rattle.grammar.specs.Network.{under}
+use Rattle.grammar.specs.Places.{rndf-by}
 use Rattle.grammar.specs.MissionPlaces.{mdf}
 use Rattle.text.specs.Said as Old
 use Rattle.text.specs.Judge.{Sort, a-name, an-integer, a-pair, a-triple, a-coordinate, a-boundary, Val, Vals, Lexis}
-use Rattle.text.specs.RndfLines.{rndf-line}
+use Rattle.text.specs.RndfLines.{rndf-line-in, rndf-line}
 use Rattle.text.specs.MdfLines.{mdf-line}
-use Rattle.text.specs.RndfWords.{rndf-lexis}
+use Rattle.text.specs.RndfWords.{rndf-lexis-in}
 use Rattle.text.specs.MdfWords.{mdf-lexis}
 use Rattle.text.proofs.FieldReading.{says, said}
 use Rattle.text.proofs.Telling.{Lawful, in-front, line-is}
 use Rattle.text.proofs.RndfText.{rndf-lawful}
 use Rattle.text.proofs.MdfText.{mdf-lawful}
-use Rattle.law_spelling.specs.LineOf.{said-of, law-line, rndf-law-line, mdf-law-line}
+use Rattle.law_spelling.specs.LineOf.{said-of, AllOf, law-line, rndf-law-line-in, rndf-law-line, mdf-law-line}
 use Rattle.law_spelling.proofs.Lines.{Begins, nothing-else}
 
 -- ## Values
@@ -42,7 +45,7 @@ value-one a-triple v w e =
     let l : v .z ≡ w .z = cc in
     λ k. record { x = i k; y = j k; z = l k }
 value-one a-coordinate v w e = cc
-value-one a-boundary v w e = cc
+value-one (a-boundary d) v w e = cc
 
 values-one : (ss : List Sort) (v w : Vals ss) → map said-of (said ss v) ≡ map said-of (said ss w) → v ≡ w
 values-one [] v w e = refl
@@ -65,7 +68,7 @@ no-word an-integer v h = h
 no-word a-pair v h = h
 no-word a-triple v h = h
 no-word a-coordinate v h = h
-no-word a-boundary v h = h
+no-word (a-boundary d) v h = h
 
 not-values : (w : Bytes) (l : List Said) (ss : List Sort) (v : Vals ss) → word w ∷ l ≡ map said-of (said ss v) → ⊥
 not-values w l [] v e = nothing-else (word w) l (sym e)
@@ -136,46 +139,94 @@ module _ {L : Lang} (A : Machine L) (X : Lexis L) (line-of : (k : L .Kind) → L
         go (some w) q = tt
 
 -- ## The RNDF: only a point has no keyword
-rndf-plain : Plain (rndf Field) rndf-lexis rndf-line rndf-lawful (λ n. point)
-rndf-plain RNDF-name e = nothing (sym e)
-rndf-plain num-segments e = nothing (sym e)
-rndf-plain num-zones e = nothing (sym e)
-rndf-plain format-version e = nothing (sym e)
-rndf-plain creation-date e = nothing (sym e)
-rndf-plain segment e = nothing (sym e)
-rndf-plain num-lanes e = nothing (sym e)
-rndf-plain segment-name e = nothing (sym e)
-rndf-plain end-segment e = nothing (sym e)
-rndf-plain lane e = nothing (sym e)
-rndf-plain num-waypoints e = nothing (sym e)
-rndf-plain lane-width e = nothing (sym e)
-rndf-plain left-boundary e = nothing (sym e)
-rndf-plain right-boundary e = nothing (sym e)
-rndf-plain checkpoint e = nothing (sym e)
-rndf-plain stop e = nothing (sym e)
-rndf-plain exit e = nothing (sym e)
-rndf-plain end-lane e = nothing (sym e)
-rndf-plain zone e = nothing (sym e)
-rndf-plain num-spots e = nothing (sym e)
-rndf-plain zone-name e = nothing (sym e)
-rndf-plain end-zone e = nothing (sym e)
-rndf-plain perimeter e = nothing (sym e)
-rndf-plain num-perimeterpoints e = nothing (sym e)
-rndf-plain end-perimeter e = nothing (sym e)
-rndf-plain spot e = nothing (sym e)
-rndf-plain spot-width e = nothing (sym e)
-rndf-plain end-spot e = nothing (sym e)
-rndf-plain end-file e = nothing (sym e)
-rndf-plain point e = (refl, tt)
+rndf-plain : (d : Edition) → Plain (rndf-by Field (under d true)) (rndf-lexis-in d) (rndf-line-in d) (rndf-lawful d) (λ n. point)
+rndf-plain d RNDF-name e = nothing (sym e)
+rndf-plain d num-segments e = nothing (sym e)
+rndf-plain d num-zones e = nothing (sym e)
+rndf-plain d format-version e = nothing (sym e)
+rndf-plain d creation-date e = nothing (sym e)
+rndf-plain d segment e = nothing (sym e)
+rndf-plain d num-lanes e = nothing (sym e)
+rndf-plain d segment-name e = nothing (sym e)
+rndf-plain d end-segment e = nothing (sym e)
+rndf-plain d lane e = nothing (sym e)
+rndf-plain d num-waypoints e = nothing (sym e)
+rndf-plain d lane-width e = nothing (sym e)
+rndf-plain d left-boundary e = nothing (sym e)
+rndf-plain d right-boundary e = nothing (sym e)
+rndf-plain d checkpoint e = nothing (sym e)
+rndf-plain d stop e = nothing (sym e)
+rndf-plain d exit e = nothing (sym e)
+rndf-plain d end-lane e = nothing (sym e)
+rndf-plain d zone e = nothing (sym e)
+rndf-plain d num-spots e = nothing (sym e)
+rndf-plain d zone-name e = nothing (sym e)
+rndf-plain d end-zone e = nothing (sym e)
+rndf-plain d perimeter e = nothing (sym e)
+rndf-plain d num-perimeterpoints e = nothing (sym e)
+rndf-plain d end-perimeter e = nothing (sym e)
+rndf-plain d spot e = nothing (sym e)
+rndf-plain d spot-width e = nothing (sym e)
+rndf-plain d end-spot e = nothing (sym e)
+rndf-plain d end-file e = nothing (sym e)
+rndf-plain d point e = (refl, tt)
 
+module _ (d : Edition) where
+  abbrev places : Machine (Rndf.lines Field)
+  places = rndf-by Field (under d true)
+
+  pub rndf-line-one-in : (s t : Rndf.Statement Field) → rndf-law-line-in d s ≡ rndf-law-line-in d t → s ≡ t
+  rndf-line-one-in = line-one places (rndf-lexis-in d) (rndf-line-in d) (rndf-lawful d) (λ n. point) (rndf-plain d)
+
+  pub rndf-said-one-in : (a b : List (Rndf.Statement Field)) → map (rndf-law-line-in d) a ≡ map (rndf-law-line-in d) b → a ≡ b
+  rndf-said-one-in = said-one places (rndf-lexis-in d) (rndf-line-in d) (rndf-lawful d) (λ n. point) (rndf-plain d)
+
+  pub rndf-begins-in : (k : Rndf.Kind) (v : Rndf.Says Field k) → Begins (rndf-line-in d k v)
+  rndf-begins-in = line-begins places (rndf-lexis-in d) (rndf-line-in d) (rndf-lawful d) (λ n. point) (rndf-plain d)
+
+  -- the boundaries are those of the edition
+  pub rndf-all : AllOf d (rndf-line-in d)
+  unfolding rndf-line-in
+  rndf-all RNDF-name v = (tt, (tt, tt))
+  rndf-all num-segments v = (tt, (tt, tt))
+  rndf-all num-zones v = (tt, (tt, tt))
+  rndf-all format-version v = (tt, (tt, tt))
+  rndf-all creation-date v = (tt, (tt, tt))
+  rndf-all segment v = (tt, (tt, tt))
+  rndf-all num-lanes v = (tt, (tt, tt))
+  rndf-all segment-name v = (tt, (tt, tt))
+  rndf-all end-segment v = (tt, tt)
+  rndf-all lane v = (tt, (tt, tt))
+  rndf-all num-waypoints v = (tt, (tt, tt))
+  rndf-all lane-width v = (tt, (tt, tt))
+  rndf-all left-boundary v = (tt, (refl, tt))
+  rndf-all right-boundary v = (tt, (refl, tt))
+  rndf-all checkpoint v = (tt, (tt, (tt, tt)))
+  rndf-all stop v = (tt, (tt, tt))
+  rndf-all exit v = (tt, (tt, (tt, tt)))
+  rndf-all end-lane v = (tt, tt)
+  rndf-all zone v = (tt, (tt, tt))
+  rndf-all num-spots v = (tt, (tt, tt))
+  rndf-all zone-name v = (tt, (tt, tt))
+  rndf-all end-zone v = (tt, tt)
+  rndf-all perimeter v = (tt, (tt, tt))
+  rndf-all num-perimeterpoints v = (tt, (tt, tt))
+  rndf-all end-perimeter v = (tt, tt)
+  rndf-all spot v = (tt, (tt, tt))
+  rndf-all spot-width v = (tt, (tt, tt))
+  rndf-all end-spot v = (tt, tt)
+  rndf-all end-file v = (tt, tt)
+  rndf-all point v = (tt, (tt, (tt, tt)))
+
+-- in the present edition
 pub rndf-line-one : (s t : Rndf.Statement Field) → rndf-law-line s ≡ rndf-law-line t → s ≡ t
-rndf-line-one = line-one (rndf Field) rndf-lexis rndf-line rndf-lawful (λ n. point) rndf-plain
+rndf-line-one = rndf-line-one-in march
 
 pub rndf-said-one : (a b : List (Rndf.Statement Field)) → map rndf-law-line a ≡ map rndf-law-line b → a ≡ b
-rndf-said-one = said-one (rndf Field) rndf-lexis rndf-line rndf-lawful (λ n. point) rndf-plain
+rndf-said-one = rndf-said-one-in march
 
 pub rndf-begins : (k : Rndf.Kind) (v : Rndf.Says Field k) → Begins (rndf-line k v)
-rndf-begins = line-begins (rndf Field) rndf-lexis rndf-line rndf-lawful (λ n. point) rndf-plain
+rndf-begins = rndf-begins-in march
 
 -- ## The MDF: only a goal, with one field, and a limit, with more, have none
 abbrev by-fields : ℕ → Mdf.Kind
@@ -206,3 +257,20 @@ mdf-said-one = said-one (mdf Field) mdf-lexis mdf-line mdf-lawful by-fields mdf-
 
 pub mdf-begins : (k : Mdf.Kind) (v : Mdf.Says Field k) → Begins (mdf-line k v)
 mdf-begins = line-begins (mdf Field) mdf-lexis mdf-line mdf-lawful by-fields mdf-plain
+
+-- an MDF has no boundaries
+pub mdf-all : (d : Edition) → AllOf d mdf-line
+unfolding mdf-line
+mdf-all d Mdf.MDF-name v = (tt, (tt, tt))
+mdf-all d Mdf.RNDF v = (tt, (tt, tt))
+mdf-all d Mdf.format-version v = (tt, (tt, tt))
+mdf-all d Mdf.creation-date v = (tt, (tt, tt))
+mdf-all d Mdf.checkpoints v = (tt, tt)
+mdf-all d Mdf.num-checkpoints v = (tt, (tt, tt))
+mdf-all d Mdf.end-checkpoints v = (tt, tt)
+mdf-all d Mdf.speed-limits v = (tt, tt)
+mdf-all d Mdf.num-speed-limits v = (tt, (tt, tt))
+mdf-all d Mdf.end-speed-limits v = (tt, tt)
+mdf-all d Mdf.end-file v = (tt, tt)
+mdf-all d Mdf.goal v = (tt, tt)
+mdf-all d Mdf.limit v = (tt, (tt, (tt, tt)))

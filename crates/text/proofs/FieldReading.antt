@@ -27,10 +27,11 @@ use Rattle.coordinate.proofs.Coordinates.{coordinate-right, coordinate-only}
 use Rattle.word.specs.Keywords as Word
 use Rattle.word.specs.Number.{boundary-number}
 use Rattle.word.proofs.Boundary.{boundary-only, boundary-all}
+use Rattle.grammar.specs.Editions.{Edition, march, december, has-boundary}
 use Rattle.grammar.specs.Statements.{Boundary, double-yellow, solid-yellow, solid-white, broken-white, PartId, PointId}
 use Rattle.grammar.specs.Tables.{colour}
 use Rattle.text.specs.Said.{Said, name, integer, pair, triple, coordinate, boundary, SpellsField, SpellFields}
-use Rattle.text.specs.Judge.{Sort, a-name, an-integer, a-pair, a-triple, a-coordinate, a-boundary, Val, number, pair-from, triple-from, degrees, boundary-from, read, Vals, both, readAll}
+use Rattle.text.specs.Judge.{Sort, a-name, an-integer, a-pair, a-triple, a-coordinate, a-boundary, Val, number, pair-from, triple-from, degrees, boundary-from, only-known, read, Vals, both, readAll}
 
 -- what a value of a sort says
 abbrev pub says : (s : Sort) → Val s → Said
@@ -39,7 +40,7 @@ says an-integer v = integer v
 says a-pair v = pair v
 says a-triple v = triple v
 says a-coordinate v = coordinate v
-says a-boundary v = boundary v
+says (a-boundary e) v = boundary e v
 
 -- ## Each sort
 name-read : (b : Bool) (f g : Field) → pick b (some f) none ≡ some g → (b ≡ true) × (f ≡ g)
@@ -82,6 +83,19 @@ some-colour solid-yellow = omega arith
 some-colour solid-white = omega arith
 some-colour broken-white = omega arith
 
+known-read : (e : Edition) (o : Option Boundary) (b : Boundary) → only-known e o ≡ some b → (o ≡ some b) × (has-boundary e b ≡ true)
+known-read march o b h = (h, refl)
+known-read december none b h = nothing h
+known-read december (some a) b h = go (has-boundary december a) refl h
+  where
+    go : (x : Bool) → has-boundary december a ≡ x → pick x (some a) none ≡ some b → (some a ≡ some b) × (has-boundary december b ≡ true)
+    go true q h = (h, ap (has-boundary december) (let z : b ≡ a = cc in z) ∙ q)
+    go false q h = nothing h
+
+known-back : (e : Edition) (b : Boundary) → has-boundary e b ≡ true → only-known e (some b) ≡ some b
+known-back march b h = refl
+known-back december b h = rw h
+
 pub read-right : (s : Sort) (f : Field) (v : Val s) → read s f ≡ some v → SpellsField f (says s v)
 unfolding read
 read-right a-name f v e = let x = name-read (isNameLength (length (f .bytes))) f v e in (x .1, name-right (length (f .bytes)) (x .0))
@@ -89,9 +103,10 @@ read-right an-integer f v e = integer-right (f .bytes) v (number-read (integerOf
 read-right a-pair f v e = pair-right (f .bytes) (v .m) (v .n) (pair-read (pairOf (f .bytes)) v e)
 read-right a-triple f v e = triple-right (f .bytes) (record { x = v .x; y = v .y; z = v .z }) (triple-read (tripleOf (f .bytes)) v e)
 read-right a-coordinate f v e = coordinate-right (f .bytes) v (degrees-read (coordinateOf (f .bytes)) v e)
-read-right a-boundary f v e =
-    let n = boundary-read (boundary-number (f .bytes)) v e in
-    subst (λ (n : ℕ). Word.Boundary n (f .bytes)) n (boundary-only (f .bytes) (rw n (some-colour v)))
+read-right (a-boundary d) f v e =
+    let k = known-read d (boundary-from (boundary-number (f .bytes))) v e in
+    let n = boundary-read (boundary-number (f .bytes)) v (k .0) in
+    (subst (λ (n : ℕ). Word.Boundary n (f .bytes)) n (boundary-only (f .bytes) (rw n (some-colour v))), k .1)
 
 pub read-only : (s : Sort) (f : Field) (v : Val s) → SpellsField f (says s v) → read s f ≡ some v
 unfolding read
@@ -100,7 +115,7 @@ read-only an-integer f v h = ap number (integer-only (f .bytes) v h)
 read-only a-pair f v h = ap pair-from (pair-only (f .bytes) (v .m) (v .n) h)
 read-only a-triple f v h = ap triple-from (triple-only (f .bytes) (v .x) (v .y) (v .z) h)
 read-only a-coordinate f v h = ap degrees (coordinate-only (f .bytes) v h)
-read-only a-boundary f v h = ap boundary-from (boundary-all (colour v) (f .bytes) h) ∙ boundary-back v
+read-only (a-boundary d) f v h = ap (only-known d) (ap boundary-from (boundary-all (colour v) (f .bytes) (h .0)) ∙ boundary-back v) ∙ known-back d v (h .1)
 
 -- ## All of them
 abbrev pub said : (ss : List Sort) → Vals ss → List Said

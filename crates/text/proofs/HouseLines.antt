@@ -2,6 +2,7 @@
 use mathlib.Core.Path.{_≡_, refl, sym, subst}
 use mathlib.Core.List.{List, [], _∷_, map, append-nil}
 use mathlib.Core.Option.{some}
+use mathlib.Core.Bool.{true}
 use mathlib.Core.Logic.{inl}
 use Prim.Native.Nat.{ℕ, suc, _+_, _*_, _≤_, _<_}
 use native.Mathlib.Omega.{arith}
@@ -19,6 +20,7 @@ use Rattle.coordinate.specs.House.{houseDegrees, houseCoordinate}
 use Rattle.coordinate.proofs.House.{house-coordinate-spells, house-coordinate-short, house-coordinate-bytes}
 use Rattle.word.specs.Keywords.{ShortField, boundary-of}
 use Rattle.word.proofs.Boundary.{boundary-word-field}
+use Rattle.grammar.specs.Editions.{has-boundary}
 use Rattle.grammar.specs.Statements.{Boundary, double-yellow, solid-yellow, solid-white, broken-white}
 use Rattle.grammar.specs.Tables.{colour}
 use Rattle.text.specs.Said.{Said, word, name, integer, pair, triple, coordinate, boundary, SpellsField, SpellFields}
@@ -33,7 +35,7 @@ Writable (integer n) = n ≤ 99999
 Writable (pair i) = (i .m ≤ 99999) × (i .n ≤ 99999)
 Writable (triple i) = (i .x ≤ 99999) × (i .y ≤ 99999) × (i .z ≤ 99999)
 Writable (coordinate z) = natAbs z ≤ 999999999
-Writable (boundary b) = Unit {0}
+Writable (boundary e b) = has-boundary e b ≡ true
 
 some-degrees : (m : ℕ) → 0 < length (houseDegrees m)
 unfolding houseDegrees ascii
@@ -63,7 +65,7 @@ house-is-field (integer n) h = record { some = begins-some digit (houseInteger n
 house-is-field (pair i) h = record { some = begins-some digit (housePair (i .m) (i .n)) (house-pair-first (i .m) (i .n)); allowed = numbers-field (housePair (i .m) (i .n)) (house-pair-bytes (i .m) (i .n)) }
 house-is-field (triple i) h = record { some = begins-some digit (houseTriple (i .x) (i .y) (i .z)) (house-triple-first (i .x) (i .y) (i .z)); allowed = numbers-field (houseTriple (i .x) (i .y) (i .z)) (house-triple-bytes (i .x) (i .y) (i .z)) }
 house-is-field (coordinate z) h = record { some = some-coordinate z; allowed = numbers-field (houseCoordinate z) (house-coordinate-bytes z) }
-house-is-field (boundary b) h = short-field (boundary-of (colour b)) (boundary-word-field (colour b) (colours b)) .0
+house-is-field (boundary e b) h = short-field (boundary-of (colour b)) (boundary-word-field (colour b) (colours b)) .0
 
 pub house-field-short : (s : Said) → Writable s → length (house-field s) ≤ 128
 unfolding house-field
@@ -73,7 +75,7 @@ house-field-short (integer n) h = let l = house-integer-short n h in omega arith
 house-field-short (pair i) h = let l = house-pair-short (i .m) (i .n) (h .0) (h .1) in omega arith
 house-field-short (triple i) h = let l = house-triple-short (i .x) (i .y) (i .z) (h .0) (h .1) (h .2) in omega arith
 house-field-short (coordinate z) h = let l = house-coordinate-short z h in omega arith
-house-field-short (boundary b) h = let l = short-field (boundary-of (colour b)) (boundary-word-field (colour b) (colours b)) .1 in omega arith
+house-field-short (boundary e b) h = let l = short-field (boundary-of (colour b)) (boundary-word-field (colour b) (colours b)) .1 in omega arith
 
 -- what it says where it stands: a name is known by its new place
 abbrev pub moved : ℕ → Said → Said
@@ -83,7 +85,7 @@ moved a (integer n) = integer n
 moved a (pair i) = pair i
 moved a (triple i) = triple i
 moved a (coordinate z) = coordinate z
-moved a (boundary b) = boundary b
+moved a (boundary e b) = boundary e b
 
 pub house-spells : (a : ℕ) (s : Said) → Writable s → SpellsField (at a (house-field s)) (moved a s)
 unfolding house-field
@@ -93,7 +95,7 @@ house-spells a (integer n) h = house-integer-spells n h
 house-spells a (pair i) h = house-pair-spells (i .m) (i .n) (h .0) (h .1)
 house-spells a (triple i) h = house-triple-spells (i .x) (i .y) (i .z) (h .0) (h .1) (h .2)
 house-spells a (coordinate z) h = house-coordinate-spells z h
-house-spells a (boundary b) h = record { number = colours b; word = refl }
+house-spells a (boundary e b) h = (record { number = colours b; word = refl }, h)
 
 -- ## A written line
 -- fields with one tab between them, the first at a place of the text

@@ -1,7 +1,7 @@
 -- THE THEOREMS of texts, for the RNDF and for the MDF, from one development (TextReading). Assumes nothing.
 use mathlib.Core.Path.{_≡_, refl, sym, ap, _∙_}
 use mathlib.Core.List.{List, [], _∷_, _++_}
-use mathlib.Core.Bool.{false}
+use mathlib.Core.Bool.{true, false}
 use Prim.Native.Nat.{ℕ, suc}
 use lib.ListN.{length}
 use Rattle.terms.specs.Ascii.{Bytes}
@@ -9,22 +9,23 @@ use Rattle.line.specs.Content.{Field}
 use Rattle.line.specs.Lines.{linesOf}
 use Rattle.grammar.specs.Statements as Rndf
 use Rattle.grammar.specs.MissionStatements as Mdf
-use Rattle.grammar.specs.Machine.{lenient}
-use Rattle.grammar.specs.Network.{Network, SpellsNetworkBy, SpellsNetwork}
+use Rattle.grammar.specs.Editions.{Edition, march}
+use Rattle.grammar.specs.Machine.{Machine, lenient}
+use Rattle.grammar.specs.Network.{Network, under, SpellsNetworkBy, SpellsNetwork}
 use Rattle.grammar.specs.Mission.{Mission, SpellsMission}
 use Rattle.grammar.specs.Names.{network-named, mission-named}
-use Rattle.grammar.specs.Places.{rndf, name-due}
+use Rattle.grammar.specs.Places.{rndf-by, rndf, name-due}
 use Rattle.grammar.specs.MissionPlaces.{mdf}
 use Rattle.grammar.specs.MissionPlaces as Mdf-at
 use Rattle.grammar.proofs.NetworkReading as Net
 use Rattle.grammar.proofs.MissionReading as Mis
-use Rattle.grammar.proofs.Theorems.{network-complete-by, network-sound-by, network-unique-by, network-complete, network-sound, network-unique, mission-complete, mission-sound, mission-unique}
-use Rattle.text.specs.RndfLines.{rndf-line}
+use Rattle.grammar.proofs.Theorems.{network-complete-by, network-sound-by, network-unique-by, mission-complete, mission-sound, mission-unique}
+use Rattle.text.specs.RndfLines.{rndf-line-in, rndf-line}
 use Rattle.text.specs.MdfLines.{mdf-line}
-use Rattle.text.specs.Spelling.{SpellsRndf, SpellsMdf, Name, bytes-of, MeansNetwork, MeansMission}
+use Rattle.text.specs.Spelling.{SpellsRndfIn, SpellsRndf, SpellsMdf, Name, bytes-of, MeansNetwork, MeansMission}
 use Rattle.text.specs.Refusals.{Begin, Hopeless}
 use Rattle.text.specs.Answers.{Answer, faulty, short, read, readText}
-use Rattle.text.specs.RndfWords.{rndf-lexis}
+use Rattle.text.specs.RndfWords.{rndf-lexis-in, rndf-lexis}
 use Rattle.text.specs.MdfWords.{mdf-lexis}
 use Rattle.text.proofs.Telling.{lenient-lawful}
 use Rattle.text.proofs.TextReading.{File, prepared, Means}
@@ -32,27 +33,56 @@ use Rattle.text.proofs.TextReading as T
 use Rattle.text.proofs.RndfText as R
 use Rattle.text.proofs.MdfText as M
 
--- ## RNDF
+-- ## RNDF, in each edition
+module _ (e : Edition) where
+  abbrev pub places : Machine (Rndf.lines Field)
+  places = rndf-by Field (under e true)
+
+  abbrev pub read-rndf-in : Bytes → Answer (Rndf.Statement Field)
+  read-rndf-in = readText places (rndf-lexis-in e) name-due
+
+  pub rndf-file-in : File places (rndf-lexis-in e) (rndf-line-in e) (SpellsNetworkBy (under e true)) name-due
+  rndf-file-in = record {
+    lawful = R.rndf-lawful e;
+    complete = network-complete-by (under e true);
+    sound = network-sound-by (under e true);
+    unique = network-unique-by (under e true);
+    Good = R.Bounded;
+    cost = Net.cost Field;
+    good-first = tt;
+    keeps = R.keeps e;
+    leaves = R.leaves e;
+    readied = R.readied e;
+  }
+
+  -- the same without L8's rule
+  pub rndf-lenient-file-in : File (lenient places) (rndf-lexis-in e) (rndf-line-in e) (SpellsNetworkBy (under e false)) name-due
+  rndf-lenient-file-in = record {
+    lawful = lenient-lawful (R.rndf-lawful e);
+    complete = network-complete-by (under e false);
+    sound = network-sound-by (under e false);
+    unique = network-unique-by (under e false);
+    Good = R.Bounded;
+    cost = Net.cost Field;
+    good-first = tt;
+    keeps = R.keeps e;
+    leaves = λ b y. let l = R.leaves e b y in record { v = l .v; line = l .line; said = l .said; ok = l .ok; less = l .less };
+    readied = λ b y g a. prepared (lenient places) (rndf-line-in e) b g a refl;
+  }
+
+  -- only one network is spelled by a text
+  pub one-rndf-in : (n n′ : Network Field) (t : Bytes) → SpellsRndfIn e n t → SpellsRndfIn e n′ t → n ≡ n′
+  one-rndf-in = T.one-network places (rndf-lexis-in e) (rndf-line-in e) (SpellsNetworkBy (under e true)) name-due rndf-file-in
+
+-- in the present edition
 abbrev pub read-rndf : Bytes → Answer (Rndf.Statement Field)
-read-rndf = readText (rndf Field) rndf-lexis name-due
+read-rndf = read-rndf-in march
 
 pub rndf-file : File (rndf Field) rndf-lexis rndf-line SpellsNetwork name-due
-rndf-file = record { lawful = R.rndf-lawful; complete = network-complete; sound = network-sound; unique = network-unique; Good = R.Bounded; cost = Net.cost Field; good-first = tt; keeps = R.keeps; leaves = R.leaves; readied = R.readied }
+rndf-file = rndf-file-in march
 
--- the same without L8's rule
-pub rndf-lenient-file : File (lenient (rndf Field)) rndf-lexis rndf-line (SpellsNetworkBy false) name-due
-rndf-lenient-file = record {
-  lawful = lenient-lawful R.rndf-lawful;
-  complete = network-complete-by false;
-  sound = network-sound-by false;
-  unique = network-unique-by false;
-  Good = R.Bounded;
-  cost = Net.cost Field;
-  good-first = tt;
-  keeps = R.keeps;
-  leaves = λ b y. let l = R.leaves b y in record { v = l .v; line = l .line; said = l .said; ok = l .ok; less = l .less };
-  readied = λ b y g a. prepared (lenient (rndf Field)) rndf-line b g a refl;
-}
+pub rndf-lenient-file : File (lenient (rndf Field)) rndf-lexis rndf-line (SpellsNetworkBy (under march false)) name-due
+rndf-lenient-file = rndf-lenient-file-in march
 
 -- what is answered of a text: faulty, the line is the first with a fault (its number is the judge's), the lines before it begin some well-formed text, and none begins with them and it;
 -- short, lines + 1, every line is good, so the text begins some well-formed text, and is none; read, the text spells a network, by these statements

@@ -15,7 +15,7 @@ house-field (integer n) = houseInteger n
 house-field (pair i) = housePair (i .m) (i .n)
 house-field (triple i) = houseTriple (i .x) (i .y) (i .z)
 house-field (coordinate z) = houseCoordinate z
-house-field (boundary b) = boundary-of (colour b)
+house-field (boundary e b) = boundary-of (colour b)
 
 abbrev pub house-line : List Said → Bytes
 house-line said = tabbed (map house-field said)

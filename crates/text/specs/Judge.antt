@@ -26,6 +26,7 @@ use Rattle.coordinate.specs.declared.Degrees as DD
 use Rattle.coordinate.specs.declared.Degrees.the-variants as Degrees
 use Rattle.word.specs.Number.{boundary-number, digit-first}
 use Rattle.grammar.specs.Language.{Lang, S, say}
+use Rattle.grammar.specs.Editions.{Edition, march, december, has-boundary}
 use Rattle.grammar.specs.Statements.{Boundary, double-yellow, solid-yellow, solid-white, broken-white, PartId, PointId}
 use Rattle.grammar.specs.Machine.{Out, next, refuse, Machine, over, inside, Place, step}
 use Rattle.grammar.specs.Stands.{stands}
@@ -33,7 +34,8 @@ use Rattle.text.specs.Said.{Said, word, name, integer, pair, triple, coo
 
 -- ## Sorts of fields, and reading one
 pub data Sort : Type 0 where
-  a-name an-integer a-pair a-triple a-coordinate a-boundary : Sort
+  a-name an-integer a-pair a-triple a-coordinate : Sort
+  a-boundary : Edition → Sort
 
 abbrev pub Val : Sort → Type 0
 Val a-name = Field
@@ -41,7 +43,7 @@ Val an-integer = ℕ
 Val a-pair = PartId
 Val a-triple = PointId
 Val a-coordinate = ℤ
-Val a-boundary = Boundary
+Val (a-boundary e) = Boundary
 
 abbrev pub number : DN.Number → Option ℕ
 number (Number.Is n) = some n
@@ -68,13 +70,19 @@ boundary-from (suc (suc (suc zero))) = some solid-white
 boundary-from (suc (suc (suc (suc zero)))) = some broken-white
 boundary-from (suc (suc (suc (suc (suc n))))) = none
 
+-- L10: one that the edition has
+abbrev pub only-known : Edition → Option Boundary → Option Boundary
+only-known march o = o
+only-known december none = none
+only-known december (some b) = pick (has-boundary december b) (some b) none
+
 unfoldable pub read : (s : Sort) → Field → Option (Val s)
 read a-name f = pick (isNameLength (length (f .bytes))) (some f) none
 read an-integer f = number (integerOf (f .bytes))
 read a-pair f = pair-from (pairOf (f .bytes))
 read a-triple f = triple-from (tripleOf (f .bytes))
 read a-coordinate f = degrees (coordinateOf (f .bytes))
-read a-boundary f = boundary-from (boundary-number (f .bytes))
+read (a-boundary e) f = only-known e (boundary-from (boundary-number (f .bytes)))
 
 -- ## The fields behind a keyword
 abbrev pub Vals : List Sort → Type 0

@@ -2,19 +2,21 @@
 use mathlib.Core.Path.{_≡_}
 use mathlib.Core.List.{List, [], _∷_}
 use mathlib.Core.Option.{Option, none, some}
+use mathlib.Core.Bool.{true}
 use Prim.Native.Nat.{ℕ, suc, _+_}
 use lib.ListN.{length}
 use Rattle.terms.specs.Ascii.{Bytes}
 use Rattle.line.specs.Text.{Cut, Ended}
 use Rattle.line.specs.Content.{Field, Content}
 use Rattle.grammar.specs.Language.{Stmt}
+use Rattle.grammar.specs.Editions.{Edition, march}
 use Rattle.grammar.specs.Statements as Rndf
 use Rattle.grammar.specs.MissionStatements as Mdf
-use Rattle.grammar.specs.Network.{Network, SpellsNetwork}
+use Rattle.grammar.specs.Network.{Network, under, SpellsNetworkBy}
 use Rattle.grammar.specs.Mission.{Mission, SpellsMission}
 use Rattle.grammar.specs.Names.{network-named, mission-named}
 use Rattle.text.specs.Said.{Said, SpellFields}
-use Rattle.text.specs.RndfLines.{rndf-line}
+use Rattle.text.specs.RndfLines.{rndf-line-in}
 use Rattle.text.specs.MdfLines.{mdf-line}
 
 -- for a file whose statements have these fields
@@ -39,8 +41,12 @@ module _ {Kind : Type 0} {Pay : Kind → Type 0} (line-of : (k : Kind) → Pay k
     pub net : Spells n said
 
 -- ## A network, and a mission, whose names are known by their places in the text
+abbrev pub SpellsRndfIn : Edition → Network Field → Bytes → Type 0
+SpellsRndfIn e = SpellsText (rndf-line-in e) (SpellsNetworkBy (under e true))
+
+-- in the present edition
 abbrev pub SpellsRndf : Network Field → Bytes → Type 0
-SpellsRndf = SpellsText rndf-line SpellsNetwork
+SpellsRndf = SpellsRndfIn march
 
 abbrev pub SpellsMdf : Mission Field → Bytes → Type 0
 SpellsMdf = SpellsText mdf-line SpellsMission
