@@ -2,7 +2,7 @@
 use mathlib.Core.Path.{_≡_, refl, sym, ap, subst, _∙_}
 use mathlib.Core.List.{List, [], map}
 use mathlib.Core.Option.{none}
-use mathlib.Core.Bool.{false}
+use mathlib.Core.Bool.{true, false}
 use Prim.Native.Nat.{ℕ, _+_}
 use native.Mathlib.Omega.{arith}
 use lib.ListN.{length, getD}
@@ -13,21 +13,22 @@ use Rattle.terms.proofs.Tests.{nothing}
 use Rattle.line.specs.Content.{Field}
 use Rattle.line.specs.Lines.{linesOf}
 use Rattle.word.specs.Keywords.{rndf-keywords}
+use Rattle.grammar.specs.Editions.{Edition, march}
 use Rattle.grammar.specs.Language.{Lang, say, asKind}
 use Rattle.grammar.specs.Statements as Rndf
 use Rattle.grammar.specs.MissionStatements as Mdf
-use Rattle.grammar.specs.Network.{Network}
+use Rattle.grammar.specs.Network.{Network, under}
 use Rattle.grammar.specs.Mission.{Mission}
-use Rattle.grammar.specs.Places.{rndf}
+use Rattle.grammar.specs.Places.{rndf-by}
 use Rattle.grammar.specs.MissionPlaces.{mdf}
 use Rattle.grammar.specs.PlaceRows.{kinds, kind-row, mission-kinds, mission-kind-row}
 use Rattle.grammar.proofs.LanguageLaws.{as-same}
 use Rattle.grammar.proofs.RndfTable.{coded, short}
 use Rattle.grammar.proofs.MdfTable as MdfTable
-use Rattle.text.specs.RndfLines.{rndf-line}
+use Rattle.text.specs.RndfLines.{rndf-line-in, rndf-line}
 use Rattle.text.specs.MdfLines.{mdf-line}
-use Rattle.text.specs.Spelling.{SpellsLines, SpellsRndf, SpellsMdf}
-use Rattle.text.specs.RndfWords.{rndf-lexis}
+use Rattle.text.specs.Spelling.{SpellsLines, SpellsRndfIn, SpellsRndf, SpellsMdf}
+use Rattle.text.specs.RndfWords.{rndf-lexis-in}
 use Rattle.text.specs.RndfWords as RndfWords
 use Rattle.text.specs.MdfWords.{mdf-lexis, mdf-sorts}
 use Rattle.text.specs.MdfWords as MdfWords
@@ -46,8 +47,11 @@ last-row k e =
     let l = ltb→lt (kind-row k) 30 (short k) in
     omega arith
 
+pub rndf-clear-in : (d : Edition) → Clear (Rndf.lines Field) (rndf-line-in d)
+rndf-clear-in d = clear (rndf-by Field (under d true)) (rndf-lexis-in d) (rndf-line-in d) (rndf-lawful d) (λ j k e q l. sym (coded j) ∙ ap (λ (i : ℕ). getD kinds i Rndf.RNDF-name) (last-row j e ∙ sym (last-row k q)) ∙ coded k)
+
 pub rndf-clear : Clear (Rndf.lines Field) rndf-line
-rndf-clear = clear (rndf Field) rndf-lexis rndf-line rndf-lawful (λ j k e d l. sym (coded j) ∙ ap (λ (i : ℕ). getD kinds i Rndf.RNDF-name) (last-row j e ∙ sym (last-row k d)) ∙ coded k)
+rndf-clear = rndf-clear-in march
 
 -- ## MDF: two kinds have none, and differ in the number of fields
 by-fields : (k : Mdf.Kind) → MdfWords.word-at (mission-kind-row k) ≡ none → mission-kind-row k + mission-kind-row k ≡ 21 + length (mdf-sorts k)
@@ -73,6 +77,9 @@ mdf-clear = clear (mdf Field) mdf-lexis mdf-line mdf-lawful (λ j k e d l.
     sym (MdfTable.coded j) ∙ ap (λ (i : ℕ). getD mission-kinds i Mdf.MDF-name) i ∙ MdfTable.coded k)
 
 -- the statements of a text that is spelled
+pub rndf-said-in : (d : Edition) (n : Network Field) (text : Bytes) (h : SpellsRndfIn d n text) → SpellsLines (rndf-line-in d) 0 (linesOf text) (h .said)
+rndf-said-in d n text h = all-said (rndf-clear-in d) (h .made) (h .each)
+
 pub rndf-said : (n : Network Field) (text : Bytes) (h : SpellsRndf n text) → SpellsLines rndf-line 0 (linesOf text) (h .said)
 rndf-said n text h = all-said rndf-clear (h .made) (h .each)
 

@@ -8,8 +8,9 @@ use native.Mathlib.Nat.{add-zero}
 use lib.ListN.{length}
 use Rattle.terms.specs.Ascii.{Bytes}
 use Rattle.line.specs.Lines.{linesOf}
-use Rattle.law.specs.Network.{Line, SayLines, Rules, present}
+use Rattle.law.specs.Network.{Line, SayLines, Rules, reading}
 use Rattle.law.specs.Faults as Law
+use Rattle.grammar.specs.Editions.{Edition, law-of}
 use Rattle.grammar.specs.Language.{Lang, S}
 use Rattle.text.specs.Said.{Said}
 use Rattle.text.specs.Spelling.{SpellsLine, SpellsLines, done, blank-line, statement}
@@ -17,11 +18,12 @@ use Rattle.form_faults.specs.FormFaults.{behind}
 use Rattle.fault_lines.specs.FaultLines.{SaysAt, FirstLine}
 use Rattle.fault_lines.proofs.LineOne.{Clear}
 use Rattle.fault_lines.proofs.Said.{not-blank, says-only}
-use Rattle.law_spelling.specs.LineOf.{law-line}
+use Rattle.law_spelling.specs.LineOf.{AllOf, law-line}
 use Rattle.law_spelling.proofs.Lines.{Begins, lines-to, lines-back}
 use Rattle.law_tables.proofs.Among.{Parted, parted}
 
-module _ {L : Lang} {line-of : (k : L .Kind) → L .Pay k → List Said} (C : Clear L line-of) (begin : (k : L .Kind) (v : L .Pay k) → Begins (line-of k v)) where
+-- in an edition, of which the boundaries are
+module _ (ed : Edition) {L : Lang} {line-of : (k : L .Kind) → L .Pay k → List Said} (of : AllOf ed line-of) (C : Clear L line-of) (begin : (k : L .Kind) (v : L .Pay k) → Begins (line-of k v)) where
   -- ## Lines, and one more
   further : (a : ℕ) (line : Bytes) (lines : List Bytes) → a + (suc (length line) + behind lines) ≡ a + suc (length line) + behind lines
   further a line lines = omega arith
@@ -57,8 +59,8 @@ module _ {L : Lang} {line-of : (k : L .Kind) → L .Pay k → List Said} (C : Cl
   ll = law-line line-of
 
   module _ {Net : Type 0} (Spells : Rules → Net → List Line → Type 0) (Said-by : Net → List (S L) → Type 0)
-      (to : (n : Net) (said : List (S L)) → Said-by n said → Spells present n (map ll said))
-      (back : (n : Net) (l : List Line) → Spells present n l → (said : List (S L)) × (l ≡ map ll said) × Said-by n said) (text : Bytes) where
+      (to : (n : Net) (said : List (S L)) → Said-by n said → Spells (reading (law-of ed)) n (map ll said))
+      (back : (n : Net) (l : List Line) → Spells (reading (law-of ed)) n l → (said : List (S L)) × (l ≡ map ll said) × Said-by n said) (text : Bytes) where
     -- the lines of the law are statements
     record Known (i : ℕ) (front : List Line) (line : Line) : Type 0 where
       before : List (S L)
@@ -67,7 +69,7 @@ module _ {L : Lang} {line-of : (k : L .Kind) → L .Pay k → List Said} (C : Cl
       told : line ≡ ll this
       at : SaysAt line-of text i before this
 
-    known : (i : ℕ) (front : List Line) (line : Line) → Law.SaysAt present Spells text i front line → Known i front line
+    known : (i : ℕ) (front : List Line) (line : Line) → Law.SaysAt (reading (law-of ed)) Spells text i front line → Known i front line
     known i front line s =
         let b = s .begins in
         let o = back (b .net) ((front ++ (line ∷ [])) ++ b .rest) (b .spelled) in
@@ -75,9 +77,9 @@ module _ {L : Lang} {line-of : (k : L .Kind) → L .Pay k → List Said} (C : Cl
       where
         by : {said : List (S L)} → Parted ll said front line → Known i front line
         by p =
-            let before = lines-back line-of (p .before) (subst (SayLines present 0 (s .at .before)) (p .fronted) (s .at .said)) in
+            let before = lines-back ed line-of of (p .before) (subst (SayLines (reading (law-of ed)) 0 (s .at .before)) (p .fronted) (s .at .said)) in
             let same : front ++ (line ∷ []) ≡ map ll (p .before ++ (p .this ∷ [])) = ap₂ (λ (f : List Line) (l : Line). f ++ (l ∷ [])) (p .fronted) (p .told) ∙ sym (map-append ll (p .before) (p .this ∷ [])) in
-            let all = lines-back line-of (p .before ++ (p .this ∷ [])) (subst (SayLines present 0 (s .at .before ++ (s .this ∷ []))) same (s .says)) in
+            let all = lines-back ed line-of of (p .before ++ (p .this ∷ [])) (subst (SayLines (reading (law-of ed)) 0 (s .at .before ++ (s .this ∷ []))) same (s .says)) in
             let z : 0 + behind (s .at .before) ≡ behind (s .at .before) = omega arith in
             record {
               before = p .before;
@@ -89,16 +91,16 @@ module _ {L : Lang} {line-of : (k : L .Kind) → L .Pay k → List Said} (C : Cl
 
     -- and the statements of a spelled text are lines of the law
     module _ (n : Net) (said : List (S L)) (all : SpellsLines line-of 0 (linesOf text) said) (net : Said-by n said) where
-      law-at : (i : ℕ) (front : List (S L)) (x : S L) → SaysAt line-of text i front x → Law.SaysAt present Spells text i (map ll front) (ll x)
+      law-at : (i : ℕ) (front : List (S L)) (x : S L) → SaysAt line-of text i front x → Law.SaysAt (reading (law-of ed)) Spells text i (map ll front) (ll x)
       law-at i front x s =
           let o = says-only C text said all i front x s in
           let z : behind (s .before) ≡ 0 + behind (s .before) = omega arith in
           let whole : map ll said ≡ (map ll front ++ (ll x ∷ [])) ++ map ll (o .0) = ap (map ll) (o .1) ∙ map-append ll front (x ∷ o .0) ∙ sym (append-assoc (map ll front) (ll x ∷ []) (map ll (o .0))) in
           record {
             this = s .this;
-            at = record { before = s .before; rest = s .rest; cut = s .cut; number = s .number; said = lines-to line-of begin (s .said) };
-            says = subst (SayLines present 0 (s .before ++ (s .this ∷ []))) (map-append ll front (x ∷ [])) (lines-to line-of begin (one-more (s .said) (s .this) x (moved z (s .says))));
-            begins = record { rest = map ll (o .0); net = n; spelled = subst (Spells present n) whole (to n said net) };
+            at = record { before = s .before; rest = s .rest; cut = s .cut; number = s .number; said = lines-to ed line-of of begin (s .said) };
+            says = subst (SayLines (reading (law-of ed)) 0 (s .before ++ (s .this ∷ []))) (map-append ll front (x ∷ [])) (lines-to ed line-of of begin (one-more (s .said) (s .this) x (moved z (s .says))));
+            begins = record { rest = map ll (o .0); net = n; spelled = subst (Spells (reading (law-of ed)) n) whole (to n said net) };
           }
 
       -- ## The first at fault. F: by statements, G: by lines
@@ -107,7 +109,7 @@ module _ {L : Lang} {line-of : (k : L .Kind) → L .Pay k → List Said} (C : Cl
         fault-of : {i m : ℕ} {front : List Line} {line : Line} (w : Known i front line) → G front line m → F (w .before) (w .this) m
         fault-of {m = m} {line = line} w g = under (w .before) (w .this) m (subst (λ (l : Line). G (map ll (w .before)) l m) (w .told) (subst (λ (f : List Line). G f line m) (w .fronted) g))
 
-        pub first-to : (i k : ℕ) → FirstLine line-of F text i k → Law.FirstFault present Spells G text i k
+        pub first-to : (i k : ℕ) → FirstLine line-of F text i k → Law.FirstFault (reading (law-of ed)) Spells G text i k
         first-to i k f = record {
           front = map ll (f .front);
           line = ll (f .this);
@@ -116,7 +118,7 @@ module _ {L : Lang} {line-of : (k : L .Kind) → L .Pay k → List Said} (C : Cl
           first = λ j m front line l s g. let w = known j front line s in f .first j m (w .before) (w .this) l (w .at) (fault-of w g);
         }
 
-        pub first-back : (i k : ℕ) → Law.FirstFault present Spells G text i k → FirstLine line-of F text i k
+        pub first-back : (i k : ℕ) → Law.FirstFault (reading (law-of ed)) Spells G text i k → FirstLine line-of F text i k
         first-back i k f = let w = known i (f .front) (f .line) (f .at) in record {
           front = w .before;
           this = w .this;

@@ -5,9 +5,10 @@ use Prim.Native.Nat.{ℕ}
 use Rattle.terms.specs.Ascii.{Bytes}
 use Rattle.terms.specs.Words.{Among}
 use Rattle.line.specs.Content.{Field}
-use Rattle.law.specs.Network.{present}
+use Rattle.law.specs.Network.{reading, present}
 use Rattle.law.specs.Network as LawNetwork
 use Rattle.law.specs.Faults as Law
+use Rattle.grammar.specs.Editions.{Edition, march, law-of}
 use Rattle.grammar.specs.MissionStatements.{Statement, Limit, orders, say, ofKind, RNDF, goal, limit, end-speed-limits}
 use Rattle.grammar.specs.Network.{Network}
 use Rattle.grammar.specs.Mission.{Mission, SpellsMission}
@@ -17,8 +18,8 @@ use Rattle.fill.specs.Faults.{not-there, given-again, other-name, foreign-goal,
 use Rattle.fault_lines.specs.FaultLines.{MdfFault, FirstMdfFault}
 use Rattle.fault_lines.proofs.Files.{mdf-clear, mdf-said}
 use Rattle.law_spelling.specs.LineOf.{mdf-law-line}
-use Rattle.law_spelling.proofs.OneLine.{mdf-line-one, mdf-begins}
-use Rattle.law_spelling.proofs.MdfParts.{mission-to, mission-back}
+use Rattle.law_spelling.proofs.OneLine.{mdf-line-one, mdf-begins, mdf-all}
+use Rattle.law_spelling.proofs.MdfParts.{mission-to-in, mission-back-in}
 use Rattle.law_tables.proofs.Among.{among-map, among-told, among-kind, kind-among}
 use Rattle.law_tables.proofs.LineFaults as Any
 
@@ -62,8 +63,16 @@ module _ (n : Network Field) where
       (record { id = i; there = w; missing = λ m. let t = limit-told i front m in d (t .0) (t .1) (t .2) }) refl
 
   module _ (m : Mission Field) (text : Bytes) (h : SpellsMdf m text) where
+    module _ (d : Edition) where
+      pub mdf-first-to-in : (i k : ℕ) → FirstMdfFault n text i k → Law.FirstFault (reading (law-of d)) LawNetwork.SpellsMission (Law.MdfFault n) text i k
+      mdf-first-to-in = Any.first-to d (mdf-all d) mdf-clear mdf-begins LawNetwork.SpellsMission SpellsMission (mission-to-in d) (mission-back-in d) text m (h .said) (mdf-said m text h) (h .net) (MdfFault n) (Law.MdfFault n) over under
+
+      pub mdf-first-back-in : (i k : ℕ) → Law.FirstFault (reading (law-of d)) LawNetwork.SpellsMission (Law.MdfFault n) text i k → FirstMdfFault n text i k
+      mdf-first-back-in = Any.first-back d (mdf-all d) mdf-clear mdf-begins LawNetwork.SpellsMission SpellsMission (mission-to-in d) (mission-back-in d) text m (h .said) (mdf-said m text h) (h .net) (MdfFault n) (Law.MdfFault n) over under
+
+    -- in the present edition
     pub mdf-first-to : (i k : ℕ) → FirstMdfFault n text i k → Law.FirstFault present LawNetwork.SpellsMission (Law.MdfFault n) text i k
-    mdf-first-to = Any.first-to mdf-clear mdf-begins LawNetwork.SpellsMission SpellsMission mission-to mission-back text m (h .said) (mdf-said m text h) (h .net) (MdfFault n) (Law.MdfFault n) over under
+    mdf-first-to = mdf-first-to-in march
 
     pub mdf-first-back : (i k : ℕ) → Law.FirstFault present LawNetwork.SpellsMission (Law.MdfFault n) text i k → FirstMdfFault n text i k
-    mdf-first-back = Any.first-back mdf-clear mdf-begins LawNetwork.SpellsMission SpellsMission mission-to mission-back text m (h .said) (mdf-said m text h) (h .net) (MdfFault n) (Law.MdfFault n) over under
+    mdf-first-back = mdf-first-back-in march

@@ -10,7 +10,7 @@ use Rattle.line.specs.Content.{Field, Content}
 use Rattle.line.specs.Text.{Ended}
 use Rattle.line.specs.Located.{Within, EachLine}
 use Rattle.line.proofs.Located.{cut-fields}
-use Rattle.law.specs.Network.{Network, Mission, Segment, Zone, Said, Line, word, name, numbers, coordinate, boundary, SpellFields, Mixed, left, right, AnyOrder, line, SpellsSegment, SpellsZone, SayLines, done, blank, statement, file-options, present}
+use Rattle.law.specs.Network.{Network, Mission, Segment, Zone, Said, Line, word, name, numbers, coordinate, boundary, march-2007, SpellFields, Mixed, left, right, AnyOrder, line, SpellsSegment, SpellsZone, SayLines, done, blank, statement, file-options, present}
 use Rattle.law.specs.Network as Law
 use Rattle.law.specs.Short.{SpellsRndf, SpellsMdf}
 use Rattle.rows.specs.Read.{stretchOf}
@@ -44,7 +44,7 @@ module _ (text : Bytes) where
   SaidStands (coordinate z) = Unit {0}
   SaidStands (boundary b) = Unit {0}
 
-  fields-stand : (fs : List Field) (ss : Line) → Each (Within 0 text) fs → SpellFields fs ss → Each SaidStands ss
+  fields-stand : (fs : List Field) (ss : Line) → Each (Within 0 text) fs → SpellFields march-2007 fs ss → Each SaidStands ss
   fields-stand [] [] e h = tt
   fields-stand [] (s ∷ ss) e h = absurd h
   fields-stand (f ∷ fs) [] e h = absurd h

@@ -14,7 +14,7 @@ use Rattle.grammar.specs.Language.{Stmt}
 use Rattle.grammar.specs.Network.{Network}
 use Rattle.grammar.specs.Mission.{Mission}
 use Rattle.text.specs.Said.{Said, word, name, integer, pair, triple, coordinate, boundary, SpellFields}
-use Rattle.text.specs.RndfLines.{rndf-line}
+use Rattle.text.specs.RndfLines.{rndf-line-in, rndf-line}
 use Rattle.text.specs.MdfLines.{mdf-line}
 use Rattle.text.specs.Spelling.{SpellsLine, says, SpellsLines, done, blank-line, statement, SpellsRndf, SpellsMdf}
 use Rattle.rows.specs.Read.{stretchOf}
@@ -31,7 +31,7 @@ module _ (text : Bytes) where
   Stands (pair i) = Unit {0}
   Stands (triple i) = Unit {0}
   Stands (coordinate z) = Unit {0}
-  Stands (boundary b) = Unit {0}
+  Stands (boundary d b) = Unit {0}
 
   fields-stand : (fs : List Field) (ss : List Said) → Each (Within 0 text) fs → SpellFields fs ss → Each Stands ss
   fields-stand [] [] e h = tt
@@ -43,7 +43,7 @@ module _ (text : Bytes) where
   fields-stand (f ∷ fs) (pair i ∷ ss) e h = (tt, fields-stand fs ss (e .1) (h .1))
   fields-stand (f ∷ fs) (triple i ∷ ss) e h = (tt, fields-stand fs ss (e .1) (h .1))
   fields-stand (f ∷ fs) (coordinate z ∷ ss) e h = (tt, fields-stand fs ss (e .1) (h .1))
-  fields-stand (f ∷ fs) (boundary b ∷ ss) e h = (tt, fields-stand fs ss (e .1) (h .1))
+  fields-stand (f ∷ fs) (boundary d b ∷ ss) e h = (tt, fields-stand fs ss (e .1) (h .1))
 
   -- every field of a line that starts there stands in the text
   abbrev FieldsStand : ℕ → Bytes → Type 0
@@ -63,7 +63,7 @@ module _ (text : Bytes) where
 
 -- ## The RNDF's name, and the name that an MDF gives
 pub network-name : (n : Network Field) (text : Bytes) → SpellsRndf n text → nameOf text (stretchOf (n .name .start) (length (n .name .bytes))) ≡ n .name .bytes
-unfolding rndf-line
+unfolding rndf-line-in
 network-name n text s =
     let each : Each (NamesStand text rndf-line) (s .said) = lines-stand text rndf-line (cut-fields (s .made)) (s .each) in
     asked text (n .name) (subst (Each (NamesStand text rndf-line)) (s .net .spelled) each .0 .1 .0)

@@ -5,6 +5,7 @@ use Prim.Native.Nat.{ℕ, _+_}
 use lib.IntN.{ℤ}
 use Rattle.terms.specs.Ascii.{Bytes}
 use Rattle.line.specs.Content.{Field}
+use Rattle.grammar.specs.Editions.{march}
 use Rattle.grammar.specs.Statements.{Statement}
 use Rattle.text.specs.Answers.{read}
 use Rattle.text.proofs.Theorems.{read-rndf}
@@ -22,6 +23,7 @@ use Rattle.progress.proofs.Shown.{none-shown}
 use Rattle.walk.specs.Standing.{places-in}
 use Rattle.walk.specs.Walking.{gathered}
 use Rattle.walk.proofs.RndfWalk as R
+use Rattle.edition_judge.proofs.EditionWalk as E
 use Rattle.network.specs.Storing.{memory}
 use Rattle.network.specs.Reading.{with-progress, put, filledOf}
 use Rattle.network.proofs.Answered.{by-meaning}
@@ -52,7 +54,7 @@ points-so-far ts = points-behind (told ts) nothing-yet 0 0 refl
 
 -- THE LAW
 pub filled-read : (text : Bytes) (ts : List (Statement Field)) → read-rndf text ≡ read ts → (sg ln zn sp : List ℕ) (pt : List ℤ) (ck st ex : List ℕ)
-    → filledOf text (memory noProgress sg ln zn sp pt ck st ex) ≡ gathered (memory (progress-behind ts)
+    → filledOf march text (memory noProgress sg ln zn sp pt ck st ex) ≡ gathered (memory (progress-behind ts)
     (putRows segmentStride segmentWords sg 0 (map shown-segment (rows-given ts .segments)))
     (putRows laneStride laneWords ln 0 (map shown-lane (rows-given ts .lanes)))
     (putRows zoneStride zoneWords zn 0 (map shown-zone (rows-given ts .zones)))
@@ -64,6 +66,6 @@ pub filled-read : (text : Bytes) (ts : List (Statement Field)) → read-rndf tex
 unfolding filledOf rows-put
 filled-read text ts e sg ln zn sp pt ck st ex =
     let m = memory noProgress sg ln zn sp pt ck st ex in
-    ap (λ (p : Progress). R.whole-walk put by-meaning (with-progress p m) text) (sym none-shown)
-    ∙ R.walk-read put by-meaning (with-progress (shown nothing-yet no-counts 0 0) m) text ts e
+    ap (λ (p : Progress). E.whole-walk march put by-meaning (with-progress p m) text) (sym none-shown)
+    ∙ E.walk-read march put by-meaning (with-progress (shown nothing-yet no-counts 0 0) m) text ts e
     ∙ ap gathered (statements-put (places-in text) ts (R.rndf-as-many text ts e) nothing-yet no-counts 0 0 refl (refl, refl, refl) m)

@@ -1,6 +1,7 @@
 -- THE LAWS of a text that spells a network: the walk counts the rows of its tables, and stores them where there is room. Assumes nothing.
 use mathlib.Core.Path.{_≡_, refl, sym, ap, subst, _∙_}
 use mathlib.Core.List.{List, [], _∷_, map, map-map}
+use mathlib.Core.Bool.{true}
 use Prim.Native.Nat.{ℕ, _≤_, _<_}
 use native.Mathlib.Omega.{arith}
 use lib.ListN.{length, length-map}
@@ -9,18 +10,19 @@ use lib.IntN.{pos}
 use Rattle.terms.specs.Ascii.{Bytes}
 use Rattle.terms.proofs.Lists.{each-map, each-any}
 use Rattle.line.specs.Content.{Field}
+use Rattle.grammar.specs.Editions.{Edition, march}
 use Rattle.grammar.specs.Statements.{Statement, PointId}
-use Rattle.grammar.specs.Network.{Network, SpellsNetwork}
+use Rattle.grammar.specs.Network.{Network, under, SpellsNetworkBy, SpellsNetwork}
 use Rattle.grammar.specs.Names.{network-named}
 use Rattle.grammar.specs.Places.{rndf, name-due}
 use Rattle.grammar.specs.Tables as T
 use Rattle.grammar.specs.Tables.{Tables, tables-with, tables-unresolved, tables, point-row}
 use Rattle.text.specs.Answers.{read}
-use Rattle.text.specs.RndfLines.{rndf-line}
-use Rattle.text.specs.RndfWords.{rndf-lexis}
-use Rattle.text.specs.Spelling.{SpellsRndf}
+use Rattle.text.specs.RndfLines.{rndf-line-in, rndf-line}
+use Rattle.text.specs.RndfWords.{rndf-lexis-in, rndf-lexis}
+use Rattle.text.specs.Spelling.{SpellsRndfIn, SpellsRndf}
 use Rattle.text.proofs.TextReading as TR
-use Rattle.text.proofs.Theorems.{read-rndf, rndf-file, rndf-well-formed}
+use Rattle.text.proofs.Theorems.{places, rndf-file-in, read-rndf, rndf-file}
 use Rattle.fill.specs.NetworkRows.{tabled, fill}
 use Rattle.fill.specs.Resolve.{with-entry}
 use Rattle.fill.specs.Counts.{Counts, sizes}
@@ -185,7 +187,7 @@ left-in m (gathered l) = l
 
 module _ (n : Network Field) (text : Bytes) (h : SpellsRndf n text) where
   -- whatever is lent, the rows are counted: for refusal 11
-  pub counted-spelled : (t : Lent) → CountedNetwork n (filledOf text (at-first t))
+  pub counted-spelled : (t : Lent) → CountedNetwork n (filledOf march text (at-first t))
   counted-spelled t = record {
     left = _;
     rows = filled-read text (h .said) (statements-read n text h) (t .segments) (t .lanes) (t .zones) (t .spots) (t .points) (t .checkpoints) (t .stops) (t .exits);
@@ -193,7 +195,7 @@ module _ (n : Network Field) (text : Bytes) (h : SpellsRndf n text) where
   }
 
   -- where zeros are lent that have room, the tables are the network's
-  pub filled-spelled : length text ≤ most → (t : Lent) → HasRoom (sizes (tables n)) t → FilledNetwork n (exit-line-starts n text h) t (filledOf text (at-first (zeros t)))
+  pub filled-spelled : length text ≤ most → (t : Lent) → HasRoom (sizes (tables n)) t → FilledNetwork n (exit-line-starts n text h) t (filledOf march text (at-first (zeros t)))
   filled-spelled long t room = record {
     left = held n text h long t room;
     rows = filled-read text (h .said) (statements-read n text h) (zeros t .segments) (zeros t .lanes) (zeros t .zones) (zeros t .spots) (zeros t .points) (zeros t .checkpoints) (zeros t .stops) (zeros t .exits);
@@ -202,16 +204,16 @@ module _ (n : Network Field) (text : Bytes) (h : SpellsRndf n text) where
   }
 
   -- the same of whatever memory was found
-  pub left-counted : (t : Lent) (m : Memory) → filledOf text (at-first t) ≡ gathered m → CountsNetwork n (m .so-far)
+  pub left-counted : (t : Lent) (m : Memory) → filledOf march text (at-first t) ≡ gathered m → CountsNetwork n (m .so-far)
   left-counted t m e = let a = counted-spelled t in subst (λ (l : Memory). CountsNetwork n (l .so-far)) (ap (left-in m) (sym (a .rows) ∙ e)) (a .counts)
 
-  pub left-filled : length text ≤ most → (t : Lent) → HasRoom (sizes (tables n)) t → (m : Memory) → filledOf text (at-first (zeros t)) ≡ gathered m → HoldsNetwork n (exit-line-starts n text h) t m
+  pub left-filled : length text ≤ most → (t : Lent) → HasRoom (sizes (tables n)) t → (m : Memory) → filledOf march text (at-first (zeros t)) ≡ gathered m → HoldsNetwork n (exit-line-starts n text h) t m
   left-filled long t room m e = let a = filled-spelled long t room in subst (HoldsNetwork n (exit-line-starts n text h) t) (ap (left-in m) (sym (a .rows) ∙ e)) (a .holds)
 
   -- no fault is found
-  pub never-faulty : (m : Memory) (i k : ℕ) → filledOf text m ≡ fault i k → ⊥
-  never-faulty m i k e = no-fault (sym (filled-over text m (h .said) (statements-read n text h)) ∙ e)
+  pub never-faulty : (m : Memory) (i k : ℕ) → filledOf march text m ≡ fault i k → ⊥
+  never-faulty m i k e = no-fault (sym (filled-over march text m (h .said) (statements-read n text h)) ∙ e)
 
--- where rows are found, the text spells a network
-pub found-network : (text : Bytes) (m l : Memory) → filledOf text m ≡ gathered l → (n : Network Field) × SpellsRndf n text
-found-network text m l e = rndf-well-formed text .0 (found-rows text m l e)
+-- where rows are found in an edition, the text spells a network in it
+pub found-network : (ε : Edition) (text : Bytes) (m l : Memory) → filledOf ε text m ≡ gathered l → (n : Network Field) × SpellsRndfIn ε n text
+found-network ε text m l e = TR.well-formed (places ε) (rndf-lexis-in ε) (rndf-line-in ε) (SpellsNetworkBy (under ε true)) name-due (rndf-file-in ε) text .0 (found-rows ε text m l e)

@@ -1,10 +1,12 @@
-// A text of an RNDF read into lent tables in one walk over its lines: 1 where it is too long, the first fault of 2 to 10 with its line, or every row stored where there is
+// A text of an RNDF read by an edition into lent tables in one walk over its lines: 1 where it is too long, the first fault of 2 to 10 with its line, or every row stored where there is
 // room for it, and how many there are of each table. Entries of exits are not looked up yet: where the exit's line starts stands for them (the crate `references`).
 //
 // specs/Storing: a row stored in the tables, executable. specs/Reading: the walk.
 // proofs/: the walk finds what `text` answers, and stores what `fill` gives (Gathered); of a text that spells a network, the words of its tables (Spelled).
 //
-// Rests on `refusal`, `walk`, `judge`, `progress`, `rows`, `fill` and what they rest on.
+// Rests on `refusal`, `walk`, `judge`, `edition_judge`, `progress`, `rows`, `fill` and what they rest on.
+use edition::Edition;
+use edition_judge::barred;
 use judge::Verdict;
 use judge::judge_line;
 use place::Place;
@@ -25,6 +27,7 @@ use rows::store_stop;
 use rows::store_zone;
 use scan::far_byte_from;
 ghost use mathlib.Core.Path.{_≡_};
+ghost use Rattle.edition.specs.Editions.{inner};
 ghost use Rattle.progress.specs.After.{noProgress};
 ghost use Rattle.network.specs.Storing.{Memory, memory, storePart, stored};
 ghost use Rattle.network.specs.Reading.{told, filledIn};
@@ -74,6 +77,7 @@ fn store(
 
 // One walk over the lines of a text.
 pub fn fill_lines(
+    edition: Edition,
     text: &[u8],
     segments: &mut [u32],
     lanes: &mut [u32],
@@ -84,7 +88,7 @@ pub fn fill_lines(
     stops: &mut [u32],
     exits: &mut [u32],
 ) -> Filled
-    ensures { λ r. ⌜ told r (λ p. memory p (now (segments .exit)) (now (lanes .exit)) (now (zones .exit)) (now (spots .exit)) (now (points .exit)) (now (checkpoints .exit)) (now (stops .exit)) (now (exits .exit))) ≡ filledIn (now (text .entry)) (memory noProgress (now (segments .entry)) (now (lanes .entry)) (now (zones .entry)) (now (spots .entry)) (now (points .entry)) (now (checkpoints .entry)) (now (stops .entry)) (now (exits .entry))) ⌝ }
+    ensures { λ r. ⌜ told r (λ p. memory p (now (segments .exit)) (now (lanes .exit)) (now (zones .exit)) (now (spots .exit)) (now (points .exit)) (now (checkpoints .exit)) (now (stops .exit)) (now (exits .exit))) ≡ filledIn (inner edition) (now (text .entry)) (memory noProgress (now (segments .entry)) (now (lanes .entry)) (now (zones .entry)) (now (spots .entry)) (now (points .entry)) (now (checkpoints .entry)) (now (stops .entry)) (now (exits .entry))) ⌝ }
 {
     if LONGEST_TEXT < text.len() {
         return Filled::Fault(Fault { line: 0, number: 1 });
@@ -100,6 +104,10 @@ pub fn fill_lines(
         match v {
             Verdict::Blank => {}
             Verdict::Said(s, q) => {
+                let n = barred(edition, s);
+                if n != 0 {
+                    return Filled::Fault(Fault { line, number: n });
+                }
                 store(
                     segments,
                     lanes,

@@ -6,6 +6,7 @@ use Prim.Native.Nat.{ℕ}
 use lib.ListN.{length}
 use lib.Dec.{ltb}
 use Rattle.law.specs.Tables.{Lent, lent, zeros}
+use Rattle.grammar.specs.Editions.{Edition}
 use Rattle.progress.specs.After.{noProgress}
 use Rattle.walk.specs.Walking.{Found}
 use Rattle.network.specs.Storing.{Memory, memory}
@@ -69,6 +70,6 @@ unfolding judgedOf
 no-marks text m c ex n p q = let p₁ = rw n at p in let q₁ = rw n at q in rw (p₁, q₁) refl
 
 -- what is found over cleared tables
-pub cleared : (text : Bytes) (t u : Lent) (x : Found Memory) → x ≡ filledIn text (memory noProgress (u .segments) (u .lanes) (u .zones) (u .spots) (u .points) (u .checkpoints) (u .stops) (u .exits)) → u ≡ zeros t → from-filled text x ≡ readOf text t
+pub cleared : (ε : Edition) (text : Bytes) (t u : Lent) (x : Found Memory) → x ≡ filledIn ε text (memory noProgress (u .segments) (u .lanes) (u .zones) (u .spots) (u .points) (u .checkpoints) (u .stops) (u .exits)) → u ≡ zeros t → from-filled text x ≡ readOf ε text t
 unfolding readOf
-cleared text t u x e z = ap (from-filled text) (e ∙ ap (λ (v : Lent). filledIn text (memory noProgress (v .segments) (v .lanes) (v .zones) (v .spots) (v .points) (v .checkpoints) (v .stops) (v .exits))) z)
+cleared ε text t u x e z = ap (from-filled text) (e ∙ ap (λ (v : Lent). filledIn ε text (memory noProgress (v .segments) (v .lanes) (v .zones) (v .spots) (v .points) (v .checkpoints) (v .stops) (v .exits))) z)

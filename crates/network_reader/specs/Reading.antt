@@ -10,6 +10,7 @@ use Rattle.room.specs.Room.{fits, fitted}
 use Rattle.rows.specs.Strides.{segmentStride, laneStride, zoneStride, spotStride, pointStride, checkpointStride, stopStride, exitStride}
 use Rattle.rows.specs.declared.FileRow.{FileRow}
 use Rattle.law.specs.Tables.{Lent, lent, zeros}
+use Rattle.grammar.specs.Editions.{Edition}
 use Rattle.progress.specs.declared.Progress.{Progress}
 use Rattle.progress.specs.After.{noProgress}
 use Rattle.walk.specs.Walking.{Found, fault, gathered}
@@ -106,5 +107,6 @@ from-filled text (gathered m) = judgedOf text m
 abbrev pub empty : Lent → Memory
 empty t = memory noProgress (zeros t .segments) (zeros t .lanes) (zeros t .zones) (zeros t .spots) (zeros t .points) (zeros t .checkpoints) (zeros t .stops) (zeros t .exits)
 
-unfoldable pub readOf : Bytes → Lent → Read
-readOf text t = from-filled text (filledIn text (empty t))
+-- by an edition
+unfoldable pub readOf : Edition → Bytes → Lent → Read
+readOf e text t = from-filled text (filledIn e text (empty t))

@@ -3,11 +3,12 @@ use Prim.Native.Nat.{ℕ, _≤_, _<_}
 use lib.ListN.{length}
 use Rattle.terms.specs.Ascii.{Bytes}
 use Rattle.line.specs.Content.{Field}
+use Rattle.grammar.specs.Editions.{Edition, march}
 use Rattle.grammar.specs.Network.{Network}
 use Rattle.grammar.specs.Tables.{tables}
 use Rattle.grammar.specs.References.{Sound}
-use Rattle.text.specs.Spelling.{SpellsRndf}
-use Rattle.form_faults.specs.FormFaults.{RndfBadLine, RndfUnended}
+use Rattle.text.specs.Spelling.{SpellsRndfIn}
+use Rattle.form_faults.specs.FormFaults.{RndfBadLineIn, RndfUnendedIn}
 use Rattle.fill.specs.Counts as F
 use Rattle.fill.specs.Counts.{sizes}
 use Rattle.fault_lines.specs.FaultLines.{FirstRndfFault}
@@ -19,19 +20,27 @@ pub use Rattle.refusal.specs.Size.{most}
 abbrev pub rows-used : F.Counts → Counts
 rows-used c = record { segments = c .segments; lanes = c .lanes; zones = c .zones; spots = c .spots; points = c .points; checkpoints = c .checkpoints; stops = c .stops; exits = c .exits }
 
+-- ## In each edition
 -- the text spells a network, within the size and the room, whose references are right
-pub record AcceptsRndf (text : Bytes) (lent : Lent) (n : Network Field) : Type 0 where
+pub record AcceptsRndfIn (e : Edition) (text : Bytes) (lent : Lent) (n : Network Field) : Type 0 where
   pub size : length text ≤ most
-  pub spelled : SpellsRndf n text
+  pub spelled : SpellsRndfIn e n text
   pub room : HasRoom (sizes (tables n)) lent
   pub sound : Sound n
 
 -- 01: "Order: for the RNDF 1; then the first line with a fault of 2 to 9, ..; then 10; 11; then the first line with 12 or 13."
-pub data RefusesRndf (text : Bytes) (lent : Lent) : (line number : ℕ) → Type 0 where
-  too-long : most < length text → RefusesRndf text lent 0 1
-  bad-line : {line number : ℕ} → length text ≤ most → RndfBadLine text line number → RefusesRndf text lent line number
-  unended : {line : ℕ} → length text ≤ most → RndfUnended text line → RefusesRndf text lent line 10
+pub data RefusesRndfIn (e : Edition) (text : Bytes) (lent : Lent) : (line number : ℕ) → Type 0 where
+  too-long : most < length text → RefusesRndfIn e text lent 0 1
+  bad-line : {line number : ℕ} → length text ≤ most → RndfBadLineIn e text line number → RefusesRndfIn e text lent line number
+  unended : {line : ℕ} → length text ≤ most → RndfUnendedIn e text line → RefusesRndfIn e text lent line 10
   -- 01: 11 "a table has fewer rows than needed"
-  no-room : (n : Network Field) → length text ≤ most → SpellsRndf n text → (HasRoom (sizes (tables n)) lent → ⊥) → RefusesRndf text lent 0 11
-  -- 01: 12 "entry is no declared lane waypoint or perimeter point", 13 "checkpoint number already declared"
-  bad-reference : (n : Network Field) {line number : ℕ} → length text ≤ most → SpellsRndf n text → HasRoom (sizes (tables n)) lent → FirstRndfFault n text line number → RefusesRndf text lent line number
+  no-room : (n : Network Field) → length text ≤ most → SpellsRndfIn e n text → (HasRoom (sizes (tables n)) lent → ⊥) → RefusesRndfIn e text lent 0 11
+  -- 01: 12 "entry is no declared lane waypoint or perimeter point", 13 "checkpoint number already declared". What an edition spells the present one spells, so the lines say the same in both
+  bad-reference : (n : Network Field) {line number : ℕ} → length text ≤ most → SpellsRndfIn e n text → HasRoom (sizes (tables n)) lent → FirstRndfFault n text line number → RefusesRndfIn e text lent line number
+
+-- in the present edition
+abbrev pub AcceptsRndf : Bytes → Lent → Network Field → Type 0
+AcceptsRndf = AcceptsRndfIn march
+
+abbrev pub RefusesRndf : Bytes → Lent → (line number : ℕ) → Type 0
+RefusesRndf = RefusesRndfIn march

@@ -1,11 +1,12 @@
-// An RNDF read into lent tables. They are cleared; it is walked once, line by line, each row stored where there is room (`network`); then it is seen whether there was room for all (11),
+// An RNDF read by an edition into lent tables. They are cleared; it is walked once, line by line, each row stored where there is room (`network`); then it is seen whether there was room for all (11),
 // the entries of exits are looked up and repeats sought (`references`, `marks`; 12 and 13, whose line is found again by `find_line`).
 // What a refusal leaves in the tables is cleared by the entry points (the crate `reader`).
 //
 // specs/Replies: what a text gets, over statements (replies/specs/Replies says it over lines). specs/Reading: the same, executable. proofs/Theorems: what is answered is so.
 //
-// Rests on `counts`, `refusal`, `room`, `network`, `references`, `marks`, `find_line`, `table_words`, `form_faults`, `fault_lines` and what they rest on.
+// Rests on `edition`, `counts`, `refusal`, `room`, `network`, `references`, `marks`, `find_line`, `table_words`, `form_faults`, `fault_lines` and what they rest on.
 use counts::Counts;
+use edition::Edition;
 use find_line::rndf_line;
 use marks::FirstRow;
 use marks::first_repeat;
@@ -29,6 +30,7 @@ use rows::STOP_STRIDE;
 use rows::ZONE_STRIDE;
 use statement::kinds;
 ghost use mathlib.Core.Path.{_≡_};
+ghost use Rattle.edition.specs.Editions.{inner};
 ghost use Rattle.network.specs.Storing.{memory};
 ghost use Rattle.law.specs.Tables.{lent};
 ghost use Rattle.network_reader.specs.Reading.{partsFit, marksFit, countsOf, faultLine, referred, referOf, answeredOf, outcome, judgedOf, readOf};
@@ -190,6 +192,7 @@ fn judge_rows(
 
 // The whole reader of an RNDF, but for the tables of a text that is refused: they are left as they are then.
 pub fn read_network(
+    edition: Edition,
     text: &[u8],
     segments: &mut [u32],
     lanes: &mut [u32],
@@ -200,7 +203,7 @@ pub fn read_network(
     stops: &mut [u32],
     exits: &mut [u32],
 ) -> NetworkReply
-    ensures { λ r. ⌜ outcome r (lent (now (segments .exit)) (now (lanes .exit)) (now (zones .exit)) (now (spots .exit)) (now (points .exit)) (now (checkpoints .exit)) (now (stops .exit)) (now (exits .exit))) ≡ readOf (now (text .entry)) (lent (now (segments .entry)) (now (lanes .entry)) (now (zones .entry)) (now (spots .entry)) (now (points .entry)) (now (checkpoints .entry)) (now (stops .entry)) (now (exits .entry))) ⌝ }
+    ensures { λ r. ⌜ outcome r (lent (now (segments .exit)) (now (lanes .exit)) (now (zones .exit)) (now (spots .exit)) (now (points .exit)) (now (checkpoints .exit)) (now (stops .exit)) (now (exits .exit))) ≡ readOf (inner edition) (now (text .entry)) (lent (now (segments .entry)) (now (lanes .entry)) (now (zones .entry)) (now (spots .entry)) (now (points .entry)) (now (checkpoints .entry)) (now (stops .entry)) (now (exits .entry))) ⌝ }
 {
     clear_tables(
         segments,
@@ -213,6 +216,7 @@ pub fn read_network(
         exits,
     );
     let filled = fill_lines(
+        edition,
         text,
         segments,
         lanes,

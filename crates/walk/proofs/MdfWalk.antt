@@ -35,7 +35,7 @@ use Rattle.walk.specs.Standing as Standing
 use Rattle.walk.specs.Standing.{Where, places-in}
 use Rattle.walk.specs.Walking.{Found, fault, gathered, walked}
 use Rattle.walk.proofs.Speaking.{is-some}
-use Rattle.walk.proofs.Walked.{answered, walk-answers, as-many}
+use Rattle.walk.proofs.Walked.{tied, answered, walk-answers, as-many}
 
 ended-is : (p : MissionPlace) → Sound p → overOf p ≡ isOver (mdf Field) mdf-lexis (absOf p)
 ended-is p h = go (overOf p) refl (absOf p) refl
@@ -55,8 +55,8 @@ module _ {T : Type 0} (put : Where → Order → T → T) (by-meaning : (w : Whe
   abbrev pub whole-walk : Found T
   whole-walk = walked mdf-judging put overOf firstPlace c 0 1 (linesOf text)
 
-  answers : whole-walk ≡ answered (mdf Field) mdf-lexis mdf-judging mdf-ties put overOf (λ w m. put w (written m)) by-meaning ended-is (places-in text) c (read-mdf text)
-  answers = walk-answers (mdf Field) mdf-lexis mdf-judging mdf-ties put overOf (λ w m. put w (written m)) by-meaning ended-is name-due firstPlace start-sound start-is c text
+  answers : whole-walk ≡ answered (mdf Field) mdf-lexis mdf-judging (tied (mdf Field) mdf-lexis mdf-judging mdf-ties) put overOf (λ w m. put w (written m)) by-meaning ended-is (places-in text) c (read-mdf text)
+  answers = walk-answers (mdf Field) mdf-lexis mdf-judging (tied (mdf Field) mdf-lexis mdf-judging mdf-ties) put overOf (λ w m. put w (written m)) by-meaning ended-is name-due firstPlace start-sound start-is c text
 
   -- all statements, each put where it stands; or the first fault with its line; or 10
   pub walk-read : (ts : List (G.Statement Field)) → read-mdf text ≡ read ts → whole-walk ≡ gathered (Standing.over (λ w t. put w (told-as t)) (places-in text) ts c)

@@ -35,9 +35,9 @@ use Rattle.walk.specs.Standing as Standing
 use Rattle.walk.specs.Standing.{Where, places-in}
 use Rattle.walk.specs.Walking.{Found, fault, gathered, walked}
 use Rattle.walk.proofs.Speaking.{is-some}
-use Rattle.walk.proofs.Walked.{answered, walk-answers, as-many}
+use Rattle.walk.proofs.Walked.{tied, answered, walk-answers, as-many}
 
-ended-is : (p : Place) → Sound p → overOf p ≡ isOver (rndf Field) rndf-lexis (absOf p)
+pub ended-is : (p : Place) → Sound p → overOf p ≡ isOver (rndf Field) rndf-lexis (absOf p)
 ended-is p h = go (overOf p) refl (absOf p) refl
   where
     go : (b : Bool) → overOf p ≡ b → (q : Stand Base) → absOf p ≡ q → b ≡ isOver (rndf Field) rndf-lexis q
@@ -55,8 +55,8 @@ module _ {T : Type 0} (put : Where → Statement → T → T) (by-meaning : (w :
   abbrev pub whole-walk : Found T
   whole-walk = walked rndf-judging put overOf firstPlace c 0 1 (linesOf text)
 
-  answers : whole-walk ≡ answered (rndf Field) rndf-lexis rndf-judging rndf-ties put overOf (λ w m. put w (written m)) by-meaning ended-is (places-in text) c (read-rndf text)
-  answers = walk-answers (rndf Field) rndf-lexis rndf-judging rndf-ties put overOf (λ w m. put w (written m)) by-meaning ended-is name-due firstPlace start-sound start-is c text
+  answers : whole-walk ≡ answered (rndf Field) rndf-lexis rndf-judging (tied (rndf Field) rndf-lexis rndf-judging rndf-ties) put overOf (λ w m. put w (written m)) by-meaning ended-is (places-in text) c (read-rndf text)
+  answers = walk-answers (rndf Field) rndf-lexis rndf-judging (tied (rndf Field) rndf-lexis rndf-judging rndf-ties) put overOf (λ w m. put w (written m)) by-meaning ended-is name-due firstPlace start-sound start-is c text
 
   -- all statements, each put where it stands; or the first fault with its line; or 10
   pub walk-read : (ts : List (G.Statement Field)) → read-rndf text ≡ read ts → whole-walk ≡ gathered (Standing.over (λ w t. put w (told-as t)) (places-in text) ts c)

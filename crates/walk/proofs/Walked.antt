@@ -18,15 +18,71 @@ use Rattle.text.specs.Answers.{Walk, stopped, through, Answer, faulty, short, r
 use Rattle.text.specs.Answers as A
 use Rattle.made_out.specs.Names.{told-as}
 use Rattle.judge.specs.Judging.{Got, bad, blank, said, Judging, line}
-use Rattle.judge.proofs.Judged.{Ties, view, renamed, line-is, SoundGot, line-sound}
+use Rattle.judge.proofs.Judged as Judged
+use Rattle.judge.proofs.Judged.{Ties, view, line-is, line-sound}
 use Rattle.walk.specs.Standing.{Where, place, speaks, if-speaking, standing, places-in, over}
 use Rattle.walk.specs.Walking.{Found, fault, gathered, onward, walked}
 use Rattle.walk.proofs.Speaking.{is-some, speaks-is}
 
-module _ {L : Lang} (M : Machine L) (X : Lexis L) (J : Judging) (C : Ties M X J) {G : Type 0} (put : Where → J .St → G → G) (ended : J .Pl → Bool) (adds : Where → C .Mean → G → G)
+-- ## What is to be known of a program's lines
+module _ {L : Lang} (M : Machine L) (X : Lexis L) (J : Judging) where
+  open Judging J using (St, Pl)
+
+  -- what the program says, by its meaning; what `text` says, names by their places
+  abbrev pub viewed : {Mean : Type 0} → (St → Mean) → (Pl → Place M) → Pl → Got St Pl → Verdict Mean (Place M)
+  viewed meant abs p (bad n) = T.fault n
+  viewed meant abs p blank = good none (abs p)
+  viewed meant abs p (said s q) = good (some (meant s)) (abs q)
+
+  abbrev pub renamed : {Mean : Type 0} → (S L → Mean) → Verdict (S L) (Place M) → Verdict Mean (Place M)
+  renamed moved (T.fault n) = T.fault n
+  renamed moved (good o q) = good (told-as moved o) q
+
+  abbrev pub SoundGot : (Pl → Type 0) → Got St Pl → Type 0
+  SoundGot Sound (bad n) = Unit {0}
+  SoundGot Sound blank = Unit {0}
+  SoundGot Sound (said s q) = Sound q
+
+  -- at a sound place it says of a line what `text` says, and the next place is sound
+  pub record Tells : Type 1 where
+    pub Mean : Type 0
+    pub meant : St → Mean
+    pub moved : S L → Mean
+    pub abs : Pl → Place M
+    pub Sound : Pl → Type 0
+    pub line-told : (p : Pl) → Sound p → (base : ℕ) (s : Bytes) → viewed meant abs p (line J s base p) ≡ renamed moved (judge M X (abs p) base s)
+    pub line-stays : (p : Pl) → Sound p → (base : ℕ) (s : Bytes) → SoundGot Sound (line J s base p)
+
+  -- so does a program that tells kinds, fields, statements and places as the machine does
+  module _ (C : Ties M X J) where
+    view-is : (p : Pl) (g : Got St Pl) → viewed (C .meant) (C .abs) p g ≡ view M X J C p g
+    view-is p (bad n) = refl
+    view-is p blank = refl
+    view-is p (said s q) = refl
+
+    renamed-is : (v : Verdict (S L) (Place M)) → Judged.renamed M X J C v ≡ renamed (C .moved) v
+    renamed-is (T.fault n) = refl
+    renamed-is (good o q) = refl
+
+    sound-is : (g : Got St Pl) → Judged.SoundGot M X J C g → SoundGot (C .Sound) g
+    sound-is (bad n) h = tt
+    sound-is blank h = tt
+    sound-is (said s q) h = h
+
+    pub tied-told : (p : Pl) → C .Sound p → (base : ℕ) (s : Bytes) → viewed (C .meant) (C .abs) p (line J s base p) ≡ renamed (C .moved) (judge M X (C .abs p) base s)
+    tied-told p h base s = view-is p (line J s base p) ∙ line-is M X J C p h base s ∙ renamed-is (judge M X (C .abs p) base s)
+
+    pub tied-stays : (p : Pl) → C .Sound p → (base : ℕ) (s : Bytes) → SoundGot (C .Sound) (line J s base p)
+    tied-stays p h base s = sound-is (line J s base p) (line-sound M X J C p h base s)
+
+    abbrev pub tied : Tells
+    tied = record { Mean = C .Mean; meant = C .meant; moved = C .moved; abs = C .abs; Sound = C .Sound; line-told = tied-told; line-stays = tied-stays }
+
+-- ## The walk
+module _ {L : Lang} (M : Machine L) (X : Lexis L) (J : Judging) (C : Tells M X J) {G : Type 0} (put : Where → J .St → G → G) (ended : J .Pl → Bool) (adds : Where → C .Mean → G → G)
     (put-is : (w : Where) (s : J .St) (c : G) → put w s c ≡ adds w (C .meant s) c) (ended-is : (p : J .Pl) → C .Sound p → ended p ≡ isOver M X (C .abs p)) where
   open Judging J using (St, Pl)
-  open Ties C using (Mean, meant, moved, abs, Sound)
+  open Tells C using (Mean, meant, moved, abs, Sound, line-told, line-stays)
 
   -- gathered over statements, each where it stands
   abbrev pub over-all : List Where → List (S L) → G → G
@@ -73,7 +129,7 @@ module _ {L : Lang} (M : Machine L) (X : Lexis L) (J : Judging) (C : Ties M X J)
   added-is w none c = refl
   added-is w (some t) c = refl
 
-  one-line : (last : ℕ) (w : Where) (b : Bool) (ws : List Where) (p : Pl) (c : G) (g : Got St Pl) (v : Verdict (S L) (Place M)) → Sound p → SoundGot M X J C g → view M X J C p g ≡ renamed M X J C v
+  one-line : (last : ℕ) (w : Where) (b : Bool) (ws : List Where) (p : Pl) (c : G) (g : Got St Pl) (v : Verdict (S L) (Place M)) → Sound p → SoundGot M X J Sound g → viewed M X J meant abs p g ≡ renamed M X J moved v
       → ((o : Option (S L)) (q : Place M) → v ≡ good o q → b ≡ is-some o)
       → (k : Pl → G → Found G) (n : Place M → Walk (S L) (Place M)) → ((q : Pl) (d : G) → Sound q → k q d ≡ outcome last ws d (n (abs q)))
       → onward J put ended w p c g k ≡ outcome last (if-speaking b w ws) c (A.onward M X (w .line) v n)
@@ -98,7 +154,7 @@ module _ {L : Lang} (M : Machine L) (X : Lexis L) (J : Judging) (C : Ties M X J)
   unfolding walked walk standing over
   walked-is [] p h c start i = rw (ended-is p h, add-zero i)
   walked-is (l ∷ ls) p h c start i =
-      one-line (i + suc (length ls)) (place start i) (speaks start l) (standing (start + suc (length l)) (suc i) ls) p c (line J l start p) (judge M X (abs p) start l) h (line-sound M X J C p h start l) (line-is M X J C p h start l)
+      one-line (i + suc (length ls)) (place start i) (speaks start l) (standing (start + suc (length l)) (suc i) ls) p c (line J l start p) (judge M X (abs p) start l) h (line-stays p h start l) (line-told p h start l)
       (λ o q e. speaks-is M X (abs p) q start l o e)
       (λ q d. walked J put ended q d (start + suc (length l)) (suc i) ls) (λ q. walk M X q (start + suc (length l)) (suc i) ls)
       (λ q d y. walked-is ls q y d (start + suc (length l)) (suc i)

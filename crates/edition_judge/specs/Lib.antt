@@ -1,0 +1,2 @@
+-- What a line gets in an edition.
+pub mod EditionLine

@@ -1,0 +1,50 @@
+// What a line of an RNDF gets in an edition of the format (request L10): what it gets in the present one; but in the older one, a line that says what that edition does not have gets 8
+// (`solid_yellow`) or 9 (0 spots) for it. One test of the statement that the judge of the present edition made out, so that neither places nor fields know an edition, a text is walked once
+// in each, and the present one pays a comparison a line. A function that judges the line and then tests cost a tenth of the reading: what a line gets was copied once more.
+//
+// specs/EditionLine: the same, executable. proofs/: Lines: it is the line of `judging-in`; Told: it is what `text` says of the line in that edition; EditionWalk: a walk by it finds what
+// `text` answers in that edition, and what is gathered in an edition is gathered in the present one.
+//
+// Rests on `edition`, `editions`, `judge`, `walk` and what they rest on.
+use edition::Edition;
+use statement::Statement;
+ghost use mathlib.Core.Path.{_≡_};
+ghost use Rattle.grammar.specs.Editions.{december};
+ghost use Rattle.edition.specs.Editions.{inner};
+ghost use Rattle.edition_judge.specs.EditionLine.{sideBars, spotsBar, barsOf};
+
+// 8 for the second boundary, `solid_yellow`.
+fn side_bars(boundary: u8) -> u8
+    ensures { λ r. ⌜ r ≡ sideBars boundary ⌝ }
+{
+    if boundary == 2 { 8 } else { 0 }
+}
+
+// 9 for no spots.
+fn spots_bar(count: u32) -> u8
+    ensures { λ r. ⌜ r ≡ spotsBar count ⌝ }
+{
+    if count == 0 { 9 } else { 0 }
+}
+
+// The number for a statement that the older edition does not have, or 0.
+fn bars(s: Statement) -> u8
+    ensures { λ r. ⌜ r ≡ barsOf december s ⌝ }
+{
+    match s {
+        Statement::LeftBoundary(b) => side_bars(b),
+        Statement::RightBoundary(b) => side_bars(b),
+        Statement::NumSpots(n) => spots_bar(n),
+        _ => 0,
+    }
+}
+
+// The number for a statement that the edition does not have, or 0. The present one has every statement.
+pub fn barred(edition: Edition, s: Statement) -> u8
+    ensures { λ r. ⌜ r ≡ barsOf (inner edition) s ⌝ }
+{
+    match edition {
+        Edition::March2007 => 0,
+        Edition::December2006 => bars(s),
+    }
+}

@@ -1,0 +1,4 @@
+pub mod Steps
+pub mod Barred
+pub mod Later
+pub mod Columns

@@ -1,0 +1,2 @@
+-- What an edition refuses beside the present one.
+pub mod Bars
