@@ -8,8 +8,8 @@
  * a program without a C library has to bring its own. tests/callers/caller.c is a whole caller, tests/callers/caller.rs the same in Rust; tests/callers.sh builds and runs both. The header and the library belong together: build both from the same commit.
  *
  * What it does
- *   It reads the text of a route network (RNDF) and of a mission (MDF) in the format of March 14, 2007 as document 01 narrows it, and either fills the tables that you lend and
- *   accepts, or refuses with file, line, one number and the column in that line. It also puts the house writing of either file, or a map of the network, into an output that you lend, and tells whether a
+ *   It reads the text of a route network (RNDF) and of a mission (MDF) in the format of March 14, 2007, or in its edition of December 6, 2006, as document 01 narrows it, and either fills
+ *   the tables that you lend and accepts, or refuses with file, line, one number and the column in that line. It also puts the house writing of either file, or a map of the network, into an output that you lend, and tells whether a
  *   route is drivable. That it does so for all texts, all tables, all outputs and all routes is proved of its source (crates/yard, crates/replies/specs/Replies.antt,
  *   crates/writings/specs/Writes.antt, crates/pair_checks/specs/Checks.antt); the compiler, the declarations below and your calls are not part of that proof.
  *
@@ -44,6 +44,16 @@ extern "C" {
 
 /* A longer text is refusal 1. */
 #define KASTEPUHM_LONGEST_TEXT 16777215u
+
+/*
+ * The edition of the format, the first argument of every function that takes a text. In that of December 6, 2006 `solid_yellow` is no boundary (refusal 8 there) and a zone has at least
+ * one spot (refusal 9 for num_spots 0); all else is read by the present rules, and what it accepts, the present one accepts with the same tables. Any number but
+ * KASTEPUHM_DECEMBER_2006 is the present edition. An MDF reads alike in both.
+ */
+enum {
+    KASTEPUHM_MARCH_2007 = 0,          /* the present one */
+    KASTEPUHM_DECEMBER_2006 = 1
+};
 
 /*
  * The tables. A table is a slice of numbers, so many to a row (its stride), rows one behind the other in file order: column c of row i is table[i * STRIDE + c]. Rows are counted
@@ -216,6 +226,7 @@ enum {
 
 /* An RNDF alone. */
 kastepuhm_answer kastepuhm_read_rndf(
+    uint32_t edition,
     const uint8_t *text, size_t text_length,
     uint32_t *segments, size_t segments_length,
     uint32_t *lanes, size_t lanes_length,
@@ -228,6 +239,7 @@ kastepuhm_answer kastepuhm_read_rndf(
 
 /* An RNDF with its MDF. */
 kastepuhm_answer kastepuhm_read_pair(
+    uint32_t edition,
     const uint8_t *rndf, size_t rndf_length,
     const uint8_t *mdf, size_t mdf_length,
     uint32_t *segments, size_t segments_length,
@@ -255,6 +267,7 @@ kastepuhm_answer kastepuhm_read_pair(
  * goals times the checkpoints, and for each step to the logarithm of the lanes, zones and exits and to the exits of the part (lane or zone) that the step begins in.
  */
 kastepuhm_answer kastepuhm_check_route(
+    uint32_t edition,
     const uint8_t *rndf, size_t rndf_length,
     const uint8_t *mdf, size_t mdf_length,
     uint32_t *segments, size_t segments_length,
@@ -292,6 +305,7 @@ typedef struct kastepuhm_write_answer {
 
 /* The house writing of an RNDF. */
 kastepuhm_write_answer kastepuhm_write_rndf(
+    uint32_t edition,
     const uint8_t *text, size_t text_length,
     uint32_t *segments, size_t segments_length,
     uint32_t *lanes, size_t lanes_length,
@@ -308,6 +322,7 @@ kastepuhm_write_answer kastepuhm_write_rndf(
  * as properties. docs/GEOJSON.md lays its bytes down. It has no line feed and no space, and ends with `}`.
  */
 kastepuhm_write_answer kastepuhm_write_map(
+    uint32_t edition,
     const uint8_t *text, size_t text_length,
     uint32_t *segments, size_t segments_length,
     uint32_t *lanes, size_t lanes_length,
@@ -321,6 +336,7 @@ kastepuhm_write_answer kastepuhm_write_map(
 
 /* The house writing of the MDF of a pair. The RNDF is read too, and not written. */
 kastepuhm_write_answer kastepuhm_write_mdf(
+    uint32_t edition,
     const uint8_t *rndf, size_t rndf_length,
     const uint8_t *mdf, size_t mdf_length,
     uint32_t *segments, size_t segments_length,

@@ -5,20 +5,22 @@ use mathlib.Core.List.{List}
 use Prim.Native.Nat.{ℕ}
 use Rattle.terms.specs.Ascii.{Bytes}
 use Rattle.law.specs.Tables.{Lent, MissionLent}
+use Rattle.edition.specs.declared.Edition.{Edition}
+use Rattle.edition.specs.Editions.{inner}
 use Rattle.pair_checks.proofs.RouteSettled.{route-settled, route-some}
 use Rattle.answer_fields.specs.declared.Answer.{Answer}
 use Rattle.answer_fields.specs.Answers.{pair-answer, AnswersRoute}
 
-module _ (start : ℕ) (route : List ℕ) (rndf mdf : Bytes) (t : Lent) (u : MissionLent) where
+module _ (e : Edition) (start : ℕ) (route : List ℕ) (rndf mdf : Bytes) (t : Lent) (u : MissionLent) where
   -- no second answer, and no second memory
-  pub route-answer-settled : (a a′ : Answer) (l l′ : Lent) (k k′ : MissionLent) → AnswersRoute start route rndf mdf t u a l k → AnswersRoute start route rndf mdf t u a′ l′ k′
+  pub route-answer-settled : (a a′ : Answer) (l l′ : Lent) (k k′ : MissionLent) → AnswersRoute e start route rndf mdf t u a l k → AnswersRoute e start route rndf mdf t u a′ l′ k′
       → (a ≡ a′) × (l ≡ l′) × (k ≡ k′)
   route-answer-settled a a′ l l′ k k′ x y =
-      let same = route-settled start route rndf mdf t u (x .reply) (y .reply) l l′ k k′ (x .checks) (y .checks) in
+      let same = route-settled (inner e) start route rndf mdf t u (x .reply) (y .reply) l l′ k k′ (x .checks) (y .checks) in
       (x .told ∙ ap pair-answer (same .0) ∙ sym (y .told), same .1, same .2)
 
   -- one there is
-  pub route-answer-some : (a : Answer) × (l : Lent) × (k : MissionLent) × AnswersRoute start route rndf mdf t u a l k
+  pub route-answer-some : (a : Answer) × (l : Lent) × (k : MissionLent) × AnswersRoute e start route rndf mdf t u a l k
   route-answer-some =
-      let x = route-some start route rndf mdf t u in
+      let x = route-some (inner e) start route rndf mdf t u in
       (pair-answer (x .reply), x .left, x .mission-left, record { reply = x .reply; checks = x .judged; told = refl })

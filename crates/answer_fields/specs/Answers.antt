@@ -4,7 +4,9 @@ use mathlib.Core.List.{List}
 use Prim.Native.Nat.{ℕ}
 use Rattle.terms.specs.Ascii.{Bytes}
 use Rattle.line.specs.Line.{Field}
-use Rattle.law.specs.Network.{Network, present}
+use Rattle.law.specs.Network.{Network}
+use Rattle.edition.specs.declared.Edition.{Edition}
+use Rattle.edition.specs.Editions.{rules-of}
 use Rattle.law.specs.Tables.{Lent, MissionLent}
 use Rattle.rows.specs.Read.{stretchOf}
 use Rattle.rows.specs.declared.Stretch.{Stretch}
@@ -101,42 +103,42 @@ abbrev pub write-mdf-answer : WriteMdfReply → WriteAnswer
 write-mdf-answer (WriteMdf.Written c f m g n) = record { answer = taken c f m g; length = n }
 write-mdf-answer (WriteMdf.Refused x) = record { answer = refused x; length = 0 }
 
--- ## An RNDF alone: what is answered are the fields of the reply, and that reply and what is left in the lent tables are as the reader promises. t: these tables as they were lent
-pub record AnswersRndf (text : Bytes) (t : Lent) (given : Answer) (left : Lent) : Type 0 where
+-- ## An RNDF alone: what is answered are the fields of the reply, and that reply and what is left in the lent tables are as the reader promises. t: these tables as they were lent. L10: "The caller says which edition."
+pub record AnswersRndf (edition : Edition) (text : Bytes) (t : Lent) (given : Answer) (left : Lent) : Type 0 where
   pub reply : RndfReply
-  pub reads : ReadsRndf present text t reply left
+  pub reads : ReadsRndf (rules-of edition) text t reply left
   pub told : given ≡ rndf-answer reply
 
 -- ## An RNDF with its MDF. u: the goals and limits as they were lent
-pub record AnswersPair (rndf mdf : Bytes) (t : Lent) (u : MissionLent) (given : Answer) (left : Lent) (mission-left : MissionLent) : Type 0 where
+pub record AnswersPair (edition : Edition) (rndf mdf : Bytes) (t : Lent) (u : MissionLent) (given : Answer) (left : Lent) (mission-left : MissionLent) : Type 0 where
   pub reply : PairReply
-  pub reads : ReadsPair present rndf mdf t u reply left mission-left
+  pub reads : ReadsPair (rules-of edition) rndf mdf t u reply left mission-left
   pub told : given ≡ pair-answer reply
 
 -- ## A route, of an RNDF with its MDF. Request L5. start: the row of its first point; route: the rows of its points
-pub record AnswersRoute (start : ℕ) (route : List ℕ) (rndf mdf : Bytes) (t : Lent) (u : MissionLent) (given : Answer) (left : Lent) (mission-left : MissionLent) : Type 0 where
+pub record AnswersRoute (edition : Edition) (start : ℕ) (route : List ℕ) (rndf mdf : Bytes) (t : Lent) (u : MissionLent) (given : Answer) (left : Lent) (mission-left : MissionLent) : Type 0 where
   pub reply : PairReply
-  pub checks : ChecksRoute present start route rndf mdf t u reply left mission-left
+  pub checks : ChecksRoute (rules-of edition) start route rndf mdf t u reply left mission-left
   pub told : given ≡ pair-answer reply
 
 -- ## Any writing of an RNDF's network: the fields of the writer's reply, and the tables and the output as it promises. lent: the length of that output
-pub record AnswersWrite (Writing : Network Field → Bytes → Type 0) (text : Bytes) (t : Lent) (lent : ℕ) (given : WriteAnswer) (left : Lent) (out : Bytes) : Type 0 where
+pub record AnswersWrite (edition : Edition) (Writing : Network Field → Bytes → Type 0) (text : Bytes) (t : Lent) (lent : ℕ) (given : WriteAnswer) (left : Lent) (out : Bytes) : Type 0 where
   pub reply : WriteReply
-  pub writes : Writes present Writing text t lent reply left out
+  pub writes : Writes (rules-of edition) Writing text t lent reply left out
   pub told : given ≡ write-answer reply
 
 -- its house writing
-abbrev pub AnswersWriteRndf : (text : Bytes) → Lent → (lent : ℕ) → WriteAnswer → (left : Lent) → (out : Bytes) → Type 0
-AnswersWriteRndf = AnswersWrite HouseRndf
+abbrev pub AnswersWriteRndf : Edition → (text : Bytes) → Lent → (lent : ℕ) → WriteAnswer → (left : Lent) → (out : Bytes) → Type 0
+AnswersWriteRndf edition = AnswersWrite edition HouseRndf
 
 -- its map. Request L2
-abbrev pub AnswersWriteMap : (text : Bytes) → Lent → (lent : ℕ) → WriteAnswer → (left : Lent) → (out : Bytes) → Type 0
-AnswersWriteMap = AnswersWrite MapOf
+abbrev pub AnswersWriteMap : Edition → (text : Bytes) → Lent → (lent : ℕ) → WriteAnswer → (left : Lent) → (out : Bytes) → Type 0
+AnswersWriteMap edition = AnswersWrite edition MapOf
 
 -- ## The house writing of the MDF of a pair
-pub record AnswersWriteMdf (rndf mdf : Bytes) (t : Lent) (u : MissionLent) (lent : ℕ) (given : WriteAnswer) (left : Lent) (mission-left : MissionLent) (out : Bytes) : Type 0 where
+pub record AnswersWriteMdf (edition : Edition) (rndf mdf : Bytes) (t : Lent) (u : MissionLent) (lent : ℕ) (given : WriteAnswer) (left : Lent) (mission-left : MissionLent) (out : Bytes) : Type 0 where
   pub reply : WriteMdfReply
-  pub writes : WritesMdf present rndf mdf t u lent reply left mission-left out
+  pub writes : WritesMdf (rules-of edition) rndf mdf t u lent reply left mission-left out
   pub told : given ≡ write-mdf-answer reply
 
 -- ## The look-up of a list of checkpoint numbers. Request L4. t: the table; numbers: the list; lent: the length of the lent list of points; left: what it then holds

@@ -7,14 +7,14 @@ use Rattle.word.specs.Keywords.{rndf-keywords}
 use Rattle.word.specs.Number.{indexOf}
 use Rattle.grammar.specs.Statements as R
 use Rattle.grammar.specs.MissionStatements as M
-use Rattle.text.specs.RndfLines.{rndf-line}
+use Rattle.text.specs.RndfLines.{rndf-line-in, rndf-line}
 use Rattle.text.specs.MdfLines.{mdf-line}
 use Rattle.house_lines.specs.Arranged.{ranks}
 use Rattle.house_arranged.specs.Ranks.{rndf-rank, mdf-rank}
 use Rattle.house_arranged.proofs.WrittenLines.{Shape}
 
 pub rndf-shapes : (k : R.Kind) (v : R.Says Field k) → Shape (rndf-rank k) (rndf-line k v)
-unfolding rndf-line ascii begins sameBytes indexOf rndf-keywords ranks
+unfolding rndf-line-in ascii begins sameBytes indexOf rndf-keywords ranks
 rndf-shapes R.RNDF-name v = (refl, refl, tt)
 rndf-shapes R.num-segments v = (refl, refl, tt)
 rndf-shapes R.num-zones v = (refl, refl, tt)

@@ -29,7 +29,7 @@ Plain (integer n) = Unit {0}
 Plain (pair i) = Unit {0}
 Plain (triple i) = Unit {0}
 Plain (coordinate z) = ⊥
-Plain (boundary b) = Unit {0}
+Plain (boundary d b) = Unit {0}
 
 pub plain-field : (f : Field) (s : Said) → Plain s → SpellsField f s → f .bytes ≡ house-field s
 unfolding house-field
@@ -39,7 +39,7 @@ plain-field f (integer n) p h = house-integer-one n (f .bytes) h
 plain-field f (pair i) p h = house-pair-one (i .m) (i .n) (f .bytes) h
 plain-field f (triple i) p h = house-triple-one (i .x) (i .y) (i .z) (f .bytes) h
 plain-field f (coordinate z) p h = absurd p
-plain-field f (boundary b) p h = h .word
+plain-field f (boundary d b) p h = h .0 .word
 
 -- ## On a line that begins with a digit
 -- what begins with a digit
@@ -50,7 +50,7 @@ Digits (integer n) = Unit {0}
 Digits (pair i) = Unit {0}
 Digits (triple i) = Unit {0}
 Digits (coordinate z) = ⊥
-Digits (boundary b) = ⊥
+Digits (boundary d b) = ⊥
 
 pub digits-first : (f : Field) (s : Said) → Digits s → SpellsField f s → digit-first (f .bytes) ≡ true
 digits-first f (word w) d h = absurd d
@@ -59,7 +59,7 @@ digits-first f (integer n) d h = integer-first (f .bytes) n h
 digits-first f (pair i) d h = pair-first (f .bytes) (i .m) (i .n) h
 digits-first f (triple i) d h = triple-first (f .bytes) (i .x) (i .y) (i .z) h
 digits-first f (coordinate z) d h = absurd d
-digits-first f (boundary b) d h = absurd d
+digits-first f (boundary e b) d h = absurd d
 
 -- these and coordinates
 abbrev pub Number : Said → Type 0
@@ -69,7 +69,7 @@ Number (integer n) = Unit {0}
 Number (pair i) = Unit {0}
 Number (triple i) = Unit {0}
 Number (coordinate z) = Unit {0}
-Number (boundary b) = ⊥
+Number (boundary d b) = ⊥
 
 kept : (f : Bytes) → (f ≡ ascii "-0.000000" → ⊥) → mend f ≡ f
 unfolding mend
@@ -97,7 +97,7 @@ mend-field f (integer k) n h = kept-digit (f .bytes) (integer-first (f .bytes) k
 mend-field f (pair i) n h = kept-digit (f .bytes) (pair-first (f .bytes) (i .m) (i .n) h) ∙ house-pair-one (i .m) (i .n) (f .bytes) h
 mend-field f (triple i) n h = kept-digit (f .bytes) (triple-first (f .bytes) (i .x) (i .y) (i .z) h) ∙ house-triple-one (i .x) (i .y) (i .z) (f .bytes) h
 mend-field f (coordinate z) n h = mend-coordinate (f .bytes) z h
-mend-field f (boundary b) n h = absurd n
+mend-field f (boundary d b) n h = absurd n
 
 -- ## Fields one for one
 pub plain-fields : (fs : List Field) (said : List Said) → Each Plain said → SpellFields fs said → map (λ (f : Field). f .bytes) fs ≡ map house-field said

@@ -79,7 +79,7 @@ Shape rank (integer n ∷ said) = (0 ≡ rank) × Few Number said
 Shape rank (pair i ∷ said) = (0 ≡ rank) × Few Number said
 Shape rank (triple i ∷ said) = (0 ≡ rank) × Few Number said
 Shape rank (coordinate z ∷ said) = ⊥
-Shape rank (boundary b ∷ said) = ⊥
+Shape rank (boundary d b ∷ said) = ⊥
 
 -- one of the two
 data View (rank : ℕ) : List Said → Type 0 where
@@ -94,7 +94,7 @@ view rank (integer n ∷ said) h = numbered (h .0) tt tt (h .1)
 view rank (pair i ∷ said) h = numbered (h .0) tt tt (h .1)
 view rank (triple i ∷ said) h = numbered (h .0) tt tt (h .1)
 view rank (coordinate z ∷ said) h = absurd h
-view rank (boundary b ∷ said) h = absurd h
+view rank (boundary d b ∷ said) h = absurd h
 
 -- ## A line that begins with a digit stays where it is
 digit-rank : (f : Bytes) → digit-first f ≡ true → word-rank f ≡ 0

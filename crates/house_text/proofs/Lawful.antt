@@ -30,7 +30,7 @@ field-same (Old.integer n) = refl
 field-same (Old.pair i) = append-assoc (decimal (i .m)) (ascii ".") (decimal (i .n))
 field-same (Old.triple i) = five (decimal (i .x)) (ascii ".") (decimal (i .y)) (ascii ".") (decimal (i .z))
 field-same (Old.coordinate z) = refl
-field-same (Old.boundary b) = same-word b
+field-same (Old.boundary d b) = same-word b
 
 fields-same : (l : List Old.Said) → map Old-house.house-field l ≡ map house-field (map said-of l)
 fields-same [] = refl

@@ -11,7 +11,7 @@ use Rattle.grammar.specs.MissionStatements as M
 use Rattle.grammar.specs.Renamed.{says-named, statement-named, orders-named, order-named}
 use Rattle.text.specs.Said.{Said}
 use Rattle.text.specs.HouseLine.{house-field, house-line}
-use Rattle.text.specs.RndfLines.{rndf-line}
+use Rattle.text.specs.RndfLines.{rndf-line-in, rndf-line}
 use Rattle.text.specs.MdfLines.{mdf-line}
 use Rattle.text.specs.Spelling.{Name, bytes, bytes-of}
 use Rattle.text.proofs.HouseLines.{placed}
@@ -33,7 +33,7 @@ back (bytes b) = at 0 b
 
 -- ## RNDF
 rndf-moves : (a : ℕ) (k : Kind) (v : Says Field k) → rndf-line k (says-named (second a (rndf-line k v)) k v) ≡ placed a (rndf-line k v)
-unfolding rndf-line house-field
+unfolding rndf-line-in house-field
 rndf-moves a RNDF-name v = refl
 rndf-moves a num-segments v = refl
 rndf-moves a num-zones v = refl
@@ -66,7 +66,7 @@ rndf-moves a end-file v = refl
 rndf-moves a point v = refl
 
 rndf-few : (k : Kind) (v : Says Field k) → length (rndf-line k v) ≤ 3
-unfolding rndf-line
+unfolding rndf-line-in
 rndf-few RNDF-name v = omega arith
 rndf-few num-segments v = omega arith
 rndf-few num-zones v = omega arith
@@ -141,7 +141,7 @@ rndf-relocated a (s ∷ said) = ap₂ (λ (v : Says Name (s .kind)) (l : List (S
 
 -- what is written are its names' bytes
 rndf-line-kept : (k : Kind) (v : Says Field k) → house-line (rndf-line k (says-named back k (says-named bytes-of k v))) ≡ house-line (rndf-line k v)
-unfolding rndf-line house-field
+unfolding rndf-line-in house-field
 rndf-line-kept RNDF-name v = refl
 rndf-line-kept num-segments v = refl
 rndf-line-kept num-zones v = refl

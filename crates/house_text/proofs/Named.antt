@@ -16,7 +16,7 @@ use Rattle.grammar.specs.Mission.{Mission, SpellsMission}
 use Rattle.grammar.proofs.LanguageLaws.{as-inv, all-some, all-none}
 use Rattle.grammar.proofs.Rows.{each-front, each-behind}
 use Rattle.text.specs.Said.{Said, word, name, integer, pair, triple, coordinate, boundary, SpellsField, SpellFields}
-use Rattle.text.specs.RndfLines.{rndf-line}
+use Rattle.text.specs.RndfLines.{rndf-line-in, rndf-line}
 use Rattle.text.specs.MdfLines.{mdf-line}
 use Rattle.text.specs.Spelling.{SpellsLine, says, SpellsLines, done, blank-line, statement, SpellsRndf, SpellsMdf}
 use Rattle.house_text.specs.Names.{IsName, NetworkNames, MissionNames}
@@ -29,7 +29,7 @@ Told (integer n) = Unit {0}
 Told (pair i) = Unit {0}
 Told (triple i) = Unit {0}
 Told (coordinate z) = Unit {0}
-Told (boundary b) = Unit {0}
+Told (boundary d b) = Unit {0}
 
 told-by : (f : Field) (s : Said) → IsField (f .bytes) → SpellsField f s → Told s
 told-by f (word w) i h = tt
@@ -38,7 +38,7 @@ told-by f (integer n) i h = tt
 told-by f (pair p) i h = tt
 told-by f (triple p) i h = tt
 told-by f (coordinate z) i h = tt
-told-by f (boundary b) i h = tt
+told-by f (boundary d b) i h = tt
 
 told-all : (fs : List Field) (said : List Said) → Each (λ f. IsField (f .bytes)) fs → SpellFields fs said → Each Told said
 told-all [] [] i h = tt
@@ -80,19 +80,19 @@ abbrev Q : Statement Field → Type 0
 Q = TellsNames rndf-line
 
 segment-names : (i : ℕ) (a : Segment Field) (l : List (Statement Field)) → SpellsSegment i a l → Each Q l → Each IsName (perhaps (a .name))
-unfolding rndf-line
+unfolding rndf-line-in
 segment-names i a l s h =
     let e = subst (Each Q) (s .spelled) h in
     option-each (lines Field) Q segment-name IsName (λ v q. q .1 .0) (s .options) (perhaps (a .name)) (s .given .name) (each-front Q (s .options) _ (e .1 .1))
 
 zone-names : (i : ℕ) (a : Zone Field) (l : List (Statement Field)) → SpellsZone i a l → Each Q l → Each IsName (perhaps (a .name))
-unfolding rndf-line
+unfolding rndf-line-in
 zone-names i a l s h =
     let e = subst (Each Q) (s .spelled) h in
     option-each (lines Field) Q zone-name IsName (λ v q. q .1 .0) (s .options) (perhaps (a .name)) (s .given .name) (each-front Q (s .options) _ (e .1 .1))
 
 network-names : (n : Network Field) (l : List (Statement Field)) → SpellsNetwork n l → Each Q l → NetworkNames n
-unfolding rndf-line
+unfolding rndf-line-in
 network-names n l s h =
     let e = subst (Each Q) (s .spelled) h in
     let os = each-front Q (s .options) _ (e .1 .1 .1) in

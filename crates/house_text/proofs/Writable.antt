@@ -1,4 +1,5 @@
 -- Every statement of a network, or of a mission, that keeps the ranges and whose names are names can be written. Assumes nothing.
+use mathlib.Core.Path.{refl}
 use mathlib.Core.List.{List, [], _∷_, _++_, map}
 use Prim.Native.Nat.{ℕ, suc, _+_, _≤_}
 use native.Mathlib.Omega.{arith}
@@ -14,7 +15,7 @@ use Rattle.grammar.specs.Network.{largest, Checkpoint, Exit, Lane, Segment, Per
 use Rattle.grammar.specs.Mission.{Mission, GoodLimit, GoodMission}
 use Rattle.grammar.specs.HouseOrder.{GoodSegment, GoodZone, GoodNetwork, in-turn, lane-options, house-lane, segment-options, house-segment, perimeter-options, house-perimeter, spot-options, house-spot, zone-options, house-zone, file-options, house-network, mission-options, house-mission}
 use Rattle.grammar.proofs.Rows.{each-of-map, each-both}
-use Rattle.text.specs.RndfLines.{rndf-line}
+use Rattle.text.specs.RndfLines.{rndf-line-in, rndf-line}
 use Rattle.text.specs.MdfLines.{mdf-line}
 use Rattle.text.proofs.RndfText.{kw}
 use Rattle.text.proofs.MdfText.{kw as kw-m}
@@ -77,7 +78,7 @@ InRange end-file v = Unit {0}
 InRange point p = ((p .id .x ≤ 99999) × (p .id .y ≤ 99999) × (p .id .z ≤ 99999)) × (natAbs (p .position .latitude) ≤ 999999999) × (natAbs (p .position .longitude) ≤ 999999999)
 
 in-range : (k : Kind) (v : Says Field k) → InRange k v → CanWrite rndf-line (say k v)
-unfolding rndf-line rndf-keywords
+unfolding rndf-line-in rndf-keywords
 in-range RNDF-name v h = (kw 0 (omega arith), (name-written v h, tt))
 in-range num-segments v h = (kw 1 (omega arith), (h, tt))
 in-range num-zones v h = (kw 2 (omega arith), (h, tt))
@@ -90,8 +91,8 @@ in-range end-segment v h = (kw 8 (omega arith), tt)
 in-range lane v h = (kw 9 (omega arith), (h, tt))
 in-range num-waypoints v h = (kw 10 (omega arith), (h, tt))
 in-range lane-width v h = (kw 11 (omega arith), (h, tt))
-in-range left-boundary v h = (kw 12 (omega arith), (tt, tt))
-in-range right-boundary v h = (kw 13 (omega arith), (tt, tt))
+in-range left-boundary v h = (kw 12 (omega arith), (refl, tt))
+in-range right-boundary v h = (kw 13 (omega arith), (refl, tt))
 in-range checkpoint v h = (kw 14 (omega arith), (h .0, (h .1, tt)))
 in-range stop v h = (kw 15 (omega arith), (h, tt))
 in-range exit v h = (kw 16 (omega arith), (h .0, (h .1, tt)))

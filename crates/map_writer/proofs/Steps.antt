@@ -9,7 +9,9 @@ use lib.Dec.{leb}
 use Rattle.terms.specs.Ascii.{Bytes}
 use Rattle.terms.specs.Words.{pick}
 use Rattle.line.specs.Content.{Field}
-use Rattle.law.specs.Network.{Network, present}
+use Rattle.law.specs.Network.{Network}
+use Rattle.edition.specs.declared.Edition.{Edition}
+use Rattle.edition.specs.Editions.{inner, rules-of}
 use Rattle.law.specs.Tables.{Lent, filled, zeros}
 use Rattle.rows.specs.declared.FileRow.{FileRow}
 use Rattle.counts.specs.declared.Counts.{Counts}
@@ -18,6 +20,7 @@ use Rattle.replies.specs.declared.RndfReply.{RndfReply}
 use Rattle.replies.specs.declared.RndfReply.the-variants as Reply
 use Rattle.replies.specs.Replies.{refusal, rows-used, AcceptsRndf, ReadsRndf}
 use Rattle.replies.specs.Replies as R
+use Rattle.replies.proofs.Later.{accepts-later}
 use Rattle.replies.proofs.Said.{never-both, refused-zero}
 use Rattle.output.specs.Output.{Output}
 use Rattle.output.specs.Output as O
@@ -65,46 +68,46 @@ abbrev pub behind : Bytes → Lent → (lent : ℕ) → Counts → Pen
 behind text left lent = whole text (left .segments) (left .lanes) (left .zones) (left .spots) (left .points) (left .checkpoints) lent
 
 -- the network that was accepted, and that the pen stands behind its map
-record Drawn (text : Bytes) (t left : Lent) (lent : ℕ) (c : Counts) : Type 0 where
+record Drawn (ed : Edition) (text : Bytes) (t left : Lent) (lent : ℕ) (c : Counts) : Type 0 where
   net : Network Field
-  accepts : AcceptsRndf present text t net
+  accepts : AcceptsRndf (rules-of ed) text t net
   is : put (pen (O.zeros lent) 0) (geojson net) ≡ behind text left lent c
 
-drawn-so : (text : Bytes) (t left : Lent) (lent : ℕ) (c : Counts) (file : FileRow) → ReadsRndf present text t (Reply.Accepted c file) left → Drawn text t left lent c
-drawn-so text t left lent c file (R.accepted n a e k) = record {
+drawn-so : (ed : Edition) (text : Bytes) (t left : Lent) (lent : ℕ) (c : Counts) (file : FileRow) → ReadsRndf (rules-of ed) text t (Reply.Accepted c file) left → Drawn ed text t left lent c
+drawn-so ed text t left lent c file (R.accepted n a e k) = record {
   net = n;
   accepts = a;
-  is = sym (ap (λ (l : Lent). behind text l lent c) k ∙ ap (behind text (filled n t) lent) (ap (counts-of c) e) ∙ map-drawn text t n a (pen (O.zeros lent) 0));
+  is = sym (ap (λ (l : Lent). behind text l lent c) k ∙ ap (behind text (filled n t) lent) (ap (counts-of c) e) ∙ map-drawn text t n (accepts-later (inner ed) text t n a) (pen (O.zeros lent) 0));
 }
-drawn-so text t left lent c file (R.refused line number column a e k) = absurd (never-both e)
+drawn-so ed text t left lent c file (R.refused line number column a e k) = absurd (never-both e)
 
 -- so an output in which it was ended is an output of that map
-ended-so : {text : Bytes} {t left : Lent} {lent : ℕ} {c : Counts} → (d : Drawn text t left lent c) → {out : Bytes} {answer : DF.Finished} → Finishes (behind text left lent c .out) (behind text left lent c .at) out answer → Output lent (geojson (d .net)) out answer
+ended-so : {ed : Edition} {text : Bytes} {t left : Lent} {lent : ℕ} {c : Counts} → (d : Drawn ed text t left lent c) → {out : Bytes} {answer : DF.Finished} → Finishes (behind text left lent c .out) (behind text left lent c .at) out answer → Output lent (geojson (d .net)) out answer
 ended-so d f = written refl (record { is = d .is }) f
 
 -- ## The answers
-module _ (text : Bytes) (t left : Lent) (read : RndfReply) (lent : ℕ) (out : Bytes) (h : ReadsRndf present text t read left) where
-  told : (r : RndfReply) → read ≡ r → ReadsRndf present text t r left
-  told r e = subst (λ (y : RndfReply). ReadsRndf present text t y left) e h
+module _ (ed : Edition) (text : Bytes) (t left : Lent) (read : RndfReply) (lent : ℕ) (out : Bytes) (h : ReadsRndf (rules-of ed) text t read left) where
+  told : (r : RndfReply) → read ≡ r → ReadsRndf (rules-of ed) text t r left
+  told r e = subst (λ (y : RndfReply). ReadsRndf (rules-of ed) text t y left) e h
 
   -- written: the tables hold what the reader left
-  pub written-so : (c : Counts) (file : FileRow) (k : ℕ) → Answers read lent (behind text left lent) out (Write.Written c file k) → WritesMap present text t lent (Write.Written c file k) left out
+  pub written-so : (c : Counts) (file : FileRow) (k : ℕ) → Answers read lent (behind text left lent) out (Write.Written c file k) → WritesMap (rules-of ed) text t lent (Write.Written c file k) left out
   written-so c file k (A.as-read why e a o) = absurd (wrote-or-not a)
   written-so c file k (A.over c′ file′ e f a) = absurd (wrote-or-not a)
   written-so c file k (A.put c′ file′ k′ e f a) =
       let y = told (Reply.Accepted c′ file′) e in
-      let d = drawn-so text t left lent c′ file′ y in
+      let d = drawn-so ed text t left lent c′ file′ y in
       let w = answered-written (ended-so d f) in
       W.written (d .net) (geojson (d .net)) c′ file′ y (d .accepts .spelled) refl (w .0) (a ∙ ap (Write.Written c′ file′) (w .1)) (w .2)
 
   -- refused: the tables that the reader left are cleared
-  pub refused-so : (why : Refusal) (cleared : Lent) → Answers read lent (behind text left lent) out (Write.Refused why) → cleared ≡ zeros left → zeros left ≡ zeros t → WritesMap present text t lent (Write.Refused why) cleared out
+  pub refused-so : (why : Refusal) (cleared : Lent) → Answers read lent (behind text left lent) out (Write.Refused why) → cleared ≡ zeros left → zeros left ≡ zeros t → WritesMap (rules-of ed) text t lent (Write.Refused why) cleared out
   refused-so why cleared (A.as-read why′ e a o) z k =
       let y = told (Reply.Refused why′) e in
-      W.refused why′ (subst (λ (l : Lent). ReadsRndf present text t (Reply.Refused why′) l) (refused-zero text t left why′ y ∙ sym (z ∙ k)) y) a o
+      W.refused why′ (subst (λ (l : Lent). ReadsRndf (rules-of ed) text t (Reply.Refused why′) l) (refused-zero text t left why′ y ∙ sym (z ∙ k)) y) a o
   refused-so why cleared (A.over c file e f a) z k =
       let y = told (Reply.Accepted c file) e in
-      let d = drawn-so text t left lent c file y in
+      let d = drawn-so ed text t left lent c file y in
       let w = answered-too-long (ended-so d f) in
       W.too-long (d .net) (geojson (d .net)) c file left y (d .accepts .spelled) refl (w .0) a (z ∙ k) (w .1)
   refused-so why cleared (A.put c file k′ e f a) z k = absurd (wrote-or-not (sym a))

@@ -8,6 +8,7 @@
 //
 // Rests on `writings`, `reader`, `features`, `map_tables`, `output` and what they rest on.
 use counts::Counts;
+use edition::Edition;
 use features::put_map;
 use output::Finished;
 use output::clear_output;
@@ -18,7 +19,7 @@ use replies::RndfReply;
 use room::clear_tables;
 use writings::WriteReply;
 ghost use lib.ListN.{length};
-ghost use Rattle.law.specs.Network.{present};
+ghost use Rattle.edition.specs.Editions.{rules-of};
 ghost use Rattle.law.specs.Tables.{lent};
 ghost use Rattle.output.specs.Pen.{Finishes};
 ghost use Rattle.map_writer.specs.Answers.{whole, Answers};
@@ -103,6 +104,7 @@ fn write_read(
 // ## The entry point
 
 pub fn write_map(
+    edition: Edition,
     text: &[u8],
     segments: &mut [u32],
     lanes: &mut [u32],
@@ -114,9 +116,10 @@ pub fn write_map(
     exits: &mut [u32],
     out: &mut [u8],
 ) -> WriteReply
-    ensures { λ r. ⌜ WritesMap present (now (text .entry)) (lent (now (segments .entry)) (now (lanes .entry)) (now (zones .entry)) (now (spots .entry)) (now (points .entry)) (now (checkpoints .entry)) (now (stops .entry)) (now (exits .entry))) (length (now (out .entry))) r (lent (now (segments .exit)) (now (lanes .exit)) (now (zones .exit)) (now (spots .exit)) (now (points .exit)) (now (checkpoints .exit)) (now (stops .exit)) (now (exits .exit))) (now (out .exit)) ⌝ }
+    ensures { λ r. ⌜ WritesMap (rules-of edition) (now (text .entry)) (lent (now (segments .entry)) (now (lanes .entry)) (now (zones .entry)) (now (spots .entry)) (now (points .entry)) (now (checkpoints .entry)) (now (stops .entry)) (now (exits .entry))) (length (now (out .entry))) r (lent (now (segments .exit)) (now (lanes .exit)) (now (zones .exit)) (now (spots .exit)) (now (points .exit)) (now (checkpoints .exit)) (now (stops .exit)) (now (exits .exit))) (now (out .exit)) ⌝ }
 {
     let read = read_rndf(
+        edition,
         text,
         segments,
         lanes,

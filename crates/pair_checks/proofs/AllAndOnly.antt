@@ -4,7 +4,8 @@ use mathlib.Core.Path.{_≡_, refl}
 use mathlib.Core.List.{List}
 use Prim.Native.Nat.{ℕ}
 use Rattle.terms.specs.Ascii.{Bytes}
-use Rattle.law.specs.Network.{present}
+use Rattle.grammar.specs.Editions.{Edition, law-of}
+use Rattle.law.specs.Network.{reading}
 use Rattle.law.specs.Tables.{Lent, MissionLent, filled, mission-filled, zeros, mission-zeros}
 use Rattle.room.specs.Room.{fitted}
 use Rattle.refusal.specs.declared.Refusal.{Refusal}
@@ -15,19 +16,19 @@ use Rattle.pair_checks.specs.Checks.{AcceptedPair, unread, wrong, right,
 use Rattle.pair_checks.proofs.Judged.{read-reply, read-so}
 use Rattle.pair_checks.proofs.RouteSettled.{route-settled}
 
-module _ (start : ℕ) (route : List ℕ) (rndf mdf : Bytes) (t : Lent) (u : MissionLent) (reply : PairReply) (left : Lent) (mission-left : MissionLent) (checked : ChecksRoute present start route rndf mdf t u reply left mission-left) where
-  pub all-accepted : (pair : AcceptedPair present rndf mdf t u) → Good start route (pair .net) (pair .goals)
-      → (reply ≡ read-reply rndf mdf t u pair) × (left ≡ filled (pair .net) t) × (mission-left ≡ mission-filled (pair .mission) u)
-  all-accepted pair g = route-settled start route rndf mdf t u reply (read-reply rndf mdf t u pair) left (filled (pair .net) t) mission-left (mission-filled (pair .mission) u) checked (right pair g (read-so rndf mdf t u pair))
+module _ (ed : Edition) (start : ℕ) (route : List ℕ) (rndf mdf : Bytes) (t : Lent) (u : MissionLent) (reply : PairReply) (left : Lent) (mission-left : MissionLent) (checked : ChecksRoute (reading (law-of ed)) start route rndf mdf t u reply left mission-left) where
+  pub all-accepted : (pair : AcceptedPair (reading (law-of ed)) rndf mdf t u) → Good start route (pair .net) (pair .goals)
+      → (reply ≡ read-reply ed rndf mdf t u pair) × (left ≡ filled (pair .net) t) × (mission-left ≡ mission-filled (pair .mission) u)
+  all-accepted pair g = route-settled ed start route rndf mdf t u reply (read-reply ed rndf mdf t u pair) left (filled (pair .net) t) mission-left (mission-filled (pair .mission) u) checked (right pair g (read-so ed rndf mdf t u pair))
 
-  pub no-others : ((why : Refusal) → reply ≡ Pair.Refused why → ⊥) → (pair : AcceptedPair present rndf mdf t u) × Good start route (pair .net) (pair .goals)
+  pub no-others : ((why : Refusal) → reply ≡ Pair.Refused why → ⊥) → (pair : AcceptedPair (reading (law-of ed)) rndf mdf t u) × Good start route (pair .net) (pair .goals)
   no-others not = go checked
     where
-      go : ChecksRoute present start route rndf mdf t u reply left mission-left → (pair : AcceptedPair present rndf mdf t u) × Good start route (pair .net) (pair .goals)
+      go : ChecksRoute (reading (law-of ed)) start route rndf mdf t u reply left mission-left → (pair : AcceptedPair (reading (law-of ed)) rndf mdf t u) × Good start route (pair .net) (pair .goals)
       go (unread why x e) = absurd (not why e)
       go (wrong pair line number h e y z) = absurd (not (refusal 0 (fitted line) number 0) e)
       go (right pair g x) = (pair, g)
 
-  pub refused-so : (pair : AcceptedPair present rndf mdf t u) (line number : ℕ) → Bad start route (pair .net) (pair .goals) line number
+  pub refused-so : (pair : AcceptedPair (reading (law-of ed)) rndf mdf t u) (line number : ℕ) → Bad start route (pair .net) (pair .goals) line number
       → (reply ≡ Pair.Refused (refusal 0 (fitted line) number 0)) × (left ≡ zeros t) × (mission-left ≡ mission-zeros u)
-  refused-so pair line number b = route-settled start route rndf mdf t u reply (Pair.Refused (refusal 0 (fitted line) number 0)) left (zeros t) mission-left (mission-zeros u) checked (wrong pair line number b refl refl refl)
+  refused-so pair line number b = route-settled ed start route rndf mdf t u reply (Pair.Refused (refusal 0 (fitted line) number 0)) left (zeros t) mission-left (mission-zeros u) checked (wrong pair line number b refl refl refl)

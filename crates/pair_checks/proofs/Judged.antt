@@ -7,7 +7,8 @@ use Prim.Native.Nat.{ℕ, _≤_}
 use lib.ListN.{length}
 use Rattle.terms.specs.Ascii.{Bytes}
 use Rattle.line.specs.Line.{Field}
-use Rattle.law.specs.Network.{Network, Mission, present}
+use Rattle.grammar.specs.Editions.{Edition, law-of}
+use Rattle.law.specs.Network.{Network, Mission, reading}
 use Rattle.law.specs.Tables.{Lent, MissionLent, filled, mission-filled, zeros, mission-zeros}
 use Rattle.route_law.specs.Moves.{GoalPoints}
 use Rattle.route_law.proofs.Goals.{goals-one, goals-of, goals-length}
@@ -20,16 +21,16 @@ use Rattle.replies.proofs.Settled.{rndf-accepts-one, mdf-accepts-one, pair-sett
 use Rattle.replies.proofs.Said.{pair-never-both}
 use Rattle.pair_checks.specs.Checks.{AcceptedPair, Judges, unread, wrong, right}
 
-module _ (rndf mdf : Bytes) (t : Lent) (u : MissionLent) where
+module _ (ed : Edition) (rndf mdf : Bytes) (t : Lent) (u : MissionLent) where
   abbrev Pairs : Type 0
-  Pairs = AcceptedPair present rndf mdf t u
+  Pairs = AcceptedPair (reading (law-of ed)) rndf mdf t u
 
   -- ## One network, one mission, one list of goals' points
   pub same-net : (p q : Pairs) → q .net ≡ p .net
-  same-net p q = rndf-accepts-one rndf t (q .net) (p .net) (q .network-accepted) (p .network-accepted)
+  same-net p q = rndf-accepts-one ed rndf t (q .net) (p .net) (q .network-accepted) (p .network-accepted)
 
   same-mission : (p q : Pairs) → q .mission ≡ p .mission
-  same-mission p q = mdf-accepts-one (p .net) mdf u (q .mission) (p .mission) (subst (λ n. AcceptsMdf present n mdf u (q .mission)) (same-net p q) (q .mission-accepted)) (p .mission-accepted)
+  same-mission p q = mdf-accepts-one ed (p .net) mdf u (q .mission) (p .mission) (subst (λ n. AcceptsMdf (reading (law-of ed)) n mdf u (q .mission)) (same-net p q) (q .mission-accepted)) (p .mission-accepted)
 
   pub same-goals : (p q : Pairs) → q .goals ≡ p .goals
   same-goals p q = goals-one (p .net) (p .mission) (p .network-accepted .right .numbers) (q .goals) (p .goals)
@@ -43,21 +44,21 @@ module _ (rndf mdf : Bytes) (t : Lent) (u : MissionLent) where
   abbrev pub read-reply : Pairs → PairReply
   read-reply p = Pair.Accepted (rows-used (p .net)) (network-file (p .net)) (record { goals = length (p .mission .goals); limits = length (p .mission .limits) }) (mission-file (p .mission))
 
-  pub read-so : (p : Pairs) → ReadsPair present rndf mdf t u (read-reply p) (filled (p .net) t) (mission-filled (p .mission) u)
+  pub read-so : (p : Pairs) → ReadsPair (reading (law-of ed)) rndf mdf t u (read-reply p) (filled (p .net) t) (mission-filled (p .mission) u)
   read-so p = accepted (p .net) (p .mission) (p .network-accepted) (p .mission-accepted) refl refl refl
 
-  not-unread : (p : Pairs) (why : Refusal) (l : Lent) (k : MissionLent) → ReadsPair present rndf mdf t u (Pair.Refused why) l k → ⊥
-  not-unread p why l k x = pair-never-both (pair-settled rndf mdf t u (read-reply p) (Pair.Refused why) (filled (p .net) t) l (mission-filled (p .mission) u) k (read-so p) x .0)
+  not-unread : (p : Pairs) (why : Refusal) (l : Lent) (k : MissionLent) → ReadsPair (reading (law-of ed)) rndf mdf t u (Pair.Refused why) l k → ⊥
+  not-unread p why l k x = pair-never-both (pair-settled ed rndf mdf t u (read-reply p) (Pair.Refused why) (filled (p .net) t) l (mission-filled (p .mission) u) k (read-so p) x .0)
 
   module _ (Right : Network Field → List ℕ → Type 0) (Wrong : Network Field → List ℕ → (line number : ℕ) → Type 0) where
     abbrev Judged : PairReply → Lent → MissionLent → Type 0
-    Judged = Judges present rndf mdf t u Right Wrong
+    Judged = Judges (reading (law-of ed)) rndf mdf t u Right Wrong
 
     -- ## No second reply, and no second memory
     module _ (not-both : (n : Network Field) (goals : List ℕ) (line number : ℕ) → Right n goals → Wrong n goals line number → ⊥)
         (one-wrong : (n : Network Field) (goals : List ℕ) (line number line′ number′ : ℕ) → Wrong n goals line number → Wrong n goals line′ number′ → (line ≡ line′) × (number ≡ number′)) where
       pub settled : (r r′ : PairReply) (l l′ : Lent) (k k′ : MissionLent) → Judged r l k → Judged r′ l′ k′ → (r ≡ r′) × (l ≡ l′) × (k ≡ k′)
-      settled r r′ l l′ k k′ (unread why x e) (unread why′ x′ e′) = let s = pair-settled rndf mdf t u (Pair.Refused why) (Pair.Refused why′) l l′ k k′ x x′ in (e ∙ s .0 ∙ sym e′, s .1, s .2)
+      settled r r′ l l′ k k′ (unread why x e) (unread why′ x′ e′) = let s = pair-settled ed rndf mdf t u (Pair.Refused why) (Pair.Refused why′) l l′ k k′ x x′ in (e ∙ s .0 ∙ sym e′, s .1, s .2)
       settled r r′ l l′ k k′ (unread why x e) (wrong p i j h e′ y z) = absurd (not-unread p why l k x)
       settled r r′ l l′ k k′ (unread why x e) (right p h x′) = absurd (not-unread p why l k x)
       settled r r′ l l′ k k′ (wrong p i j h e y z) (unread why x e′) = absurd (not-unread p why l′ k′ x)
@@ -67,7 +68,7 @@ module _ (rndf mdf : Bytes) (t : Lent) (u : MissionLent) where
       settled r r′ l l′ k k′ (wrong p i j h e y z) (wrong q i′ j′ h′ e′ y′ z′) =
           let b = one-wrong (p .net) (p .goals) i j i′ j′ h (carried (λ n g. Wrong n g i′ j′) p q h′) in
           (e ∙ (λ s. Pair.Refused (refusal 0 (fitted (b .0 s)) (b .1 s) 0)) ∙ sym e′, y ∙ sym y′, z ∙ sym z′)
-      settled r r′ l l′ k k′ (right p h x) (right q h′ x′) = pair-settled rndf mdf t u r r′ l l′ k k′ x x′
+      settled r r′ l l′ k k′ (right p h x) (right q h′ x′) = pair-settled ed rndf mdf t u r r′ l l′ k k′ x x′
 
     -- ## One there is. 01: "`num_checkpoints` > 0": there are goals
     pub record Some : Type 0 where
@@ -77,7 +78,7 @@ module _ (rndf mdf : Bytes) (t : Lent) (u : MissionLent) where
       pub judged : Judged reply left mission-left
 
     module _ (one-is : (n : Network Field) (goals : List ℕ) → 1 ≤ length goals → Right n goals ⊎ ((line : ℕ) × (number : ℕ) × Wrong n goals line number)) where
-      the-pair : (n : Network Field) (m : Mission Field) → AcceptsRndf present rndf t n → AcceptsMdf present n mdf u m → Pairs
+      the-pair : (n : Network Field) (m : Mission Field) → AcceptsRndf (reading (law-of ed)) rndf t n → AcceptsMdf (reading (law-of ed)) n mdf u m → Pairs
       the-pair n m h h′ = let g = goals-of n m (h′ .right .goals) in record { net = n; mission = m; goals = g .0; network-accepted = h; mission-accepted = h′; goals-stand = g .1 }
 
       some-goals : (p : Pairs) → 1 ≤ length (p .goals)
@@ -88,9 +89,9 @@ module _ (rndf mdf : Bytes) (t : Lent) (u : MissionLent) where
       told p (inr f) = record { reply = Pair.Refused (refusal 0 (fitted (f .0)) (f .1) 0); left = zeros t; mission-left = mission-zeros u; judged = wrong p (f .0) (f .1) (f .2) refl refl refl }
 
       pub some-reply : Some
-      some-reply = let s = pair-some rndf mdf t u in go (s .reply) (s .left) (s .mission-left) (s .reads)
+      some-reply = let s = pair-some ed rndf mdf t u in go (s .reply) (s .left) (s .mission-left) (s .reads)
         where
-          go : (r : PairReply) (l : Lent) (k : MissionLent) → ReadsPair present rndf mdf t u r l k → Some
+          go : (r : PairReply) (l : Lent) (k : MissionLent) → ReadsPair (reading (law-of ed)) rndf mdf t u r l k → Some
           go r l k (rndf-refused line number column h e y z) = record { reply = r; left = l; mission-left = k; judged = unread (refusal 1 line number column) (rndf-refused line number column h refl y z) e }
           go r l k (mdf-refused n line number column h h′ e y z) = record { reply = r; left = l; mission-left = k; judged = unread (refusal 2 line number column) (mdf-refused n line number column h h′ refl y z) e }
           go r l k (accepted n m h h′ e y z) = let p = the-pair n m h h′ in told p (one-is (p .net) (p .goals) (some-goals p))

@@ -4,7 +4,8 @@ use mathlib.Core.Path.{_≡_}
 use mathlib.Core.List.{List}
 use Prim.Native.Nat.{ℕ}
 use Rattle.terms.specs.Ascii.{Bytes}
-use Rattle.law.specs.Network.{present}
+use Rattle.grammar.specs.Editions.{Edition, law-of}
+use Rattle.law.specs.Network.{reading}
 use Rattle.law.specs.Tables.{Lent, MissionLent}
 use Rattle.route_law.specs.Moves.{Move, points}
 use Rattle.route_law.proofs.Settled as Routes
@@ -13,10 +14,10 @@ use Rattle.replies.specs.declared.PairReply.{PairReply}
 use Rattle.pair_checks.specs.Checks.{Good, Bad, ChecksRoute}
 use Rattle.pair_checks.proofs.Judged.{settled, Some, some-reply}
 
-module _ (start : ℕ) (route : List ℕ) (rndf mdf : Bytes) (t : Lent) (u : MissionLent) where
-  pub route-settled : (r r′ : PairReply) (l l′ : Lent) (k k′ : MissionLent) → ChecksRoute present start route rndf mdf t u r l k → ChecksRoute present start route rndf mdf t u r′ l′ k′ → (r ≡ r′) × (l ≡ l′) × (k ≡ k′)
-  route-settled = settled rndf mdf t u (Good start route) (Bad start route)
+module _ (ed : Edition) (start : ℕ) (route : List ℕ) (rndf mdf : Bytes) (t : Lent) (u : MissionLent) where
+  pub route-settled : (r r′ : PairReply) (l l′ : Lent) (k k′ : MissionLent) → ChecksRoute (reading (law-of ed)) start route rndf mdf t u r l k → ChecksRoute (reading (law-of ed)) start route rndf mdf t u r′ l′ k′ → (r ≡ r′) × (l ≡ l′) × (k ≡ k′)
+  route-settled = settled ed rndf mdf t u (Good start route) (Bad start route)
       (λ n goals. Routes.not-both (points n) (Move n) start route goals) (λ n goals. Routes.one-fault (points n) (Move n) start route goals)
 
-  pub route-some : Some rndf mdf t u (Good start route) (Bad start route)
-  route-some = some-reply rndf mdf t u (Good start route) (Bad start route) (λ n. Routes.some-answer (Move n) (λ a b. decide a b n) (points n) start route)
+  pub route-some : Some ed rndf mdf t u (Good start route) (Bad start route)
+  route-some = some-reply ed rndf mdf t u (Good start route) (Bad start route) (λ n. Routes.some-answer (Move n) (λ a b. decide a b n) (points n) start route)

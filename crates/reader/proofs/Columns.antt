@@ -1,6 +1,6 @@
 -- The column that is replied is the law's, and no other is. Assumes nothing.
 use mathlib.Core.Path.{_≡_, refl, sym, subst, _∙_}
-use mathlib.Core.List.{List}
+use mathlib.Core.List.{List, _∷_}
 use mathlib.Core.Logic.{_⊎_, inl, inr}
 use Prim.Native.Nat.{ℕ, _<_, _≤_}
 use native.Mathlib.Omega.{arith}
@@ -8,14 +8,28 @@ use lib.ListN.{length}
 use borrow.Author.Tests.{ne-eqb}
 use Rattle.terms.specs.Ascii.{Bytes}
 use Rattle.line.specs.Content.{Field}
-use Rattle.law.specs.Network.{Network, Line, SpellsNetwork, SpellsMission, present}
+use Rattle.law.specs.Network.{Network, Line, SpellsNetwork, SpellsMission, reading, present}
 use Rattle.law.specs.Tables.{Lent, MissionLent}
 use Rattle.law.specs.Faults.{BadLine, FirstFault, RndfFault, undeclared, repeated, MdfFault, other-name, foreign-goal, unknown-id, limited-again, unlimited}
-use Rattle.form_faults.proofs.FormFaults.{rndf-two-to-nine-or-25, mdf-two-to-nine}
-use Rattle.law_faults.proofs.Theorems.{rndf-bad-back, mdf-bad-back}
+use Rattle.grammar.specs.Editions.{Edition, law-of}
+use Rattle.grammar.specs.Statements.{Statement}
+use Rattle.grammar.specs.Machine.{next, at, over, run}
+use Rattle.grammar.specs.Places.{name-due}
+use Rattle.text.specs.RndfLines.{rndf-line-in}
+use Rattle.text.specs.Spelling.{SpellsRndfIn}
+use Rattle.text.proofs.Theorems.{places, rndf-file-in}
+use Rattle.form_faults.specs.FormFaults.{RndfBadLineIn, MdfBadLine}
+use Rattle.form_faults.proofs.FormFaults.{rndf-two-to-nine-or-25-in, rndf-two-to-nine-or-25, mdf-two-to-nine}
+use Rattle.law_faults.proofs.Theorems.{rndf-bad-to-in, rndf-bad-back, mdf-bad-to-in, mdf-bad-back}
+use Rattle.law_faults.proofs.Reached.{run-parts}
+use Rattle.fault_lines.specs.FaultLines.{SaysAt, FirstRndfFault}
+use Rattle.fault_lines.proofs.Files.{rndf-clear-in, rndf-said-in}
+use Rattle.fault_lines.proofs.Said.{says-only}
+use Rattle.law_tables.proofs.RndfFirst.{says-earlier, rndf-first-to-in}
+use Rattle.editions.proofs.Columns.{column-in-same}
 use Rattle.law_columns.specs.Columns.{Column}
-use Rattle.law_columns.specs.Files.{rndf-column, mdf-column}
-use Rattle.law_columns.proofs.Theorems.{rndf-column-bad, rndf-column-fault, rndf-column-one, mdf-column-bad, mdf-column-fault, mdf-column-one}
+use Rattle.law_columns.specs.Files.{rndf-column-in, rndf-column, mdf-column}
+use Rattle.law_columns.proofs.Theorems.{rndf-column-bad-in, rndf-column-fault-in, rndf-column-bad, rndf-column-fault, rndf-column-one, mdf-column-bad-in, mdf-column-fault-in, mdf-column-bad, mdf-column-fault, mdf-column-one}
 use Rattle.columns.specs.RndfColumns.{rndfColumnIn}
 use Rattle.columns.specs.MdfColumns.{mdfColumnIn}
 use Rattle.columns.proofs.Theorems.{rndf-column-is, mdf-column-is}
@@ -66,12 +80,6 @@ module _ (text : Bytes) (size : length text ≤ most) where
       let j = f .at .at .number in
       rndf-there i k (omega (arith, j)) (rndf-not-end n (f .front) (f .line) k (f .fault))
 
-  pub rndf-bad-told : (i k : ℕ) (b : BadLine present SpellsNetwork text i k) → Column present SpellsNetwork (b .front) (b .this) k (rndfTold text i k)
-  rndf-bad-told i k b = subst (Column present SpellsNetwork (b .front) (b .this) k) (sym (rndf-bad-there i k b)) (rndf-column-bad text i k b)
-
-  pub rndf-fault-told : (n : Network Field) (i k : ℕ) (f : FirstFault present SpellsNetwork (RndfFault n) text i k) → Column present SpellsNetwork (f .front) (f .at .this) k (rndfTold text i k)
-  rndf-fault-told n i k f = subst (Column present SpellsNetwork (f .front) (f .at .this) k) (sym (rndf-fault-there n i k f)) (rndf-column-fault n text i k f)
-
 pub rndf-told-so : (text : Bytes) (t : Lent) (i k c : ℕ) → RefusesRndf present text t i k c → c ≡ rndfTold text i k
 unfolding rndfTold
 rndf-told-so text t i k c (too-long h) = refl
@@ -79,6 +87,35 @@ rndf-told-so text t i k c (bad-line size b x) = rndf-column-one (b .front) (b .t
 rndf-told-so text t i k c (unended size u) = refl
 rndf-told-so text t i k c (no-room n size h r) = refl
 rndf-told-so text t i k c (bad-reference n size h r f x) = rndf-column-one (f .front) (f .at .this) k c (rndf-column text i k) x (rndf-column-fault n text i k f) ∙ sym (rndf-fault-there text size n i k f)
+
+-- ## An RNDF by an edition: its column is the present one's
+module _ (ε : Edition) where
+  -- a line of a text that the edition spells, behind lines that it takes
+  column-there : (n : Network Field) (text : Bytes) → SpellsRndfIn ε n text → (i k : ℕ) (front : List (Statement Field)) (x : Statement Field) → SaysAt (rndf-line-in ε) text i front x → rndf-column-in ε text i k ≡ rndf-column text i k
+  column-there n text s i k front x a =
+      let o = says-only (rndf-clear-in ε) text (s .said) (rndf-said-in ε n text s) i front x a in
+      let c = rndf-file-in ε .complete n (s .said) (s .net) in
+      let r = run-parts (places ε) (at (places ε) name-due) over front (x ∷ o .0) (subst (λ (l : List (Statement Field)). run (places ε) (at (places ε) name-due) l ≡ next over) (o .1) c) in
+      column-in-same ε text i k (a .before) (a .this) (a .rest) (a .cut) (a .number) front (r .0) (a .said) (r .1)
+
+  module _ (text : Bytes) (size : length text ≤ most) where
+    pub rndf-bad-told-in : (i k : ℕ) (b : RndfBadLineIn ε text i k) → let x = rndf-bad-to-in ε text i k b in Column (reading (law-of ε)) SpellsNetwork (x .front) (x .this) k (rndfTold text i k)
+    rndf-bad-told-in i k b =
+        let x = rndf-bad-to-in ε text i k b in
+        let j = b .number in
+        let same : rndf-column-in ε text i k ≡ rndfTold text i k
+        = column-in-same ε text i k (b .before) (b .this) (b .rest) (b .cut) (b .number) (b .said) (b .place) (b .spelled) (b .came)
+        ∙ sym (rndf-there text size i k (omega (arith, j)) (form-not-end k (rndf-two-to-nine-or-25-in ε text i k b))) in
+        subst (Column (reading (law-of ε)) SpellsNetwork (x .front) (x .this) k) same (rndf-column-bad-in ε text i k x)
+
+    pub rndf-fault-told-in : (n : Network Field) (s : SpellsRndfIn ε n text) (i k : ℕ) (f : FirstRndfFault n text i k) → let x = rndf-first-to-in ε n text s i k f in Column (reading (law-of ε)) SpellsNetwork (x .front) (x .at .this) k (rndfTold text i k)
+    rndf-fault-told-in n s i k f =
+        let x = rndf-first-to-in ε n text s i k f in
+        let j = x .at .at .number in
+        let same : rndf-column-in ε text i k ≡ rndfTold text i k
+        = column-there n text s i k (f .front) (f .this) (says-earlier ε n text s i (f .front) (f .this) (f .at))
+        ∙ sym (rndf-there text size i k (omega (arith, j)) (rndf-not-end n (x .front) (x .line) k (x .fault))) in
+        subst (Column (reading (law-of ε)) SpellsNetwork (x .front) (x .at .this) k) same (rndf-column-fault-in ε n text i k x)
 
 -- ## MDF. n: the network of the RNDF, which was accepted before
 module _ (text : Bytes) (size : length text ≤ most) where
@@ -97,11 +134,17 @@ module _ (text : Bytes) (size : length text ≤ most) where
       let j = f .at .at .number in
       mdf-there i k (omega (arith, j)) (mdf-not-end n (f .front) (f .line) k (f .fault))
 
-  pub mdf-bad-told : (i k : ℕ) (b : BadLine present SpellsMission text i k) → Column present SpellsMission (b .front) (b .this) k (mdfTold text i k)
-  mdf-bad-told i k b = subst (Column present SpellsMission (b .front) (b .this) k) (sym (mdf-bad-there i k b)) (mdf-column-bad text i k b)
+  -- in each edition
+  pub mdf-bad-told-in : (ε : Edition) (i k : ℕ) (b : MdfBadLine text i k) → let x = mdf-bad-to-in ε text i k b in Column (reading (law-of ε)) SpellsMission (x .front) (x .this) k (mdfTold text i k)
+  mdf-bad-told-in ε i k b =
+      let x = mdf-bad-to-in ε text i k b in
+      let j = b .number in
+      subst (Column (reading (law-of ε)) SpellsMission (x .front) (x .this) k) (sym (mdf-there i k (omega (arith, j)) (form-not-end k (inl (mdf-two-to-nine text i k b))))) (mdf-column-bad-in ε text i k x)
 
-  pub mdf-fault-told : (n : Network Field) (i k : ℕ) (f : FirstFault present SpellsMission (MdfFault n) text i k) → Column present SpellsMission (f .front) (f .at .this) k (mdfTold text i k)
-  mdf-fault-told n i k f = subst (Column present SpellsMission (f .front) (f .at .this) k) (sym (mdf-fault-there n i k f)) (mdf-column-fault n text i k f)
+  pub mdf-fault-told-in : (ε : Edition) (n : Network Field) (i k : ℕ) (f : FirstFault (reading (law-of ε)) SpellsMission (MdfFault n) text i k) → Column (reading (law-of ε)) SpellsMission (f .front) (f .at .this) k (mdfTold text i k)
+  mdf-fault-told-in ε n i k f =
+      let j = f .at .at .number in
+      subst (Column (reading (law-of ε)) SpellsMission (f .front) (f .at .this) k) (sym (mdf-there i k (omega (arith, j)) (mdf-not-end n (f .front) (f .line) k (f .fault)))) (mdf-column-fault-in ε n text i k f)
 
 pub mdf-told-so : (n : Network Field) (text : Bytes) (u : MissionLent) (i k c : ℕ) → RefusesMdf present n text u i k c → c ≡ mdfTold text i k
 unfolding mdfTold

@@ -1,6 +1,7 @@
 -- Executable: what a pair gets, and what the lent tables then hold where it is accepted. Assumes nothing.
 use Prim.Native.Nat.{_+_}
 use Rattle.terms.specs.Ascii.{Bytes}
+use Rattle.grammar.specs.Editions.{Edition}
 use Rattle.rows.specs.declared.FileRow.{FileRow}
 use Rattle.rows.specs.declared.MissionFileRow.{MissionFileRow}
 use Rattle.table_words.specs.Words.{Lent, MissionLent}
@@ -39,5 +40,6 @@ abbrev pub from-network : Bytes → Bytes → MissionLent → N.Read → Read
 from-network rndf mdf u (N.refused line number) = refused (rndf-refusal rndf line number)
 from-network rndf mdf u (N.accepted c f left) = from-mission mdf c f left (missionOf (rndf-of rndf (f .name) (left .checkpoints) (c .checkpoints) (fitted (c .segments + c .zones))) mdf (u .goals) (u .limits))
 
-unfoldable pub pairOf : (rndf mdf : Bytes) → Lent → MissionLent → Read
-pairOf rndf mdf t u = from-network rndf mdf u (readOf rndf t)
+-- the RNDF by an edition
+unfoldable pub pairOf : Edition → (rndf mdf : Bytes) → Lent → MissionLent → Read
+pairOf e rndf mdf t u = from-network rndf mdf u (readOf e rndf t)

@@ -1,14 +1,15 @@
 // The entry points: an RNDF alone, and an RNDF with its MDF, read into lent tables. What they reply, and what every lent table then holds, is `replies`/specs/Replies: for all texts,
-// and all tables. Nothing is required. A refusal leaves every lent table zero.
+// and all tables, by the edition that the caller says (L10). Nothing is required. A refusal leaves every lent table zero.
 //
 // specs/ByStatements: the contracts over statements and typed rows, as the proofs have it; proofs/Lawful: that both say the same. specs/Pairs: what a pair gets, executable.
 // specs/Columns: the refusal that is replied: its column is found once the text is refused (`column`), so that a good text pays nothing; proofs/Columns: that it is the law's.
 // That no second reply and no second memory satisfies the contracts is proved in `replies`, without the code. What follows from the contracts alone is the crate `promises`.
 //
-// Rests on `replies`, `network_reader`, `mission_reader`, `column`, `room` and what they rest on. Beside it: `look_up` (a checkpoint number's point), `rows` (names, and how rows lie in a table).
+// Rests on `replies`, `network_reader`, `mission_reader`, `column`, `edition`, `room` and what they rest on. Beside it: `look_up` (a checkpoint number's point), `rows` (names, and how rows lie in a table).
 use column::rndf_column;
 use counts::Counts;
 use counts::MissionCounts;
+use edition::Edition;
 use mission_column::mdf_column;
 use mission_reader::MissionReply;
 use mission_reader::read_mission;
@@ -24,7 +25,7 @@ use rows::FileRow;
 use rows::clear;
 ghost use mathlib.Core.Path.{_≡_};
 ghost use Rattle.room.specs.Room.{fitted};
-ghost use Rattle.law.specs.Network.{present};
+ghost use Rattle.edition.specs.Editions.{inner, rules-of};
 ghost use Rattle.law.specs.Tables.{lent, mission-lent};
 ghost use Rattle.replies.specs.Replies.{ReadsRndf, ReadsPair};
 ghost use Prim.Native.Nat.{_+_};
@@ -80,8 +81,9 @@ fn mdf_refused(text: &[u8], fault: Fault) -> Refusal
     }
 }
 
-// An RNDF alone.
+// An RNDF alone, by the edition that the caller says.
 pub fn read_rndf(
+    edition: Edition,
     text: &[u8],
     segments: &mut [u32],
     lanes: &mut [u32],
@@ -92,9 +94,10 @@ pub fn read_rndf(
     stops: &mut [u32],
     exits: &mut [u32],
 ) -> RndfReply
-    ensures { λ r. ⌜ ReadsRndf present (now (text .entry)) (lent (now (segments .entry)) (now (lanes .entry)) (now (zones .entry)) (now (spots .entry)) (now (points .entry)) (now (checkpoints .entry)) (now (stops .entry)) (now (exits .entry))) r (lent (now (segments .exit)) (now (lanes .exit)) (now (zones .exit)) (now (spots .exit)) (now (points .exit)) (now (checkpoints .exit)) (now (stops .exit)) (now (exits .exit))) ⌝ }
+    ensures { λ r. ⌜ ReadsRndf (rules-of edition) (now (text .entry)) (lent (now (segments .entry)) (now (lanes .entry)) (now (zones .entry)) (now (spots .entry)) (now (points .entry)) (now (checkpoints .entry)) (now (stops .entry)) (now (exits .entry))) r (lent (now (segments .exit)) (now (lanes .exit)) (now (zones .exit)) (now (spots .exit)) (now (points .exit)) (now (checkpoints .exit)) (now (stops .exit)) (now (exits .exit))) ⌝ }
 {
     let reply = read_network(
+        edition,
         text,
         segments,
         lanes,
@@ -142,6 +145,7 @@ fn joined(mdf: &[u8], c: Counts, file: FileRow, mission: MissionReply) -> PairRe
 
 // Both files, but for the tables of a pair that is refused: they are left as they are then.
 fn read_both(
+    edition: Edition,
     rndf: &[u8],
     mdf: &[u8],
     segments: &mut [u32],
@@ -155,9 +159,10 @@ fn read_both(
     goals: &mut [u32],
     limits: &mut [u32],
 ) -> PairReply
-    ensures { λ r. ⌜ outcome r (lent (now (segments .exit)) (now (lanes .exit)) (now (zones .exit)) (now (spots .exit)) (now (points .exit)) (now (checkpoints .exit)) (now (stops .exit)) (now (exits .exit))) (mission-lent (now (goals .exit)) (now (limits .exit))) ≡ pairOf (now (rndf .entry)) (now (mdf .entry)) (lent (now (segments .entry)) (now (lanes .entry)) (now (zones .entry)) (now (spots .entry)) (now (points .entry)) (now (checkpoints .entry)) (now (stops .entry)) (now (exits .entry))) (mission-lent (now (goals .entry)) (now (limits .entry))) ⌝ }
+    ensures { λ r. ⌜ outcome r (lent (now (segments .exit)) (now (lanes .exit)) (now (zones .exit)) (now (spots .exit)) (now (points .exit)) (now (checkpoints .exit)) (now (stops .exit)) (now (exits .exit))) (mission-lent (now (goals .exit)) (now (limits .exit))) ≡ pairOf (inner edition) (now (rndf .entry)) (now (mdf .entry)) (lent (now (segments .entry)) (now (lanes .entry)) (now (zones .entry)) (now (spots .entry)) (now (points .entry)) (now (checkpoints .entry)) (now (stops .entry)) (now (exits .entry))) (mission-lent (now (goals .entry)) (now (limits .entry))) ⌝ }
 {
     let network = read_network(
+        edition,
         rndf,
         segments,
         lanes,
@@ -186,8 +191,9 @@ fn read_both(
     }
 }
 
-// An RNDF with its MDF.
+// An RNDF with its MDF, by the edition that the caller says. An MDF is the same in each.
 pub fn read_pair(
+    edition: Edition,
     rndf: &[u8],
     mdf: &[u8],
     segments: &mut [u32],
@@ -201,9 +207,10 @@ pub fn read_pair(
     goals: &mut [u32],
     limits: &mut [u32],
 ) -> PairReply
-    ensures { λ r. ⌜ ReadsPair present (now (rndf .entry)) (now (mdf .entry)) (lent (now (segments .entry)) (now (lanes .entry)) (now (zones .entry)) (now (spots .entry)) (now (points .entry)) (now (checkpoints .entry)) (now (stops .entry)) (now (exits .entry))) (mission-lent (now (goals .entry)) (now (limits .entry))) r (lent (now (segments .exit)) (now (lanes .exit)) (now (zones .exit)) (now (spots .exit)) (now (points .exit)) (now (checkpoints .exit)) (now (stops .exit)) (now (exits .exit))) (mission-lent (now (goals .exit)) (now (limits .exit))) ⌝ }
+    ensures { λ r. ⌜ ReadsPair (rules-of edition) (now (rndf .entry)) (now (mdf .entry)) (lent (now (segments .entry)) (now (lanes .entry)) (now (zones .entry)) (now (spots .entry)) (now (points .entry)) (now (checkpoints .entry)) (now (stops .entry)) (now (exits .entry))) (mission-lent (now (goals .entry)) (now (limits .entry))) r (lent (now (segments .exit)) (now (lanes .exit)) (now (zones .exit)) (now (spots .exit)) (now (points .exit)) (now (checkpoints .exit)) (now (stops .exit)) (now (exits .exit))) (mission-lent (now (goals .exit)) (now (limits .exit))) ⌝ }
 {
     let reply = read_both(
+        edition,
         rndf,
         mdf,
         segments,

@@ -4,3 +4,4 @@ pub mod OneAnswer
 pub mod Alone
 pub mod Decided
 pub mod Settled
+pub mod Later

@@ -5,7 +5,7 @@ use Prim.Native.Nat.{ℕ}
 use native.Mathlib.Omega.{arith}
 use Rattle.terms.specs.Ascii.{Bytes}
 use Rattle.line.specs.Content.{Field}
-use Rattle.law.specs.Network.{Network, Mission, present}
+use Rattle.law.specs.Network.{Network, Mission, Rules}
 use Rattle.law.specs.Tables.{Lent, MissionLent, filled, mission-filled, zeros, mission-zeros}
 use Rattle.rows.specs.declared.FileRow.{FileRow}
 use Rattle.rows.specs.declared.MissionFileRow.{MissionFileRow}
@@ -34,37 +34,37 @@ pair-file-of (Pair.Accepted c file d row) = 0
 pair-file-of (Pair.Refused why) = why .file
 
 -- ## An RNDF alone
-module _ (text : Bytes) (t left : Lent) where
+module _ {rules : Rules} (text : Bytes) (t left : Lent) where
   module _ (why : Refusal) where
-    pub refused-zero : ReadsRndf present text t (Reply.Refused why) left → left ≡ zeros t
+    pub refused-zero : ReadsRndf rules text t (Reply.Refused why) left → left ≡ zeros t
     refused-zero (accepted n a e k) = absurd (never-both (sym e))
     refused-zero (refused line number column a e k) = k
 
-    pub refused-file : ReadsRndf present text t (Reply.Refused why) left → why .file ≡ 1
+    pub refused-file : ReadsRndf rules text t (Reply.Refused why) left → why .file ≡ 1
     refused-file (accepted n a e k) = absurd (never-both (sym e))
     refused-file (refused line number column a e k) = ap file-of e
 
   module _ (c : Counts) (file : FileRow) where
-    pub accepted-filled : ReadsRndf present text t (Reply.Accepted c file) left → (n : Network Field) × AcceptsRndf present text t n × (left ≡ filled n t)
+    pub accepted-filled : ReadsRndf rules text t (Reply.Accepted c file) left → (n : Network Field) × AcceptsRndf rules text t n × (left ≡ filled n t)
     accepted-filled (accepted n a e k) = (n, a, k)
     accepted-filled (refused line number column a e k) = absurd (never-both e)
 
 -- ## An RNDF with its MDF
-module _ (rndf mdf : Bytes) (t left : Lent) (u mission-left : MissionLent) where
+module _ {rules : Rules} (rndf mdf : Bytes) (t left : Lent) (u mission-left : MissionLent) where
   module _ (why : Refusal) where
-    pub pair-refused-zero : ReadsPair present rndf mdf t u (Pair.Refused why) left mission-left → (left ≡ zeros t) × (mission-left ≡ mission-zeros u)
+    pub pair-refused-zero : ReadsPair rules rndf mdf t u (Pair.Refused why) left mission-left → (left ≡ zeros t) × (mission-left ≡ mission-zeros u)
     pair-refused-zero (accepted n m a b e k l) = absurd (pair-never-both (sym e))
     pair-refused-zero (rndf-refused line number column a e k l) = (k, l)
     pair-refused-zero (mdf-refused n line number column a b e k l) = (k, l)
 
-    pub pair-refused-file : ReadsPair present rndf mdf t u (Pair.Refused why) left mission-left → (why .file ≡ 1) ⊎ (why .file ≡ 2)
+    pub pair-refused-file : ReadsPair rules rndf mdf t u (Pair.Refused why) left mission-left → (why .file ≡ 1) ⊎ (why .file ≡ 2)
     pair-refused-file (accepted n m a b e k l) = absurd (pair-never-both (sym e))
     pair-refused-file (rndf-refused line number column a e k l) = inl (ap pair-file-of e)
     pair-refused-file (mdf-refused n line number column a b e k l) = inr (ap pair-file-of e)
 
   module _ (c : Counts) (file : FileRow) (d : MissionCounts) (row : MissionFileRow) where
-    pub pair-accepted-filled : ReadsPair present rndf mdf t u (Pair.Accepted c file d row) left mission-left
-        → (n : Network Field) × (m : Mission Field) × AcceptsRndf present rndf t n × AcceptsMdf present n mdf u m × (left ≡ filled n t) × (mission-left ≡ mission-filled m u)
+    pub pair-accepted-filled : ReadsPair rules rndf mdf t u (Pair.Accepted c file d row) left mission-left
+        → (n : Network Field) × (m : Mission Field) × AcceptsRndf rules rndf t n × AcceptsMdf rules n mdf u m × (left ≡ filled n t) × (mission-left ≡ mission-filled m u)
     pair-accepted-filled (accepted n m a b e k l) = (n, m, a, b, k, l)
     pair-accepted-filled (rndf-refused line number column a e k l) = absurd (pair-never-both e)
     pair-accepted-filled (mdf-refused n line number column a b e k l) = absurd (pair-never-both e)

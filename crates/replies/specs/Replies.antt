@@ -36,7 +36,7 @@ module _ (rules : Rules) {Net : Type 0} (Spells : Rules → Net → List Line �
     no-room : (n : Net) → length text ≤ most → SpellsText rules Spells n text → (Roomy n → ⊥) → Refuses 0 11 0
     bad-reference : (n : Net) {line number column : ℕ} → length text ≤ most → SpellsText rules Spells n text → Roomy n → (bad : FirstFault rules Spells (Wrong n) text line number) → Column rules Spells (bad .front) (bad .at .this) number column → Refuses line number column
 
--- rules: those of the entry points are `present`; t: the tables as they were lent; u: those of the MDF; n: the network of the RNDF, which was accepted before
+-- rules: those of the entry points are `reading` of the edition that the caller says (L10); t: the tables as they were lent; u: those of the MDF; n: the network of the RNDF, which was accepted before
 module _ (rules : Rules) (text : Bytes) (t : Lent) where
   abbrev pub AcceptsRndf : Network Field → Type 0
   AcceptsRndf = Accepts rules SpellsNetwork (λ n. HasRoom n t) Sound RndfFault text

@@ -6,6 +6,9 @@ use lib.ListN.{length}
 use Rattle.terms.specs.Words.{Bytes}
 use Rattle.line.specs.Line.{Field}
 use Rattle.law.specs.Network.{Network, Mission, present}
+use Rattle.edition.specs.declared.Edition.{Edition}
+use Rattle.edition.specs.Editions.{inner, rules-of}
+use Rattle.replies.proofs.Later.{accepts-later, mdf-accepts-later}
 use Rattle.law.specs.Tables.{Lent, MissionLent, filled, mission-filled, zeros, mission-zeros}
 use Rattle.rows.specs.declared.FileRow.{FileRow}
 use Rattle.rows.specs.declared.MissionFileRow.{MissionFileRow}
@@ -25,23 +28,30 @@ use Rattle.route.specs.Judged.{goal-point, verdict, replied, ruled}
 use Rattle.route.proofs.Found.{Says, verdict-says}
 use Rattle.route.proofs.Goals.{goals, goals-stand, goals-many, goals-some, points-are}
 
-module _ (start : ℕ) (route : List ℕ) (rndf mdf : Bytes) (t : Lent) (u : MissionLent) where
+module _ (ed : Edition) (start : ℕ) (route : List ℕ) (rndf mdf : Bytes) (t : Lent) (u : MissionLent) where
   -- a reply that is an acceptance keeps what the reader left, a refusal goes with tables that are zero
   abbrev pub Lawful : (left : Lent) → (mission-left : MissionLent) → PairReply → Type 0
-  Lawful left mission-left (Pair.Accepted c file m own) = ChecksRoute present start route rndf mdf t u (Pair.Accepted c file m own) left mission-left
-  Lawful left mission-left (Pair.Refused why) = ChecksRoute present start route rndf mdf t u (Pair.Refused why) (zeros t) (mission-zeros u)
+  Lawful left mission-left (Pair.Accepted c file m own) = ChecksRoute (rules-of ed) start route rndf mdf t u (Pair.Accepted c file m own) left mission-left
+  Lawful left mission-left (Pair.Refused why) = ChecksRoute (rules-of ed) start route rndf mdf t u (Pair.Refused why) (zeros t) (mission-zeros u)
 
   abbrev ruled-of : Lent → MissionLent → PairReply → PairReply
   ruled-of left mission-left = ruled (left .lanes) (left .zones) (left .checkpoints) (left .exits) (mission-left .goals) start route
 
-  module _ (n : Network Field) (m : Mission Field) (a : AcceptsRndf present rndf t n) (b : AcceptsMdf present n mdf u m) where
-    pair : AcceptedPair present rndf mdf t u
-    pair = record { net = n; mission = m; goals = goals rndf t n a mdf u m b; network-accepted = a; mission-accepted = b; goals-stand = goals-stand rndf t n a mdf u m b }
+  module _ (n : Network Field) (m : Mission Field) (a : AcceptsRndf (rules-of ed) rndf t n) (b : AcceptsMdf (rules-of ed) n mdf u m) where
+    -- the present edition accepts them too
+    now : AcceptsRndf present rndf t n
+    now = accepts-later (inner ed) rndf t n a
+
+    mission-now : AcceptsMdf present n mdf u m
+    mission-now = mdf-accepts-later (inner ed) n mdf u m b
+
+    pair : AcceptedPair (rules-of ed) rndf mdf t u
+    pair = record { net = n; mission = m; goals = goals rndf t n now mdf u m mission-now; network-accepted = a; mission-accepted = b; goals-stand = goals-stand rndf t n now mdf u m mission-now }
 
     abbrev reply : PairReply
     reply = Pair.Accepted (rows-used n) (network-file n) (record { goals = length (m .goals); limits = length (m .limits) }) (mission-file m)
 
-    judged : (v : Verdict) → Says (points n) (Move n) start route (goals rndf t n a mdf u m b) v → Lawful (filled n t) (mission-filled m u) (replied reply v)
+    judged : (v : Verdict) → Says (points n) (Move n) start route (goals rndf t n now mdf u m mission-now) v → Lawful (filled n t) (mission-filled m u) (replied reply v)
     unfolding pair
     judged Verdict.Good s = right pair s (accepted n m a b refl refl refl)
     judged (Verdict.Wrong line number) s = wrong pair (s .0) number (s .2) (ap (λ (l : ℕ). Pair.Refused (refusal 0 l number 0)) (s .1)) refl refl
@@ -52,23 +62,23 @@ module _ (start : ℕ) (route : List ℕ) (rndf mdf : Bytes) (t : Lent) (u : Mis
         let move = is-move (filled n t .lanes) (filled n t .zones) (filled n t .exits) (rows-used n) in
         let point = goal-point (filled n t .checkpoints) (mission-filled m u .goals) in
         judged (verdict move point (points n) (length (m .goals)) start route)
-        (subst (λ (k : ℕ). Says (points n) (Move n) start route (goals rndf t n a mdf u m b) (verdict move point (points n) k start route)) (sym (goals-many rndf t n a mdf u m b))
-        (verdict-says (points n) (Move n) start route (goals rndf t n a mdf u m b) move (moves-are rndf t n a) point (points-are rndf t n a mdf u m b) (goals-some rndf t n a mdf u m b)))
+        (subst (λ (k : ℕ). Says (points n) (Move n) start route (goals rndf t n now mdf u m mission-now) (verdict move point (points n) k start route)) (sym (goals-many rndf t n now mdf u m mission-now))
+        (verdict-says (points n) (Move n) start route (goals rndf t n now mdf u m mission-now) move (moves-are rndf t n now) point (points-are rndf t n now mdf u m mission-now) (goals-some rndf t n now mdf u m mission-now)))
 
   -- THE LAW
-  pub lawful : (read : PairReply) (left : Lent) (mission-left : MissionLent) → ReadsPair present rndf mdf t u read left mission-left → Lawful left mission-left (ruled-of left mission-left read)
+  pub lawful : (read : PairReply) (left : Lent) (mission-left : MissionLent) → ReadsPair (rules-of ed) rndf mdf t u read left mission-left → Lawful left mission-left (ruled-of left mission-left read)
   unfolding ruled
   lawful read left mission-left (accepted n m a b e l k) = subst (λ (x : PairReply × Lent × MissionLent). Lawful (x .1) (x .2) (ruled-of (x .1) (x .2) (x .0))) (λ i. (sym e i, sym l i, sym k i)) (accepted-ruled n m a b)
   lawful read left mission-left (rndf-refused line number column h e l k) = subst (λ (x : PairReply). Lawful left mission-left (ruled-of left mission-left x)) (sym e) (unread (refusal 1 line number column) (rndf-refused line number column h refl refl refl) refl)
   lawful read left mission-left (mdf-refused n line number column a h e l k) = subst (λ (x : PairReply). Lawful left mission-left (ruled-of left mission-left x)) (sym e) (unread (refusal 2 line number column) (mdf-refused n line number column a h refl refl refl) refl)
 
   -- ## As the function goes on: an acceptance is handed on, at a refusal all that was lent is cleared
-  pub accepted-so : (read reply : PairReply) (left : Lent) (mission-left : MissionLent) → ReadsPair present rndf mdf t u read left mission-left → reply ≡ ruled-of left mission-left read
-      → (c : Counts) (file : FileRow) (m : MissionCounts) (own : MissionFileRow) → reply ≡ Pair.Accepted c file m own → ChecksRoute present start route rndf mdf t u (Pair.Accepted c file m own) left mission-left
+  pub accepted-so : (read reply : PairReply) (left : Lent) (mission-left : MissionLent) → ReadsPair (rules-of ed) rndf mdf t u read left mission-left → reply ≡ ruled-of left mission-left read
+      → (c : Counts) (file : FileRow) (m : MissionCounts) (own : MissionFileRow) → reply ≡ Pair.Accepted c file m own → ChecksRoute (rules-of ed) start route rndf mdf t u (Pair.Accepted c file m own) left mission-left
   accepted-so read reply left mission-left h r c file m own e = subst (Lawful left mission-left) (sym r ∙ e) (lawful read left mission-left h)
 
-  pub refused-so : (read reply : PairReply) (left : Lent) (mission-left : MissionLent) → ReadsPair present rndf mdf t u read left mission-left → reply ≡ ruled-of left mission-left read
+  pub refused-so : (read reply : PairReply) (left : Lent) (mission-left : MissionLent) → ReadsPair (rules-of ed) rndf mdf t u read left mission-left → reply ≡ ruled-of left mission-left read
       → (why : Refusal) → reply ≡ Pair.Refused why → (l : Lent) (k : MissionLent) → l ≡ zeros left → zeros left ≡ zeros t → k ≡ mission-zeros mission-left → mission-zeros mission-left ≡ mission-zeros u
-      → ChecksRoute present start route rndf mdf t u (Pair.Refused why) l k
-  refused-so read reply left mission-left h r why e l k cleared long mission-cleared mission-long = subst (λ (x : Lent × MissionLent). ChecksRoute present start route rndf mdf t u (Pair.Refused why) (x .0) (x .1))
+      → ChecksRoute (rules-of ed) start route rndf mdf t u (Pair.Refused why) l k
+  refused-so read reply left mission-left h r why e l k cleared long mission-cleared mission-long = subst (λ (x : Lent × MissionLent). ChecksRoute (rules-of ed) start route rndf mdf t u (Pair.Refused why) (x .0) (x .1))
       (λ i. (sym (cleared ∙ long) i, sym (mission-cleared ∙ mission-long) i)) (subst (Lawful left mission-left) (sym r ∙ e) (lawful read left mission-left h))

@@ -9,6 +9,7 @@
 // Rests on `reader`, `pair_checks`, `moves`, `move_tables`, `look_up` and what they rest on.
 use counts::Counts;
 use counts::MissionCounts;
+use edition::Edition;
 use look_up::point_of;
 use moves::is_move;
 use read_rows::goal_at;
@@ -21,7 +22,7 @@ use rows::clear;
 ghost use mathlib.Core.Path.{_≡_};
 ghost use lib.ListN.{length, getD};
 ghost use Prim.Native.Nat.{_-_};
-ghost use Rattle.law.specs.Network.{present};
+ghost use Rattle.edition.specs.Editions.{rules-of};
 ghost use Rattle.law.specs.Tables.{lent, mission-lent};
 ghost use Rattle.moves.specs.Moves.{is-move};
 ghost use Rattle.pair_checks.specs.Checks.{ChecksRoute};
@@ -186,8 +187,9 @@ fn ruled(
     }
 }
 
-// The route over the pair. start: a point's row; route: such rows.
+// The route over the pair, by the edition that the caller says. start: a point's row; route: such rows.
 pub fn check_route(
+    edition: Edition,
     rndf: &[u8],
     mdf: &[u8],
     segments: &mut [u32],
@@ -203,9 +205,10 @@ pub fn check_route(
     start: u32,
     route: &[u32],
 ) -> PairReply
-    ensures { λ r. ⌜ ChecksRoute present start (now (route .entry)) (now (rndf .entry)) (now (mdf .entry)) (lent (now (segments .entry)) (now (lanes .entry)) (now (zones .entry)) (now (spots .entry)) (now (points .entry)) (now (checkpoints .entry)) (now (stops .entry)) (now (exits .entry))) (mission-lent (now (goals .entry)) (now (limits .entry))) r (lent (now (segments .exit)) (now (lanes .exit)) (now (zones .exit)) (now (spots .exit)) (now (points .exit)) (now (checkpoints .exit)) (now (stops .exit)) (now (exits .exit))) (mission-lent (now (goals .exit)) (now (limits .exit))) ⌝ }
+    ensures { λ r. ⌜ ChecksRoute (rules-of edition) start (now (route .entry)) (now (rndf .entry)) (now (mdf .entry)) (lent (now (segments .entry)) (now (lanes .entry)) (now (zones .entry)) (now (spots .entry)) (now (points .entry)) (now (checkpoints .entry)) (now (stops .entry)) (now (exits .entry))) (mission-lent (now (goals .entry)) (now (limits .entry))) r (lent (now (segments .exit)) (now (lanes .exit)) (now (zones .exit)) (now (spots .exit)) (now (points .exit)) (now (checkpoints .exit)) (now (stops .exit)) (now (exits .exit))) (mission-lent (now (goals .exit)) (now (limits .exit))) ⌝ }
 {
     let read = read_pair(
+        edition,
         rndf,
         mdf,
         segments,

@@ -4,7 +4,9 @@ use Prim.Native.Nat.{ℕ, _≤_}
 use native.Mathlib.Omega.{arith}
 use lib.ListN.{length}
 use Rattle.terms.specs.Ascii.{Bytes}
-use Rattle.law.specs.Network.{present}
+use Rattle.edition.specs.declared.Edition.{Edition}
+use Rattle.edition.specs.Editions.{inner, rules-of}
+use Rattle.editions.proofs.Later.{later}
 use Rattle.rows.specs.declared.FileRow.{FileRow}
 use Rattle.rows.specs.declared.MissionFileRow.{MissionFileRow}
 use Rattle.table_words.specs.Words.{Lent, MissionLent, zeros, mission-zeros}
@@ -40,57 +42,57 @@ pub mdf-wrote-or-not : {c : Counts} {file : FileRow} {d : MissionCounts} {row : 
 mdf-wrote-or-not e = let z : _≡_ {A = ℕ} 0 1 = cc in omega arith
 
 -- ## An RNDF
-module _ (text : Bytes) (t left : Lent) (read : RndfReply) (lent : ℕ) (out : Bytes) (h : ReadsRndf present text t read left) where
+module _ (ed : Edition) (text : Bytes) (t left : Lent) (read : RndfReply) (lent : ℕ) (out : Bytes) (h : ReadsRndf (rules-of ed) text t read left) where
   abbrev so : WriteReply → Lent → Type 0
-  so answer held = WritesRndf present text t lent answer held out
+  so answer held = WritesRndf (rules-of ed) text t lent answer held out
 
   -- written: the tables hold what the reader left
   pub written-so : (c : Counts) (file : FileRow) (k : ℕ) → Answers read lent (arrangedText text) out (Write.Written c file k) → so (Write.Written c file k) left
   written-so c file k (A.as-read why e a o) = absurd (wrote-or-not a)
   written-so c file k (A.over c′ file′ e unfit a o) = absurd (wrote-or-not a)
   written-so c file k (A.put c′ file′ e fits a o) =
-      let x = accepted-spells text t left c′ file′ (subst (λ (y : RndfReply). ReadsRndf present text t y left) e h) in
-      let w = arranged-rndf (x .0) text (x .1) in
-      rndf-writes-to text t lent (Write.Written c file k) left out (W.written (x .0) c′ file′ (subst (λ (y : RndfReply). ReadsRndf present text t y left) e h) (x .1) (subst (Fits lent) w fits) (a ∙ ap (λ (y : Bytes). Write.Written c′ file′ (length y)) w) (o ∙ ap (O.filled lent) w))
+      let x = accepted-spells text t left (inner ed) c′ file′ (subst (λ (y : RndfReply). ReadsRndf (rules-of ed) text t y left) e h) in
+      let w = arranged-rndf (x .0) text (later (inner ed) (x .0) text (x .1)) in
+      rndf-writes-to (inner ed) text t lent (Write.Written c file k) left out (W.written (x .0) c′ file′ (subst (λ (y : RndfReply). ReadsRndf (rules-of ed) text t y left) e h) (x .1) (subst (Fits lent) w fits) (a ∙ ap (λ (y : Bytes). Write.Written c′ file′ (length y)) w) (o ∙ ap (O.filled lent) w))
 
   -- refused: the tables that the reader left are cleared
   pub refused-so : (why : Refusal) (cleared : Lent) → Answers read lent (arrangedText text) out (Write.Refused why) → cleared ≡ zeros left → zeros left ≡ zeros t → so (Write.Refused why) cleared
   refused-so why cleared (A.as-read why′ e a o) z k =
-      let y = subst (λ (y : RndfReply). ReadsRndf present text t y left) e h in
-      rndf-writes-to text t lent (Write.Refused why) cleared out (W.refused why′ (subst (λ (l : Lent). ReadsRndf present text t (Reply.Refused why′) l) (refused-zero text t left why′ y ∙ sym (z ∙ k)) y) a o)
+      let y = subst (λ (y : RndfReply). ReadsRndf (rules-of ed) text t y left) e h in
+      rndf-writes-to (inner ed) text t lent (Write.Refused why) cleared out (W.refused why′ (subst (λ (l : Lent). ReadsRndf (rules-of ed) text t (Reply.Refused why′) l) (refused-zero text t left why′ y ∙ sym (z ∙ k)) y) a o)
   refused-so why cleared (A.over c file e unfit a o) z k =
-      let y = subst (λ (y : RndfReply). ReadsRndf present text t y left) e h in
-      let x = accepted-spells text t left c file y in
-      let w = arranged-rndf (x .0) text (x .1) in
-      rndf-writes-to text t lent (Write.Refused why) cleared out (W.too-long (x .0) c file left y (x .1) (λ f. unfit (subst (Fits lent) (sym w) f)) a (z ∙ k) o)
+      let y = subst (λ (y : RndfReply). ReadsRndf (rules-of ed) text t y left) e h in
+      let x = accepted-spells text t left (inner ed) c file y in
+      let w = arranged-rndf (x .0) text (later (inner ed) (x .0) text (x .1)) in
+      rndf-writes-to (inner ed) text t lent (Write.Refused why) cleared out (W.too-long (x .0) c file left y (x .1) (λ f. unfit (subst (Fits lent) (sym w) f)) a (z ∙ k) o)
   refused-so why cleared (A.put c file e fits a o) z k = absurd (wrote-or-not (sym a))
 
 -- ## The MDF of a pair
-module _ (rndf mdf : Bytes) (t left : Lent) (u mission-left : MissionLent) (read : PairReply) (lent : ℕ) (out : Bytes) (h : ReadsPair present rndf mdf t u read left mission-left) where
-  pair-told : (r : PairReply) → read ≡ r → ReadsPair present rndf mdf t u r left mission-left
-  pair-told r e = subst (λ (y : PairReply). ReadsPair present rndf mdf t u y left mission-left) e h
+module _ (ed : Edition) (rndf mdf : Bytes) (t left : Lent) (u mission-left : MissionLent) (read : PairReply) (lent : ℕ) (out : Bytes) (h : ReadsPair (rules-of ed) rndf mdf t u read left mission-left) where
+  pair-told : (r : PairReply) → read ≡ r → ReadsPair (rules-of ed) rndf mdf t u r left mission-left
+  pair-told r e = subst (λ (y : PairReply). ReadsPair (rules-of ed) rndf mdf t u y left mission-left) e h
 
-  pub mdf-written-so : (c : Counts) (file : FileRow) (d : MissionCounts) (row : MissionFileRow) (k : ℕ) → AnswersMdf read lent (arrangedText mdf) out (WriteMdf.Written c file d row k) → WritesMdf present rndf mdf t u lent (WriteMdf.Written c file d row k) left mission-left out
+  pub mdf-written-so : (c : Counts) (file : FileRow) (d : MissionCounts) (row : MissionFileRow) (k : ℕ) → AnswersMdf read lent (arrangedText mdf) out (WriteMdf.Written c file d row k) → WritesMdf (rules-of ed) rndf mdf t u lent (WriteMdf.Written c file d row k) left mission-left out
   mdf-written-so c file d row k (A.as-read why e a o) = absurd (mdf-wrote-or-not a)
   mdf-written-so c file d row k (A.over c′ file′ d′ row′ e unfit a o) = absurd (mdf-wrote-or-not a)
   mdf-written-so c file d row k (A.put c′ file′ d′ row′ e fits a o) =
       let y = pair-told (Pair.Accepted c′ file′ d′ row′) e in
-      let x = pair-spells rndf mdf t left u mission-left c′ file′ d′ row′ y in
+      let x = pair-spells rndf mdf t left u mission-left (inner ed) c′ file′ d′ row′ y in
       let w = arranged-mdf (x .0) mdf (x .1) in
-      mdf-writes-to rndf mdf t u lent (WriteMdf.Written c file d row k) left mission-left out (W.written (x .0) c′ file′ d′ row′ y (x .1) (subst (Fits lent) w fits) (a ∙ ap (λ (y : Bytes). WriteMdf.Written c′ file′ d′ row′ (length y)) w) (o ∙ ap (O.filled lent) w))
+      mdf-writes-to (inner ed) rndf mdf t u lent (WriteMdf.Written c file d row k) left mission-left out (W.written (x .0) c′ file′ d′ row′ y (x .1) (subst (Fits lent) w fits) (a ∙ ap (λ (y : Bytes). WriteMdf.Written c′ file′ d′ row′ (length y)) w) (o ∙ ap (O.filled lent) w))
 
   pub mdf-refused-so : (why : Refusal) (cleared : Lent) (mission-cleared : MissionLent) → AnswersMdf read lent (arrangedText mdf) out (WriteMdf.Refused why) → cleared ≡ zeros left → zeros left ≡ zeros t
-      → mission-cleared ≡ mission-zeros mission-left → mission-zeros mission-left ≡ mission-zeros u → WritesMdf present rndf mdf t u lent (WriteMdf.Refused why) cleared mission-cleared out
+      → mission-cleared ≡ mission-zeros mission-left → mission-zeros mission-left ≡ mission-zeros u → WritesMdf (rules-of ed) rndf mdf t u lent (WriteMdf.Refused why) cleared mission-cleared out
   mdf-refused-so why cleared mission-cleared (A.as-read why′ e a o) z k y j =
       let p = pair-told (Pair.Refused why′) e in
       let q = pair-refused-zero rndf mdf t left u mission-left why′ p in
-      let one = subst (λ (l : Lent). ReadsPair present rndf mdf t u (Pair.Refused why′) l mission-left) (q .0 ∙ sym (z ∙ k)) p in
-      mdf-writes-to rndf mdf t u lent (WriteMdf.Refused why) cleared mission-cleared out (W.refused why′ (subst (λ (l : MissionLent). ReadsPair present rndf mdf t u (Pair.Refused why′) cleared l) (q .1 ∙ sym (y ∙ j)) one) a o)
+      let one = subst (λ (l : Lent). ReadsPair (rules-of ed) rndf mdf t u (Pair.Refused why′) l mission-left) (q .0 ∙ sym (z ∙ k)) p in
+      mdf-writes-to (inner ed) rndf mdf t u lent (WriteMdf.Refused why) cleared mission-cleared out (W.refused why′ (subst (λ (l : MissionLent). ReadsPair (rules-of ed) rndf mdf t u (Pair.Refused why′) cleared l) (q .1 ∙ sym (y ∙ j)) one) a o)
   mdf-refused-so why cleared mission-cleared (A.over c file d row e unfit a o) z k y j =
       let p = pair-told (Pair.Accepted c file d row) e in
-      let x = pair-spells rndf mdf t left u mission-left c file d row p in
+      let x = pair-spells rndf mdf t left u mission-left (inner ed) c file d row p in
       let w = arranged-mdf (x .0) mdf (x .1) in
-      mdf-writes-to rndf mdf t u lent (WriteMdf.Refused why) cleared mission-cleared out (W.too-long (x .0) c file d row left mission-left p (x .1) (λ f. unfit (subst (Fits lent) (sym w) f)) a (z ∙ k) (y ∙ j) o)
+      mdf-writes-to (inner ed) rndf mdf t u lent (WriteMdf.Refused why) cleared mission-cleared out (W.too-long (x .0) c file d row left mission-left p (x .1) (λ f. unfit (subst (Fits lent) (sym w) f)) a (z ∙ k) (y ∙ j) o)
   mdf-refused-so why cleared mission-cleared (A.put c file d row e fits a o) z k y j = absurd (mdf-wrote-or-not (sym a))
 
 -- ## By how the writing ended

@@ -11,6 +11,7 @@
 // crate `return_trip`.
 //
 // Rests on `writings`, `reader`, `house_lines`, `house_arranged`, `house_text`, `output` and what they rest on.
+use edition::Edition;
 use house_lines::put_house;
 use output::Finished;
 use output::clear_output;
@@ -26,7 +27,7 @@ use writings::WriteMdfReply;
 use writings::WriteReply;
 ghost use mathlib.Core.Path.{_≡_};
 ghost use lib.ListN.{length};
-ghost use Rattle.law.specs.Network.{present};
+ghost use Rattle.edition.specs.Editions.{rules-of};
 ghost use Rattle.law.specs.Tables.{lent, mission-lent};
 ghost use Rattle.output.specs.Output.{Output};
 ghost use Rattle.house_lines.specs.Arranged.{arrangedText};
@@ -95,6 +96,7 @@ fn write_mdf_read(mdf: &[u8], read: PairReply, out: &mut [u8]) -> WriteMdfReply
 
 // An RNDF.
 pub fn write_rndf(
+    edition: Edition,
     text: &[u8],
     segments: &mut [u32],
     lanes: &mut [u32],
@@ -106,9 +108,10 @@ pub fn write_rndf(
     exits: &mut [u32],
     out: &mut [u8],
 ) -> WriteReply
-    ensures { λ r. ⌜ WritesRndf present (now (text .entry)) (lent (now (segments .entry)) (now (lanes .entry)) (now (zones .entry)) (now (spots .entry)) (now (points .entry)) (now (checkpoints .entry)) (now (stops .entry)) (now (exits .entry))) (length (now (out .entry))) r (lent (now (segments .exit)) (now (lanes .exit)) (now (zones .exit)) (now (spots .exit)) (now (points .exit)) (now (checkpoints .exit)) (now (stops .exit)) (now (exits .exit))) (now (out .exit)) ⌝ }
+    ensures { λ r. ⌜ WritesRndf (rules-of edition) (now (text .entry)) (lent (now (segments .entry)) (now (lanes .entry)) (now (zones .entry)) (now (spots .entry)) (now (points .entry)) (now (checkpoints .entry)) (now (stops .entry)) (now (exits .entry))) (length (now (out .entry))) r (lent (now (segments .exit)) (now (lanes .exit)) (now (zones .exit)) (now (spots .exit)) (now (points .exit)) (now (checkpoints .exit)) (now (stops .exit)) (now (exits .exit))) (now (out .exit)) ⌝ }
 {
     let read = read_rndf(
+        edition,
         text,
         segments,
         lanes,
@@ -140,6 +143,7 @@ pub fn write_rndf(
 
 // The MDF of a pair.
 pub fn write_mdf(
+    edition: Edition,
     rndf: &[u8],
     mdf: &[u8],
     segments: &mut [u32],
@@ -154,9 +158,10 @@ pub fn write_mdf(
     limits: &mut [u32],
     out: &mut [u8],
 ) -> WriteMdfReply
-    ensures { λ r. ⌜ WritesMdf present (now (rndf .entry)) (now (mdf .entry)) (lent (now (segments .entry)) (now (lanes .entry)) (now (zones .entry)) (now (spots .entry)) (now (points .entry)) (now (checkpoints .entry)) (now (stops .entry)) (now (exits .entry))) (mission-lent (now (goals .entry)) (now (limits .entry))) (length (now (out .entry))) r (lent (now (segments .exit)) (now (lanes .exit)) (now (zones .exit)) (now (spots .exit)) (now (points .exit)) (now (checkpoints .exit)) (now (stops .exit)) (now (exits .exit))) (mission-lent (now (goals .exit)) (now (limits .exit))) (now (out .exit)) ⌝ }
+    ensures { λ r. ⌜ WritesMdf (rules-of edition) (now (rndf .entry)) (now (mdf .entry)) (lent (now (segments .entry)) (now (lanes .entry)) (now (zones .entry)) (now (spots .entry)) (now (points .entry)) (now (checkpoints .entry)) (now (stops .entry)) (now (exits .entry))) (mission-lent (now (goals .entry)) (now (limits .entry))) (length (now (out .entry))) r (lent (now (segments .exit)) (now (lanes .exit)) (now (zones .exit)) (now (spots .exit)) (now (points .exit)) (now (checkpoints .exit)) (now (stops .exit)) (now (exits .exit))) (mission-lent (now (goals .exit)) (now (limits .exit))) (now (out .exit)) ⌝ }
 {
     let read = read_pair(
+        edition,
         rndf,
         mdf,
         segments,

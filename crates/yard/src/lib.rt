@@ -1,17 +1,19 @@
 // The library for C and Rust engineers: `rt staticlib yard` writes target/staticlib/libyard.a, include/kastepuhm.h declares it for C, tests/callers/caller.rs for Rust.
+// `edition` is the number of `edition`/specs/Editions: 1 reads by the edition of December 6, 2006, any other number by the present one.
 // Every function here takes plain slices (C hands over a pointer, then how many elements) and numbers, requires nothing of them, keeps nothing and allocates nothing.
 //
 // The answers and the contracts are `answer_fields`, with their laws; what a reader must believe beside them: replies/specs/Replies, writings/specs/Writes, pair_checks/specs/Checks, look_up/specs/LookUp, Listed.
 //
 // Left out: asking for a name (`rows::name_of`), since a part of a slice cannot be returned to C. There a name is `text + start` for `length` bytes.
 //
-// Rests on `answer_fields`, `reader`, `writer`, `map_writer`, `route`, `look_up` and what they rest on.
+// Rests on `answer_fields`, `edition`, `reader`, `writer`, `map_writer`, `route`, `look_up` and what they rest on.
 use answer_fields::Answer;
 use answer_fields::ListAnswer;
 use answer_fields::Name;
 use answer_fields::WriteAnswer;
 use counts::Counts;
 use counts::MissionCounts;
+use edition::edition_of;
 use look_up::ListReply;
 use look_up::point_of_word;
 use look_up::points_of;
@@ -32,6 +34,7 @@ use writings::WriteReply;
 ghost use mathlib.Core.Path.{_≡_};
 ghost use lib.ListN.{length};
 ghost use Rattle.law.specs.Tables.{lent, mission-lent};
+ghost use Rattle.edition.specs.Editions.{numbered};
 ghost use Rattle.look_up.specs.LookUp.{PointOf};
 ghost use Rattle.answer_fields.specs.Answers.{named, laid-out, taken, refused, rndf-answer, pair-answer, write-answer, write-mdf-answer, list-answer, AnswersRndf, AnswersPair, AnswersRoute, AnswersWriteRndf, AnswersWriteMap, AnswersWriteMdf, AnswersList};
 
@@ -203,6 +206,7 @@ fn list_answer(reply: ListReply) -> ListAnswer
 // An RNDF alone.
 #[no_mangle]
 pub extern "C" fn kastepuhm_read_rndf(
+    edition: u32,
     text: &[u8],
     segments: &mut [u32],
     lanes: &mut [u32],
@@ -213,9 +217,11 @@ pub extern "C" fn kastepuhm_read_rndf(
     stops: &mut [u32],
     exits: &mut [u32],
 ) -> Answer
-    ensures { λ r. ⌜ AnswersRndf (now (text .entry)) (lent (now (segments .entry)) (now (lanes .entry)) (now (zones .entry)) (now (spots .entry)) (now (points .entry)) (now (checkpoints .entry)) (now (stops .entry)) (now (exits .entry))) r (lent (now (segments .exit)) (now (lanes .exit)) (now (zones .exit)) (now (spots .exit)) (now (points .exit)) (now (checkpoints .exit)) (now (stops .exit)) (now (exits .exit))) ⌝ }
+    ensures { λ r. ⌜ AnswersRndf (numbered edition) (now (text .entry)) (lent (now (segments .entry)) (now (lanes .entry)) (now (zones .entry)) (now (spots .entry)) (now (points .entry)) (now (checkpoints .entry)) (now (stops .entry)) (now (exits .entry))) r (lent (now (segments .exit)) (now (lanes .exit)) (now (zones .exit)) (now (spots .exit)) (now (points .exit)) (now (checkpoints .exit)) (now (stops .exit)) (now (exits .exit))) ⌝ }
 {
+    let by = edition_of(edition);
     let reply = read_rndf(
+        by,
         text,
         segments,
         lanes,
@@ -232,6 +238,7 @@ pub extern "C" fn kastepuhm_read_rndf(
 // An RNDF with its MDF.
 #[no_mangle]
 pub extern "C" fn kastepuhm_read_pair(
+    edition: u32,
     rndf: &[u8],
     mdf: &[u8],
     segments: &mut [u32],
@@ -245,9 +252,11 @@ pub extern "C" fn kastepuhm_read_pair(
     goals: &mut [u32],
     limits: &mut [u32],
 ) -> Answer
-    ensures { λ r. ⌜ AnswersPair (now (rndf .entry)) (now (mdf .entry)) (lent (now (segments .entry)) (now (lanes .entry)) (now (zones .entry)) (now (spots .entry)) (now (points .entry)) (now (checkpoints .entry)) (now (stops .entry)) (now (exits .entry))) (mission-lent (now (goals .entry)) (now (limits .entry))) r (lent (now (segments .exit)) (now (lanes .exit)) (now (zones .exit)) (now (spots .exit)) (now (points .exit)) (now (checkpoints .exit)) (now (stops .exit)) (now (exits .exit))) (mission-lent (now (goals .exit)) (now (limits .exit))) ⌝ }
+    ensures { λ r. ⌜ AnswersPair (numbered edition) (now (rndf .entry)) (now (mdf .entry)) (lent (now (segments .entry)) (now (lanes .entry)) (now (zones .entry)) (now (spots .entry)) (now (points .entry)) (now (checkpoints .entry)) (now (stops .entry)) (now (exits .entry))) (mission-lent (now (goals .entry)) (now (limits .entry))) r (lent (now (segments .exit)) (now (lanes .exit)) (now (zones .exit)) (now (spots .exit)) (now (points .exit)) (now (checkpoints .exit)) (now (stops .exit)) (now (exits .exit))) (mission-lent (now (goals .exit)) (now (limits .exit))) ⌝ }
 {
+    let by = edition_of(edition);
     let reply = read_pair(
+        by,
         rndf,
         mdf,
         segments,
@@ -267,6 +276,7 @@ pub extern "C" fn kastepuhm_read_pair(
 // A route over an RNDF with its MDF, from a start: is it drivable?
 #[no_mangle]
 pub extern "C" fn kastepuhm_check_route(
+    edition: u32,
     rndf: &[u8],
     mdf: &[u8],
     segments: &mut [u32],
@@ -282,9 +292,11 @@ pub extern "C" fn kastepuhm_check_route(
     start: u32,
     route: &[u32],
 ) -> Answer
-    ensures { λ r. ⌜ AnswersRoute start (now (route .entry)) (now (rndf .entry)) (now (mdf .entry)) (lent (now (segments .entry)) (now (lanes .entry)) (now (zones .entry)) (now (spots .entry)) (now (points .entry)) (now (checkpoints .entry)) (now (stops .entry)) (now (exits .entry))) (mission-lent (now (goals .entry)) (now (limits .entry))) r (lent (now (segments .exit)) (now (lanes .exit)) (now (zones .exit)) (now (spots .exit)) (now (points .exit)) (now (checkpoints .exit)) (now (stops .exit)) (now (exits .exit))) (mission-lent (now (goals .exit)) (now (limits .exit))) ⌝ }
+    ensures { λ r. ⌜ AnswersRoute (numbered edition) start (now (route .entry)) (now (rndf .entry)) (now (mdf .entry)) (lent (now (segments .entry)) (now (lanes .entry)) (now (zones .entry)) (now (spots .entry)) (now (points .entry)) (now (checkpoints .entry)) (now (stops .entry)) (now (exits .entry))) (mission-lent (now (goals .entry)) (now (limits .entry))) r (lent (now (segments .exit)) (now (lanes .exit)) (now (zones .exit)) (now (spots .exit)) (now (points .exit)) (now (checkpoints .exit)) (now (stops .exit)) (now (exits .exit))) (mission-lent (now (goals .exit)) (now (limits .exit))) ⌝ }
 {
+    let by = edition_of(edition);
     let reply = check_route(
+        by,
         rndf,
         mdf,
         segments,
@@ -306,6 +318,7 @@ pub extern "C" fn kastepuhm_check_route(
 // The house writing of an RNDF, into `out`.
 #[no_mangle]
 pub extern "C" fn kastepuhm_write_rndf(
+    edition: u32,
     text: &[u8],
     segments: &mut [u32],
     lanes: &mut [u32],
@@ -317,9 +330,11 @@ pub extern "C" fn kastepuhm_write_rndf(
     exits: &mut [u32],
     out: &mut [u8],
 ) -> WriteAnswer
-    ensures { λ r. ⌜ AnswersWriteRndf (now (text .entry)) (lent (now (segments .entry)) (now (lanes .entry)) (now (zones .entry)) (now (spots .entry)) (now (points .entry)) (now (checkpoints .entry)) (now (stops .entry)) (now (exits .entry))) (length (now (out .entry))) r (lent (now (segments .exit)) (now (lanes .exit)) (now (zones .exit)) (now (spots .exit)) (now (points .exit)) (now (checkpoints .exit)) (now (stops .exit)) (now (exits .exit))) (now (out .exit)) ⌝ }
+    ensures { λ r. ⌜ AnswersWriteRndf (numbered edition) (now (text .entry)) (lent (now (segments .entry)) (now (lanes .entry)) (now (zones .entry)) (now (spots .entry)) (now (points .entry)) (now (checkpoints .entry)) (now (stops .entry)) (now (exits .entry))) (length (now (out .entry))) r (lent (now (segments .exit)) (now (lanes .exit)) (now (zones .exit)) (now (spots .exit)) (now (points .exit)) (now (checkpoints .exit)) (now (stops .exit)) (now (exits .exit))) (now (out .exit)) ⌝ }
 {
+    let by = edition_of(edition);
     let reply = write_rndf(
+        by,
         text,
         segments,
         lanes,
@@ -337,6 +352,7 @@ pub extern "C" fn kastepuhm_write_rndf(
 // The map of an RNDF's network, into `out`.
 #[no_mangle]
 pub extern "C" fn kastepuhm_write_map(
+    edition: u32,
     text: &[u8],
     segments: &mut [u32],
     lanes: &mut [u32],
@@ -348,9 +364,11 @@ pub extern "C" fn kastepuhm_write_map(
     exits: &mut [u32],
     out: &mut [u8],
 ) -> WriteAnswer
-    ensures { λ r. ⌜ AnswersWriteMap (now (text .entry)) (lent (now (segments .entry)) (now (lanes .entry)) (now (zones .entry)) (now (spots .entry)) (now (points .entry)) (now (checkpoints .entry)) (now (stops .entry)) (now (exits .entry))) (length (now (out .entry))) r (lent (now (segments .exit)) (now (lanes .exit)) (now (zones .exit)) (now (spots .exit)) (now (points .exit)) (now (checkpoints .exit)) (now (stops .exit)) (now (exits .exit))) (now (out .exit)) ⌝ }
+    ensures { λ r. ⌜ AnswersWriteMap (numbered edition) (now (text .entry)) (lent (now (segments .entry)) (now (lanes .entry)) (now (zones .entry)) (now (spots .entry)) (now (points .entry)) (now (checkpoints .entry)) (now (stops .entry)) (now (exits .entry))) (length (now (out .entry))) r (lent (now (segments .exit)) (now (lanes .exit)) (now (zones .exit)) (now (spots .exit)) (now (points .exit)) (now (checkpoints .exit)) (now (stops .exit)) (now (exits .exit))) (now (out .exit)) ⌝ }
 {
+    let by = edition_of(edition);
     let reply = write_map(
+        by,
         text,
         segments,
         lanes,
@@ -368,6 +386,7 @@ pub extern "C" fn kastepuhm_write_map(
 // The house writing of the MDF of a pair, into `out`.
 #[no_mangle]
 pub extern "C" fn kastepuhm_write_mdf(
+    edition: u32,
     rndf: &[u8],
     mdf: &[u8],
     segments: &mut [u32],
@@ -382,9 +401,11 @@ pub extern "C" fn kastepuhm_write_mdf(
     limits: &mut [u32],
     out: &mut [u8],
 ) -> WriteAnswer
-    ensures { λ r. ⌜ AnswersWriteMdf (now (rndf .entry)) (now (mdf .entry)) (lent (now (segments .entry)) (now (lanes .entry)) (now (zones .entry)) (now (spots .entry)) (now (points .entry)) (now (checkpoints .entry)) (now (stops .entry)) (now (exits .entry))) (mission-lent (now (goals .entry)) (now (limits .entry))) (length (now (out .entry))) r (lent (now (segments .exit)) (now (lanes .exit)) (now (zones .exit)) (now (spots .exit)) (now (points .exit)) (now (checkpoints .exit)) (now (stops .exit)) (now (exits .exit))) (mission-lent (now (goals .exit)) (now (limits .exit))) (now (out .exit)) ⌝ }
+    ensures { λ r. ⌜ AnswersWriteMdf (numbered edition) (now (rndf .entry)) (now (mdf .entry)) (lent (now (segments .entry)) (now (lanes .entry)) (now (zones .entry)) (now (spots .entry)) (now (points .entry)) (now (checkpoints .entry)) (now (stops .entry)) (now (exits .entry))) (mission-lent (now (goals .entry)) (now (limits .entry))) (length (now (out .entry))) r (lent (now (segments .exit)) (now (lanes .exit)) (now (zones .exit)) (now (spots .exit)) (now (points .exit)) (now (checkpoints .exit)) (now (stops .exit)) (now (exits .exit))) (mission-lent (now (goals .exit)) (now (limits .exit))) (now (out .exit)) ⌝ }
 {
+    let by = edition_of(edition);
     let reply = write_mdf(
+        by,
         rndf,
         mdf,
         segments,

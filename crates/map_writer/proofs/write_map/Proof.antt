@@ -24,28 +24,28 @@ clear-tables-requires : tie.Need-clear-tables-requires
 clear-tables-requires c κs = tt
 
 same-length : tie.Need-same-length
-same-length c = c .before .before .before .before .before .before .before .before .before .before .before .before .before .before .before .before .before .before .before .before .before .before .before .before .before .before .before .before .read-rndf .kept .1 .0
+same-length c = c .before .before .before .before .before .before .before .before .before .before .before .before .before .before .before .before .before .before .before .before .before .before .before .before .before .before .before .before .read-rndf .kept .1 .1 .0
 
 same-length-2 : tie.Need-same-length-2
-same-length-2 c = c .before .before .before .before .before .before .before .before .before .before .before .before .before .before .before .before .before .before .before .before .before .before .before .before .before .before .before .before .read-rndf .kept .1 .1 .0
+same-length-2 c = c .before .before .before .before .before .before .before .before .before .before .before .before .before .before .before .before .before .before .before .before .before .before .before .before .before .before .before .before .read-rndf .kept .1 .1 .1 .0
 
 same-length-3 : tie.Need-same-length-3
-same-length-3 c = c .before .before .before .before .before .before .before .before .before .before .before .before .before .before .before .before .before .before .before .before .before .before .before .before .before .before .before .before .read-rndf .kept .1 .1 .1 .0
+same-length-3 c = c .before .before .before .before .before .before .before .before .before .before .before .before .before .before .before .before .before .before .before .before .before .before .before .before .before .before .before .before .read-rndf .kept .1 .1 .1 .1 .0
 
 same-length-4 : tie.Need-same-length-4
-same-length-4 c = c .before .before .before .before .before .before .before .before .before .before .before .before .before .before .before .before .before .before .before .before .before .before .before .before .before .before .before .before .read-rndf .kept .1 .1 .1 .1 .0
+same-length-4 c = c .before .before .before .before .before .before .before .before .before .before .before .before .before .before .before .before .before .before .before .before .before .before .before .before .before .before .before .before .read-rndf .kept .1 .1 .1 .1 .1 .0
 
 same-length-5 : tie.Need-same-length-5
-same-length-5 c = c .before .before .before .before .before .before .before .before .before .before .before .before .before .before .before .before .before .before .before .before .before .before .before .before .before .before .before .before .read-rndf .kept .1 .1 .1 .1 .1 .0
+same-length-5 c = c .before .before .before .before .before .before .before .before .before .before .before .before .before .before .before .before .before .before .before .before .before .before .before .before .before .before .before .before .read-rndf .kept .1 .1 .1 .1 .1 .1 .0
 
 same-length-6 : tie.Need-same-length-6
-same-length-6 c = c .before .before .before .before .before .before .before .before .before .before .before .before .before .before .before .before .before .before .before .before .before .before .before .before .before .before .before .before .read-rndf .kept .1 .1 .1 .1 .1 .1 .0
+same-length-6 c = c .before .before .before .before .before .before .before .before .before .before .before .before .before .before .before .before .before .before .before .before .before .before .before .before .before .before .before .before .read-rndf .kept .1 .1 .1 .1 .1 .1 .1 .0
 
 same-length-7 : tie.Need-same-length-7
-same-length-7 c = c .before .before .before .before .before .before .before .before .before .before .before .before .before .before .before .before .before .before .before .before .before .before .before .before .before .before .before .before .read-rndf .kept .1 .1 .1 .1 .1 .1 .1 .0
+same-length-7 c = c .before .before .before .before .before .before .before .before .before .before .before .before .before .before .before .before .before .before .before .before .before .before .before .before .before .before .before .before .read-rndf .kept .1 .1 .1 .1 .1 .1 .1 .1 .0
 
 same-length-8 : tie.Need-same-length-8
-same-length-8 c = c .before .before .before .before .before .before .before .before .before .before .before .before .before .before .before .before .before .before .before .before .before .before .before .before .before .before .before .before .read-rndf .kept .1 .1 .1 .1 .1 .1 .1 .1 .0
+same-length-8 c = c .before .before .before .before .before .before .before .before .before .before .before .before .before .before .before .before .before .before .before .before .before .before .before .before .before .before .before .before .read-rndf .kept .1 .1 .1 .1 .1 .1 .1 .1 .1 .0
 
 same-length-9 : tie.Need-same-length-9
 same-length-9 c = c .before .before .before .before .before .write-read .kept .1 .1 .1 .1 .1 .1 .1 .1 .0
@@ -55,31 +55,31 @@ returns c =
     let A = c .before .before .before .before .before .before .before .before .before .before .before .before .before .before .before .before .before .before .before .before .before .before .before .before .before .before .before .before .before .before .before .before .before .before .before .before .before .before .before .before .before .before .before .before .before .before .args in
     let n = c .before .before .before .before .before .before .before .before .before .before .before .before .before .before .before .before .before .before .before .before .before .before .before .before .before .before .before .before .read-rndf in
     let w = c .before .before .before .before .before .write-read in
-    written-so (A .text .now) (lent (A .segments .now) (A .lanes .now) (A .zones .now) (A .spots .now) (A .points .now) (A .checkpoints .now) (A .stops .now) (A .exits .now)) (lent (n .last .1 .0) (n .last .1 .1 .0) (n .last .1 .1 .1 .0) (n .last .1 .1 .1 .1 .0) (n .last .1 .1 .1 .1 .1 .0) (n .last .1 .1 .1 .1 .1 .1 .0) (n .last .1 .1 .1 .1 .1 .1 .1 .0) (n .last .1 .1 .1 .1 .1 .1 .1 .1 .0)) (n .result) (length (A .out .now)) (w .last .1 .1 .1 .1 .1 .1 .1 .1 .0) (n .ensures) _ _ _ (rw (c .before .reply .given .1) at (w .ensures))
+    written-so (A .edition) (A .text .now) (lent (A .segments .now) (A .lanes .now) (A .zones .now) (A .spots .now) (A .points .now) (A .checkpoints .now) (A .stops .now) (A .exits .now)) (lent (n .last .1 .1 .0) (n .last .1 .1 .1 .0) (n .last .1 .1 .1 .1 .0) (n .last .1 .1 .1 .1 .1 .0) (n .last .1 .1 .1 .1 .1 .1 .0) (n .last .1 .1 .1 .1 .1 .1 .1 .0) (n .last .1 .1 .1 .1 .1 .1 .1 .1 .0) (n .last .1 .1 .1 .1 .1 .1 .1 .1 .1 .0)) (n .result) (length (A .out .now)) (w .last .1 .1 .1 .1 .1 .1 .1 .1 .0) (n .ensures) _ _ _ (rw (c .before .reply .given .1) at (w .ensures))
 
 same-length-10 : tie.Need-same-length-10
-same-length-10 c = c .before .before .before .before .before .before .before .before .before .before .before .before .before .before .before .clear-tables .kept .0 ∙ c .before .before .before .before .before .before .before .before .before .before .before .before .before .before .before .before .before .before .before .before .before .before .before .before .before .before .before .before .before .before .before .before .before .before .before .before .before .before .before .before .before .before .before .before .before .before .before .before .before .before .before .before .read-rndf .kept .1 .0
+same-length-10 c = c .before .before .before .before .before .before .before .before .before .before .before .before .before .before .before .clear-tables .kept .0 ∙ c .before .before .before .before .before .before .before .before .before .before .before .before .before .before .before .before .before .before .before .before .before .before .before .before .before .before .before .before .before .before .before .before .before .before .before .before .before .before .before .before .before .before .before .before .before .before .before .before .before .before .before .before .read-rndf .kept .1 .1 .0
 
 same-length-11 : tie.Need-same-length-11
-same-length-11 c = c .before .before .before .before .before .before .before .before .before .before .before .before .before .before .before .clear-tables .kept .1 .0 ∙ c .before .before .before .before .before .before .before .before .before .before .before .before .before .before .before .before .before .before .before .before .before .before .before .before .before .before .before .before .before .before .before .before .before .before .before .before .before .before .before .before .before .before .before .before .before .before .before .before .before .before .before .before .read-rndf .kept .1 .1 .0
+same-length-11 c = c .before .before .before .before .before .before .before .before .before .before .before .before .before .before .before .clear-tables .kept .1 .0 ∙ c .before .before .before .before .before .before .before .before .before .before .before .before .before .before .before .before .before .before .before .before .before .before .before .before .before .before .before .before .before .before .before .before .before .before .before .before .before .before .before .before .before .before .before .before .before .before .before .before .before .before .before .before .read-rndf .kept .1 .1 .1 .0
 
 same-length-12 : tie.Need-same-length-12
-same-length-12 c = c .before .before .before .before .before .before .before .before .before .before .before .before .before .before .before .clear-tables .kept .1 .1 .0 ∙ c .before .before .before .before .before .before .before .before .before .before .before .before .before .before .before .before .before .before .before .before .before .before .before .before .before .before .before .before .before .before .before .before .before .before .before .before .before .before .before .before .before .before .before .before .before .before .before .before .before .before .before .before .read-rndf .kept .1 .1 .1 .0
+same-length-12 c = c .before .before .before .before .before .before .before .before .before .before .before .before .before .before .before .clear-tables .kept .1 .1 .0 ∙ c .before .before .before .before .before .before .before .before .before .before .before .before .before .before .before .before .before .before .before .before .before .before .before .before .before .before .before .before .before .before .before .before .before .before .before .before .before .before .before .before .before .before .before .before .before .before .before .before .before .before .before .before .read-rndf .kept .1 .1 .1 .1 .0
 
 same-length-13 : tie.Need-same-length-13
-same-length-13 c = c .before .before .before .before .before .before .before .before .before .before .before .before .before .before .before .clear-tables .kept .1 .1 .1 .0 ∙ c .before .before .before .before .before .before .before .before .before .before .before .before .before .before .before .before .before .before .before .before .before .before .before .before .before .before .before .before .before .before .before .before .before .before .before .before .before .before .before .before .before .before .before .before .before .before .before .before .before .before .before .before .read-rndf .kept .1 .1 .1 .1 .0
+same-length-13 c = c .before .before .before .before .before .before .before .before .before .before .before .before .before .before .before .clear-tables .kept .1 .1 .1 .0 ∙ c .before .before .before .before .before .before .before .before .before .before .before .before .before .before .before .before .before .before .before .before .before .before .before .before .before .before .before .before .before .before .before .before .before .before .before .before .before .before .before .before .before .before .before .before .before .before .before .before .before .before .before .before .read-rndf .kept .1 .1 .1 .1 .1 .0
 
 same-length-14 : tie.Need-same-length-14
-same-length-14 c = c .before .before .before .before .before .before .before .before .before .before .before .before .before .before .before .clear-tables .kept .1 .1 .1 .1 .0 ∙ c .before .before .before .before .before .before .before .before .before .before .before .before .before .before .before .before .before .before .before .before .before .before .before .before .before .before .before .before .before .before .before .before .before .before .before .before .before .before .before .before .before .before .before .before .before .before .before .before .before .before .before .before .read-rndf .kept .1 .1 .1 .1 .1 .0
+same-length-14 c = c .before .before .before .before .before .before .before .before .before .before .before .before .before .before .before .clear-tables .kept .1 .1 .1 .1 .0 ∙ c .before .before .before .before .before .before .before .before .before .before .before .before .before .before .before .before .before .before .before .before .before .before .before .before .before .before .before .before .before .before .before .before .before .before .before .before .before .before .before .before .before .before .before .before .before .before .before .before .before .before .before .before .read-rndf .kept .1 .1 .1 .1 .1 .1 .0
 
 same-length-15 : tie.Need-same-length-15
-same-length-15 c = c .before .before .before .before .before .before .before .before .before .before .before .before .before .before .before .clear-tables .kept .1 .1 .1 .1 .1 .0 ∙ c .before .before .before .before .before .before .before .before .before .before .before .before .before .before .before .before .before .before .before .before .before .before .before .before .before .before .before .before .before .before .before .before .before .before .before .before .before .before .before .before .before .before .before .before .before .before .before .before .before .before .before .before .read-rndf .kept .1 .1 .1 .1 .1 .1 .0
+same-length-15 c = c .before .before .before .before .before .before .before .before .before .before .before .before .before .before .before .clear-tables .kept .1 .1 .1 .1 .1 .0 ∙ c .before .before .before .before .before .before .before .before .before .before .before .before .before .before .before .before .before .before .before .before .before .before .before .before .before .before .before .before .before .before .before .before .before .before .before .before .before .before .before .before .before .before .before .before .before .before .before .before .before .before .before .before .read-rndf .kept .1 .1 .1 .1 .1 .1 .1 .0
 
 same-length-16 : tie.Need-same-length-16
-same-length-16 c = c .before .before .before .before .before .before .before .before .before .before .before .before .before .before .before .clear-tables .kept .1 .1 .1 .1 .1 .1 .0 ∙ c .before .before .before .before .before .before .before .before .before .before .before .before .before .before .before .before .before .before .before .before .before .before .before .before .before .before .before .before .before .before .before .before .before .before .before .before .before .before .before .before .before .before .before .before .before .before .before .before .before .before .before .before .read-rndf .kept .1 .1 .1 .1 .1 .1 .1 .0
+same-length-16 c = c .before .before .before .before .before .before .before .before .before .before .before .before .before .before .before .clear-tables .kept .1 .1 .1 .1 .1 .1 .0 ∙ c .before .before .before .before .before .before .before .before .before .before .before .before .before .before .before .before .before .before .before .before .before .before .before .before .before .before .before .before .before .before .before .before .before .before .before .before .before .before .before .before .before .before .before .before .before .before .before .before .before .before .before .before .read-rndf .kept .1 .1 .1 .1 .1 .1 .1 .1 .0
 
 same-length-17 : tie.Need-same-length-17
-same-length-17 c = c .before .before .before .before .before .before .before .before .before .before .before .before .before .before .before .clear-tables .kept .1 .1 .1 .1 .1 .1 .1 .0 ∙ c .before .before .before .before .before .before .before .before .before .before .before .before .before .before .before .before .before .before .before .before .before .before .before .before .before .before .before .before .before .before .before .before .before .before .before .before .before .before .before .before .before .before .before .before .before .before .before .before .before .before .before .before .read-rndf .kept .1 .1 .1 .1 .1 .1 .1 .1 .0
+same-length-17 c = c .before .before .before .before .before .before .before .before .before .before .before .before .before .before .before .clear-tables .kept .1 .1 .1 .1 .1 .1 .1 .0 ∙ c .before .before .before .before .before .before .before .before .before .before .before .before .before .before .before .before .before .before .before .before .before .before .before .before .before .before .before .before .before .before .before .before .before .before .before .before .before .before .before .before .before .before .before .before .before .before .before .before .before .before .before .before .read-rndf .kept .1 .1 .1 .1 .1 .1 .1 .1 .1 .0
 
 same-length-18 : tie.Need-same-length-18
 same-length-18 c = c .before .before .before .before .before .before .before .before .before .before .before .before .before .before .before .before .before .before .before .before .before .before .before .before .before .before .before .before .before .write-read .kept .1 .1 .1 .1 .1 .1 .1 .1 .0
@@ -90,7 +90,7 @@ returns-2 c =
     let n = c .before .before .before .before .before .before .before .before .before .before .before .before .before .before .before .before .before .before .before .before .before .before .before .before .before .before .before .before .before .before .before .before .before .before .before .before .before .before .before .before .before .before .before .before .before .before .before .before .before .before .before .before .read-rndf in
     let w = c .before .before .before .before .before .before .before .before .before .before .before .before .before .before .before .before .before .before .before .before .before .before .before .before .before .before .before .before .before .write-read in
     let k = c .before .before .before .before .before .before .before .before .before .before .before .before .before .before .before .clear-tables in
-    refused-so (A .text .now) (lent (A .segments .now) (A .lanes .now) (A .zones .now) (A .spots .now) (A .points .now) (A .checkpoints .now) (A .stops .now) (A .exits .now)) (lent (n .last .1 .0) (n .last .1 .1 .0) (n .last .1 .1 .1 .0) (n .last .1 .1 .1 .1 .0) (n .last .1 .1 .1 .1 .1 .0) (n .last .1 .1 .1 .1 .1 .1 .0) (n .last .1 .1 .1 .1 .1 .1 .1 .0) (n .last .1 .1 .1 .1 .1 .1 .1 .1 .0)) (n .result) (length (A .out .now)) (w .last .1 .1 .1 .1 .1 .1 .1 .1 .0) (n .ensures) _ (lent (k .last .0) (k .last .1 .0) (k .last .1 .1 .0) (k .last .1 .1 .1 .0) (k .last .1 .1 .1 .1 .0) (k .last .1 .1 .1 .1 .1 .0) (k .last .1 .1 .1 .1 .1 .1 .0) (k .last .1 .1 .1 .1 .1 .1 .1 .0)) (rw (c .before .before .before .before .before .before .before .before .before .before .before .before .before .before .before .before .before .before .before .before .before .before .before .before .before .reply2 .given .1) at (w .ensures)) (k .ensures) (λ i. lent (replicate (n .kept .1 .0 i) 0) (replicate (n .kept .1 .1 .0 i) 0) (replicate (n .kept .1 .1 .1 .0 i) 0) (replicate (n .kept .1 .1 .1 .1 .0 i) 0) (replicate (n .kept .1 .1 .1 .1 .1 .0 i) (pos 0)) (replicate (n .kept .1 .1 .1 .1 .1 .1 .0 i) 0) (replicate (n .kept .1 .1 .1 .1 .1 .1 .1 .0 i) 0) (replicate (n .kept .1 .1 .1 .1 .1 .1 .1 .1 .0 i) 0))
+    refused-so (A .edition) (A .text .now) (lent (A .segments .now) (A .lanes .now) (A .zones .now) (A .spots .now) (A .points .now) (A .checkpoints .now) (A .stops .now) (A .exits .now)) (lent (n .last .1 .1 .0) (n .last .1 .1 .1 .0) (n .last .1 .1 .1 .1 .0) (n .last .1 .1 .1 .1 .1 .0) (n .last .1 .1 .1 .1 .1 .1 .0) (n .last .1 .1 .1 .1 .1 .1 .1 .0) (n .last .1 .1 .1 .1 .1 .1 .1 .1 .0) (n .last .1 .1 .1 .1 .1 .1 .1 .1 .1 .0)) (n .result) (length (A .out .now)) (w .last .1 .1 .1 .1 .1 .1 .1 .1 .0) (n .ensures) _ (lent (k .last .0) (k .last .1 .0) (k .last .1 .1 .0) (k .last .1 .1 .1 .0) (k .last .1 .1 .1 .1 .0) (k .last .1 .1 .1 .1 .1 .0) (k .last .1 .1 .1 .1 .1 .1 .0) (k .last .1 .1 .1 .1 .1 .1 .1 .0)) (rw (c .before .before .before .before .before .before .before .before .before .before .before .before .before .before .before .before .before .before .before .before .before .before .before .before .before .reply2 .given .1) at (w .ensures)) (k .ensures) (λ i. lent (replicate (n .kept .1 .1 .0 i) 0) (replicate (n .kept .1 .1 .1 .0 i) 0) (replicate (n .kept .1 .1 .1 .1 .0 i) 0) (replicate (n .kept .1 .1 .1 .1 .1 .0 i) 0) (replicate (n .kept .1 .1 .1 .1 .1 .1 .0 i) (pos 0)) (replicate (n .kept .1 .1 .1 .1 .1 .1 .1 .0 i) 0) (replicate (n .kept .1 .1 .1 .1 .1 .1 .1 .1 .0 i) 0) (replicate (n .kept .1 .1 .1 .1 .1 .1 .1 .1 .1 .0 i) 0))
 
 pub write-map-spec : {M : Type 1} → statement M
 write-map-spec =
