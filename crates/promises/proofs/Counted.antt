@@ -10,13 +10,13 @@ use Rattle.terms.specs.Ascii.{ascii}
 use Rattle.terms.specs.Words.{pick}
 use Rattle.scan.specs.Reach.{sameBytes}
 use Rattle.line.specs.Content.{Field}
-use Rattle.law.specs.Network.{Network, Mission, Line, SpellsNetwork, SpellsMission, present}
+use Rattle.law.specs.Network.{Network, Mission, Line, SpellsNetwork, SpellsMission}
 use Rattle.law.specs.Tables.{gather, total}
 use Rattle.grammar.specs.Language.{Lang, S, allOf}
 use Rattle.grammar.specs.Statements.{Kind, Says, Statement, lines, say, ofKind, RNDF-name, num-segments, num-zones, format-version, creation-date, segment, num-lanes, segment-name, end-segment, lane, num-waypoints, lane-width, left-boundary, right-boundary, checkpoint, stop, exit, end-lane, zone, num-spots, zone-name, end-zone, perimeter, num-perimeterpoints, end-perimeter, spot, spot-width, end-spot, end-file, point}
 use Rattle.grammar.specs.MissionStatements as M
 use Rattle.grammar.proofs.HouseLaws.{of-append}
-use Rattle.text.specs.RndfLines.{rndf-line}
+use Rattle.text.specs.RndfLines.{rndf-line-in, rndf-line}
 use Rattle.text.specs.MdfLines.{mdf-line}
 use Rattle.fill.specs.Counts as Old
 use Rattle.fill.proofs.ReferenceLaws.{tables-declared}
@@ -25,10 +25,13 @@ use Rattle.law_spelling.specs.LineOf.{rndf-law-line, mdf-law-line}
 use Rattle.law_spelling.proofs.RndfParts.{network-back}
 use Rattle.law_spelling.proofs.MdfParts.{mission-back}
 use Rattle.network_reader.specs.Replies as N
+use Rattle.edition.specs.declared.Edition.{Edition}
+use Rattle.edition.specs.Editions.{rules-of}
 use Rattle.replies.specs.Replies.{rows-used}
 use Rattle.reader.proofs.Lawful.{counts-are}
 use Rattle.promises.specs.Accepted.{mission-rows-used}
 use Rattle.promises.specs.Declared.{begins-with, numbers-in, lines-with, together, how-many, declared, mission-declared}
+use Rattle.promises.proofs.Keeping.{network-later, mission-later}
 
 -- ## Both add up line by line
 abbrev sum : List ℕ → ℕ
@@ -86,7 +89,7 @@ abbrev by-statements : List (Statement Field) → Nine
 by-statements l = record { segments = Old.together (ofKind num-segments l); lanes = Old.together (ofKind num-lanes l); zones = Old.together (ofKind num-zones l); spots = Old.together (ofKind num-spots l); waypoints = Old.together (ofKind num-waypoints l); borders = Old.together (ofKind num-perimeterpoints l); checkpoints = length (ofKind checkpoint l); stops = length (ofKind stop l); exits = length (ofKind exit l) }
 
 each : (k : Kind) (v : Says Field k) → by-lines (rndf-law-line (say k v) ∷ []) ≡ by-statements (say k v ∷ [])
-unfolding ascii rndf-line sameBytes
+unfolding ascii rndf-line-in sameBytes
 each RNDF-name v = refl
 each num-segments v = refl
 each num-zones v = refl
@@ -132,9 +135,9 @@ module _ (ss : List (Statement Field)) where
       let exits = summed (lines Field) rndf-law-line exit (how-many "exit") length refl (how-many-step "exit") length-append (λ s. ap (λ (c : Nine). c .exits) (each (s .kind) (s .val))) ss in
       λ i. record { segments = segments i; lanes = lanes i; zones = zones i; spots = spots i; points = waypoints i + borders i + 2 * spots i; checkpoints = checkpoints i; stops = stops i; exits = exits i }
 
-pub network-counted : (n : Network Field) (said : List Line) → SpellsNetwork present n said → rows-used n ≡ declared said
-network-counted n said h =
-    let x = network-back n said h in
+pub network-counted : (edition : Edition) (n : Network Field) (said : List Line) → SpellsNetwork (rules-of edition) n said → rows-used n ≡ declared said
+network-counted edition n said h =
+    let x = network-back n said (network-later edition n said h) in
     sym (counts-are n) ∙ ap (λ (c : Old.Counts). N.rows-used c) (tables-declared n (x .0) (x .2)) ∙ all-alike (x .0) ∙ sym (ap (λ (l : List Line). declared l) (x .1))
 
 -- ## An MDF
@@ -157,9 +160,9 @@ each-mission M.end-file v = refl
 each-mission M.goal v = refl
 each-mission M.limit v = refl
 
-pub mission-counted : (m : Mission Field) (said : List Line) → SpellsMission present m said → mission-rows-used m ≡ mission-declared said
-mission-counted m said h =
-    let x = mission-back m said h in
+pub mission-counted : (edition : Edition) (m : Mission Field) (said : List Line) → SpellsMission (rules-of edition) m said → mission-rows-used m ≡ mission-declared said
+mission-counted edition m said h =
+    let x = mission-back m said (mission-later edition m said h) in
     let goals = summed (M.orders Field) mdf-law-line M.num-checkpoints (together "num_checkpoints") Old.together refl (together-step "num_checkpoints") together-append (λ s. ap (λ (c : Old.MissionCounts). c .goals) (each-mission (s .kind) (s .val))) (x .0) in
     let limits = summed (M.orders Field) mdf-law-line M.num-speed-limits (together "num_speed_limits") Old.together refl (together-step "num_speed_limits") together-append (λ s. ap (λ (c : Old.MissionCounts). c .limits) (each-mission (s .kind) (s .val))) (x .0) in
     let e = Filled.mission-counted m (x .0) (x .2) in

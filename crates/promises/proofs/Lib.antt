@@ -11,4 +11,5 @@ pub mod ShutOut
 pub mod MissionTexts
 pub mod NineCases
 pub mod PairShutOut
+pub mod EditionCases
 pub mod Keeping

@@ -40,17 +40,18 @@ use Rattle.find_line.specs.FoundLines.{mdfLineOf}
 use Rattle.find_line.proofs.Theorems.{mdf-line-there}
 use Rattle.fault_lines.specs.FaultLines.{FirstMdfFault}
 use Rattle.fault_lines.proofs.MdfFaults.{foreign-goal-line}
-use Rattle.law.specs.Network.{largest, present}
+use Rattle.law.specs.Network.{largest, SpellsText}
 use Rattle.law.specs.Network as Law
-use Rattle.law.specs.Short.{SpellsMdf}
+use Rattle.edition.specs.declared.Edition.{Edition}
+use Rattle.edition.specs.Editions.{inner, rules-of}
 use Rattle.law.specs.Faults.{BadLine, FirstFault, MdfFault}
-use Rattle.law_spelling.proofs.Texts.{mdf-to}
-use Rattle.law_faults.proofs.Theorems.{mdf-bad-to}
-use Rattle.law_tables.proofs.MdfFirst.{mdf-first-to}
+use Rattle.law_spelling.proofs.Texts.{mdf-to-in}
+use Rattle.law_faults.proofs.Theorems.{mdf-bad-to-in}
+use Rattle.law_tables.proofs.MdfFirst.{mdf-first-to-in}
 use Rattle.law_columns.specs.Columns.{Column}
 use Rattle.law_columns.specs.Finding as Finding
 use Rattle.law_columns.specs.Files.{mdf-column}
-use Rattle.law_columns.proofs.Theorems.{mdf-column-bad, mdf-column-fault}
+use Rattle.law_columns.proofs.Theorems.{mdf-column-bad-in, mdf-column-fault-in}
 use Rattle.promises.specs.Yards.{round, goal-8, limit-10-5, limit-5-0, network, mission-with, mission, mission-goal-8, mission-5-0}
 
 abbrev lines-with : (g minimum maximum : ℕ) → List (Statement Field)
@@ -98,13 +99,13 @@ good g minimum maximum in-range speeds =
 goal-8-read : Old.SpellsMdf mission-goal-8 goal-8
 goal-8-read = spelled-by goal-8 mission-goal-8 goal-8-lines (answered .goal-8) (good 8 0 15 (omega arith) (omega arith, omega arith, λ m. omega arith)) (house .1)
 
-pub record Spelled : Type 0 where
-  pub round : SpellsMdf mission round
-  pub goal-8 : SpellsMdf mission-goal-8 goal-8
-  pub limit-5-0 : SpellsMdf mission-5-0 limit-5-0
+pub record Spelled (edition : Edition) : Type 0 where
+  pub round : SpellsText (rules-of edition) Law.SpellsMission mission round
+  pub goal-8 : SpellsText (rules-of edition) Law.SpellsMission mission-goal-8 goal-8
+  pub limit-5-0 : SpellsText (rules-of edition) Law.SpellsMission mission-5-0 limit-5-0
 
-pub spelled : Spelled
-spelled = record { round = mdf-to mission round (spelled-by round mission round-lines (answered .round) (good 7 0 15 (omega arith) (omega arith, omega arith, λ m. omega arith)) (house .0)); goal-8 = mdf-to mission-goal-8 goal-8 goal-8-read; limit-5-0 = mdf-to mission-5-0 limit-5-0 (spelled-by limit-5-0 mission-5-0 lines-5-0 (answered .limit-5-0) (good 7 5 0 (omega arith) (omega arith, omega arith, λ m. omega arith)) (house .2)) }
+pub spelled : (edition : Edition) → Spelled edition
+spelled edition = record { round = mdf-to-in (inner edition) mission round (spelled-by round mission round-lines (answered .round) (good 7 0 15 (omega arith) (omega arith, omega arith, λ m. omega arith)) (house .0)); goal-8 = mdf-to-in (inner edition) mission-goal-8 goal-8 goal-8-read; limit-5-0 = mdf-to-in (inner edition) mission-5-0 limit-5-0 (spelled-by limit-5-0 mission-5-0 lines-5-0 (answered .limit-5-0) (good 7 5 0 (omega arith) (omega arith, omega arith, λ m. omega arith)) (house .2)) }
 
 -- ## What has a fault
 goal-on-5 : mdfLineOf goal-8 11 0 ≡ 5
@@ -115,20 +116,20 @@ wrong-goal : FirstMdfFault network goal-8 5 15
 unfolding first-fault is-among
 wrong-goal = subst (λ (i : ℕ). FirstMdfFault network goal-8 i 15) goal-on-5 (foreign-goal-line network mission-goal-8 goal-8 goal-8-read refl (fault 0 15) refl)
 
-pub record Faults : Type 0 where
-  pub goal-8 : FirstFault present Law.SpellsMission (MdfFault network) goal-8 5 15
-  pub limit-10-5 : BadLine present Law.SpellsMission limit-10-5 9 9
+pub record Faults (edition : Edition) : Type 0 where
+  pub goal-8 : FirstFault (rules-of edition) Law.SpellsMission (MdfFault network) goal-8 5 15
+  pub limit-10-5 : BadLine (rules-of edition) Law.SpellsMission limit-10-5 9 9
 
-pub faults : Faults
-faults = record { goal-8 = mdf-first-to network mission-goal-8 goal-8 goal-8-read 5 15 wrong-goal; limit-10-5 = mdf-bad-to limit-10-5 9 9 (mdf-bad-line-right limit-10-5 9 9 (answered .limit-10-5)) }
+pub faults : (edition : Edition) → Faults edition
+faults edition = record { goal-8 = mdf-first-to-in network mission-goal-8 goal-8 goal-8-read (inner edition) 5 15 wrong-goal; limit-10-5 = mdf-bad-to-in (inner edition) limit-10-5 9 9 (mdf-bad-line-right limit-10-5 9 9 (answered .limit-10-5)) }
 
 -- ## Where it stands in its line, by computation
 columns : (mdf-column goal-8 5 15 ≡ 1) × (mdf-column limit-10-5 9 9 ≡ 6)
 unfolding ascii Answers.readText Answers.walk Lines.linesOf Judge.judge Lines.dropCr Forms.formOf Forms.closes Forms.noteOf Forms.outerOf Forms.fieldsAt Content.parted-by Allowed.separates Allowed.all Reach.two Reach.sameBytes Reach.begins Reach.first Reach.upTo Reach.stopsBy Judge.tell Judge.read Judge.numbered Number.integerOf Number.plainOf Number.plain Number.worth Number.numberOf Word.indexOf Keywords.mdf-keywords Machine.step Machine.guard Stands.stands Finding.wrongAt Finding.fieldAt Finding.columnOf Finding.columnFrom Finding.columnIn
 columns = (refl, refl)
 
-pub goal-at : Column present Law.SpellsMission (faults .goal-8 .front) (faults .goal-8 .at .this) 15 1
-goal-at = subst (Column present Law.SpellsMission (faults .goal-8 .front) (faults .goal-8 .at .this) 15) (columns .0) (mdf-column-fault network goal-8 5 15 (faults .goal-8))
+pub goal-at : (edition : Edition) → Column (rules-of edition) Law.SpellsMission (faults edition .goal-8 .front) (faults edition .goal-8 .at .this) 15 1
+goal-at edition = subst (Column (rules-of edition) Law.SpellsMission (faults edition .goal-8 .front) (faults edition .goal-8 .at .this) 15) (columns .0) (mdf-column-fault-in (inner edition) network goal-8 5 15 (faults edition .goal-8))
 
-pub limit-at : Column present Law.SpellsMission (faults .limit-10-5 .front) (faults .limit-10-5 .this) 9 6
-limit-at = subst (Column present Law.SpellsMission (faults .limit-10-5 .front) (faults .limit-10-5 .this) 9) (columns .1) (mdf-column-bad limit-10-5 9 9 (faults .limit-10-5))
+pub limit-at : (edition : Edition) → Column (rules-of edition) Law.SpellsMission (faults edition .limit-10-5 .front) (faults edition .limit-10-5 .this) 9 6
+limit-at edition = subst (Column (rules-of edition) Law.SpellsMission (faults edition .limit-10-5 .front) (faults edition .limit-10-5 .this) 9) (columns .1) (mdf-column-bad-in (inner edition) limit-10-5 9 9 (faults edition .limit-10-5))

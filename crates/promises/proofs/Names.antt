@@ -5,13 +5,15 @@ use mathlib.Core.Option.{Option, none, some}
 use Rattle.terms.specs.Ascii.{Bytes}
 use Rattle.terms.proofs.Lists.{each-map}
 use Rattle.line.specs.Content.{Field}
-use Rattle.law.specs.Network.{Network, Mission}
-use Rattle.law.specs.Short.{SpellsRndf, SpellsMdf}
+use Rattle.law.specs.Network.{Network, Mission, SpellsNetwork, SpellsMission, SpellsText}
+use Rattle.edition.specs.declared.Edition.{Edition}
+use Rattle.edition.specs.Editions.{rules-of}
 use Rattle.law.specs.Tables.{name-words}
 use Rattle.rows.proofs.Names.{name-missing}
 use Rattle.law_tables.proofs.NamesStand.{asked, Given, names-stand, mission-names-stand}
 use Rattle.replies.specs.Replies.{stretch, network-file, mission-file}
 use Rattle.promises.specs.Accepted.{Asked, NamesAsked, MissionNamesAsked}
+use Rattle.promises.proofs.Keeping.{rndf-later, mdf-later}
 
 -- the words of a name in a table's row are its stretch
 pub words-of-name : (v : Option Field) → name-words v ≡ stretch v .start ∷ stretch v .length ∷ []
@@ -26,9 +28,9 @@ module _ (text : Bytes) where
 
   -- THE THEOREMS
   -- 01: "Asking for a name returns that stretch of the caller's own text"; "A network or mission is its tables with each name's bytes in place of start and length."
-  pub names-asked : (n : Network Field) → SpellsRndf n text → NamesAsked text (network-file n) n
-  names-asked n h =
-      let s = names-stand text n h in
+  pub names-asked : (edition : Edition) (n : Network Field) → SpellsText (rules-of edition) SpellsNetwork n text → NamesAsked text (network-file n) n
+  names-asked edition n h =
+      let s = names-stand text n (rndf-later edition n text h) in
       record {
         name = asked text (n .name) (s .name);
         version = given (n .version) (s .version);
@@ -37,7 +39,7 @@ module _ (text : Bytes) where
         zones = each-map (λ z. Given text (z .name)) (λ z. Asked text (z .name)) (λ z g. given (z .name) g) (n .zones) (s .zones);
       }
 
-  pub mission-names-asked : (m : Mission Field) → SpellsMdf m text → MissionNamesAsked text (mission-file m) m
-  mission-names-asked m h =
-      let s = mission-names-stand text m h in
+  pub mission-names-asked : (edition : Edition) (m : Mission Field) → SpellsText (rules-of edition) SpellsMission m text → MissionNamesAsked text (mission-file m) m
+  mission-names-asked edition m h =
+      let s = mission-names-stand text m (mdf-later edition m text h) in
       record { name = asked text (m .name) (s .name); rndf = asked text (m .rndf) (s .rndf); version = given (m .version) (s .version); date = given (m .date) (s .date) }

@@ -1,7 +1,9 @@
+-- Within an edition.
+pub mod Within
 -- The return trip of accepted texts.
 pub mod Returns
-pub mod ByStatements
 -- From the contracts of the writers.
+pub mod Written
 pub mod Writings
 -- From the contracts of readers and writers: the headline.
 pub mod RoundTrip

@@ -1,10 +1,10 @@
--- THE RETURN TRIP of an accepted RNDF, and of an accepted RNDF with its MDF. Assumes nothing.
+-- THE RETURN TRIP of an accepted RNDF, and of an accepted RNDF with its MDF, within the edition by which they were accepted (L10). Assumes nothing.
 use mathlib.Core.Path.{_≡_, sym, ap, subst, _∙_}
 use Prim.Native.Nat.{_≤_}
 use lib.ListN.{length}
 use Rattle.terms.specs.Ascii.{Bytes}
 use Rattle.line.specs.Content.{Field}
-use Rattle.law.specs.Network.{Network, Mission, present}
+use Rattle.law.specs.Network.{Network, Mission}
 use Rattle.law.specs.Tables as Law
 use Rattle.law.specs.Tables.{Lent, MissionLent}
 use Rattle.grammar.specs.Names.{network-named, mission-named}
@@ -14,7 +14,9 @@ use Rattle.grammar.proofs.Theorems.{network-ranges, mission-ranges}
 use Rattle.text.specs.Spelling.{Name, bytes-of}
 use Rattle.fill.specs.Counts.{Counts, MissionCounts, mission-sizes}
 use Rattle.table_words.specs.Words.{HasRoom, MissionHasRoom}
-use Rattle.law_spelling.proofs.Texts.{rndf-to, mdf-to}
+use Rattle.edition.specs.declared.Edition.{Edition}
+use Rattle.edition.specs.Editions.{inner, rules-of}
+use Rattle.law_spelling.proofs.Texts.{rndf-to, mdf-to-in}
 use Rattle.law_spelling.proofs.Texts as Texts
 use Rattle.law_tables.proofs.SameTables.{room-to, room-back, mission-room-to, mission-room-back, mission-counts-same, mission-filled-same}
 use Rattle.law_tables.proofs.SameFits.{fits-to, fits-back}
@@ -27,6 +29,7 @@ use Rattle.replies.specs.declared.PairReply.the-variants as Pair
 use Rattle.replies.specs.Replies.{most, AcceptsRndf, AcceptsMdf, rows-used, network-file, mission-file, ReadsRndf, ReadsPair}
 use Rattle.reader.proofs.Lawful.{counts-are}
 use Rattle.promises.specs.Accepted.{mission-rows-used}
+use Rattle.promises.proofs.Keeping.{rndf-later}
 use Rattle.promises.proofs.Promises.{spelled-accepted}
 use Rattle.promises.proofs.PairPromises.{spelled-pair-accepted}
 use Rattle.house_text.specs.House.{HouseRndf, HouseMdf}
@@ -36,93 +39,99 @@ use Rattle.house_text.proofs.References.{sound-alike, sizes-alike, mission-size
 use Rattle.house_text.proofs.Theorems.{rndf-back, mdf-back}
 use Rattle.same.specs.Same.{SameNetwork, SameMission}
 use Rattle.return_trip.specs.Returns.{RndfReturns, MdfReturns, PairReturns}
+use Rattle.return_trip.proofs.Within.{rndf-within}
 
--- ## The house writing: one and only one
-pub rndf-house : (text : Bytes) (t : Lent) (n : Network Field) → AcceptsRndf present text t n → (house : Bytes) × HouseRndf n house
-rndf-house text t n a = let s = Texts.rndf-back n text (a .spelled) in (house-rndf n, house-rndf-is n (network-ranges n (s .said) (s .net)))
-
+-- ## There is only one house writing, and what is the same has as many rows
 pub one-rndf-house : (n : Network Field) (house house′ : Bytes) → HouseRndf n house → HouseRndf n house′ → house ≡ house′
 one-rndf-house n house house′ h h′ = house-rndf-only n house h ∙ sym (house-rndf-only n house′ h′)
-
-pub mdf-house : (mdf : Bytes) (u : MissionLent) (n : Network Field) (m : Mission Field) → AcceptsMdf present n mdf u m → (house : Bytes) × HouseMdf m house
-mdf-house mdf u n m a = let s = Texts.mdf-back m mdf (a .spelled) in (house-mdf m, house-mdf-is m (mission-ranges m (s .said) (s .net)))
 
 pub one-mdf-house : (m : Mission Field) (house house′ : Bytes) → HouseMdf m house → HouseMdf m house′ → house ≡ house′
 one-mdf-house m house house′ h h′ = house-mdf-only m house h ∙ sym (house-mdf-only m house′ h′)
 
--- ## Accepted again
--- in any tables that have room for its rows
-pub rndf-returns-in : (text : Bytes) (t t′ : Lent) (n : Network Field) → AcceptsRndf present text t n → (house : Bytes) → HouseRndf n house → length house ≤ most → Law.HasRoom n t′ → RndfReturns n house t′
-rndf-returns-in text t t′ n a house h size room =
-    let e = house-rndf-only n house h in
-    let b = rndf-back n text (Texts.rndf-back n text (a .spelled)) in
-    subst (λ (w : Bytes). RndfReturns n w t′) (sym e)
-    (record {
-      again = b .0;
-      accepts = record {
-        size = subst (λ (w : Bytes). length w ≤ most) e size;
-        spelled = rndf-to (b .0) (house-rndf n) (b .1);
-        room = room-to (b .0) t′ (subst (λ (c : Counts). HasRoom c t′) (sizes-alike bytes-of n (b .0) (sym (b .2))) (room-back n t′ room));
-        right = sound-alike bytes-of n (b .0) (sym (b .2)) (a .right);
-      };
-      same = b .2;
-    })
-
--- so in the same tables: as many rows are needed
-pub rndf-returns : (text : Bytes) (t : Lent) (n : Network Field) → AcceptsRndf present text t n → (house : Bytes) → HouseRndf n house → length house ≤ most → RndfReturns n house t
-rndf-returns text t n a house h size = rndf-returns-in text t t n a house h size (a .room)
-
--- for every network that is the same as the one that the MDF was accepted for: that one, or what its house writing spells
-pub mdf-returns : (mdf : Bytes) (u : MissionLent) (n n′ : Network Field) (m : Mission Field) → AcceptsMdf present n mdf u m → SameNetwork n′ n → (house : Bytes) → HouseMdf m house → length house ≤ most → MdfReturns n′ m house u
-mdf-returns mdf u n n′ m a e house h size =
-    let q = house-mdf-only m house h in
-    let b = mdf-back m mdf (Texts.mdf-back m mdf (a .spelled)) in
-    subst (λ (w : Bytes). MdfReturns n′ m w u) (sym q)
-    (record {
-      again = b .0;
-      accepts = record {
-        size = subst (λ (w : Bytes). length w ≤ most) q size;
-        spelled = mdf-to (b .0) (house-mdf m) (b .1);
-        room = mission-room-to (b .0) u (subst (λ (c : MissionCounts). MissionHasRoom c u) (mission-sizes-alike bytes-of m (b .0) (sym (b .2))) (mission-room-back m u (a .room)));
-        right = fits-to n′ (b .0) (subst (λ (x : Mission Name). Fits (network-named bytes-of n′) x) (sym (b .2)) (subst (λ (x : Network Name). Fits x (mission-named bytes-of m)) (sym e) (fits-back n m (a .right))));
-      };
-      same = b .2;
-    })
-
--- THE RETURN TRIP
-pub pair-returns : (rndf mdf : Bytes) (t : Lent) (u : MissionLent) (n : Network Field) (m : Mission Field) → AcceptsRndf present rndf t n → AcceptsMdf present n mdf u m
-    → (rndf-house mdf-house : Bytes) → HouseRndf n rndf-house → HouseMdf m mdf-house → length rndf-house ≤ most → length mdf-house ≤ most → PairReturns n m rndf-house mdf-house t u
-pair-returns rndf mdf t u n m a b v w h g size mission-size =
-    let x = rndf-returns rndf t n a v h size in
-    record { network = x; mission = mdf-returns mdf u n (x .again) m b (x .same) w g mission-size }
-
--- ## What a reader replies: the same rows used; the file's own row and the tables are those of what came back
-counts-alike : (n n′ : Network Field) → SameNetwork n n′ → rows-used n ≡ rows-used n′
+pub counts-alike : (n n′ : Network Field) → SameNetwork n n′ → rows-used n ≡ rows-used n′
 counts-alike n n′ e = sym (counts-are n) ∙ ap (λ (c : Counts). N.rows-used c) (sizes-alike bytes-of n n′ e) ∙ counts-are n′
 
-mission-counts-alike : (m m′ : Mission Field) → SameMission m m′ → mission-rows-used m ≡ mission-rows-used m′
+pub mission-counts-alike : (m m′ : Mission Field) → SameMission m m′ → mission-rows-used m ≡ mission-rows-used m′
 mission-counts-alike m m′ e =
     let q : mission-sizes (mission-tables m) ≡ mission-sizes (mission-tables m′) = mission-sizes-alike bytes-of m m′ e in
     ap (λ (c : MissionCounts). record { goals = c .goals; limits = c .limits }) (sym (mission-counts-same m) ∙ q ∙ mission-counts-same m′)
 
-pub rndf-read-again : (text : Bytes) (t : Lent) (n : Network Field) → AcceptsRndf present text t n → (house : Bytes) → HouseRndf n house → length house ≤ most → (reply : RndfReply) (left : Lent) → ReadsRndf present house t reply left
-    → (x : RndfReturns n house t) × (reply ≡ Reply.Accepted (rows-used n) (network-file (x .again))) × (left ≡ Law.filled (x .again) t)
-rndf-read-again text t n a house g size reply left h =
-    let x = rndf-returns text t n a house g size in
-    let s = spelled-accepted house t reply left h (x .again) (x .accepts) in
-    (x, s .0 ∙ ap (λ (c : Declared.Counts). Reply.Accepted c (network-file (x .again))) (counts-alike (x .again) n (x .same)), s .1)
+module _ (edition : Edition) where
+  -- ## The house writing of what was accepted
+  pub rndf-house : (text : Bytes) (t : Lent) (n : Network Field) → AcceptsRndf (rules-of edition) text t n → (house : Bytes) × HouseRndf n house
+  rndf-house text t n a = let s = Texts.rndf-back n text (rndf-later edition n text (a .spelled)) in (house-rndf n, house-rndf-is n (network-ranges n (s .said) (s .net)))
 
--- and the goals and limits are the same words
-pub pair-read-again : (rndf mdf : Bytes) (t : Lent) (u : MissionLent) (n : Network Field) (m : Mission Field) → AcceptsRndf present rndf t n → AcceptsMdf present n mdf u m
-    → (rndf-house mdf-house : Bytes) → HouseRndf n rndf-house → HouseMdf m mdf-house → length rndf-house ≤ most → length mdf-house ≤ most
-    → (reply : PairReply) (left : Lent) (mission-left : MissionLent) → ReadsPair present rndf-house mdf-house t u reply left mission-left
-    → (x : PairReturns n m rndf-house mdf-house t u) × (reply ≡ Pair.Accepted (rows-used n) (network-file (x .network .again)) (mission-rows-used m) (mission-file (x .mission .again)))
-    × (left ≡ Law.filled (x .network .again) t) × (mission-left ≡ Law.mission-filled m u)
-pair-read-again rndf mdf t u n m a b v w g f size mission-size reply left mission-left h =
-    let x = pair-returns rndf mdf t u n m a b v w g f size mission-size in
-    let n′ = x .network .again in
-    let m′ = x .mission .again in
-    let s = spelled-pair-accepted v w t u reply left mission-left h n′ m′ (x .network .accepts) (x .mission .accepts) in
-    let c = counts-alike n′ n (x .network .same) in
-    let d = mission-counts-alike m′ m (x .mission .same) in
-    (x, s .0 ∙ (λ i. Pair.Accepted (c i) (network-file n′) (d i) (mission-file m′)), s .1, s .2 ∙ sym (mission-filled-same m′ u) ∙ mission-words-alike m′ m (x .mission .same) u ∙ mission-filled-same m u)
+  pub mdf-house : (mdf : Bytes) (u : MissionLent) (n : Network Field) (m : Mission Field) → AcceptsMdf (rules-of edition) n mdf u m → (house : Bytes) × HouseMdf m house
+  mdf-house mdf u n m a = let s = Texts.mdf-back-in (inner edition) m mdf (a .spelled) in (house-mdf m, house-mdf-is m (mission-ranges m (s .said) (s .net)))
+
+  -- ## Accepted again
+  -- in any tables that have room for its rows
+  pub rndf-returns-in : (text : Bytes) (t t′ : Lent) (n : Network Field) → AcceptsRndf (rules-of edition) text t n → (house : Bytes) → HouseRndf n house → length house ≤ most → Law.HasRoom n t′ → RndfReturns (rules-of edition) n house t′
+  rndf-returns-in text t t′ n a house h size room =
+      let e = house-rndf-only n house h in
+      let b = rndf-back n text (Texts.rndf-back n text (rndf-later edition n text (a .spelled))) in
+      subst (λ (w : Bytes). RndfReturns (rules-of edition) n w t′) (sym e)
+      (record {
+        again = b .0;
+        accepts = record {
+          size = subst (λ (w : Bytes). length w ≤ most) e size;
+          spelled = rndf-within edition n (b .0) text (house-rndf n) (a .spelled) (rndf-to (b .0) (house-rndf n) (b .1)) (b .2);
+          room = room-to (b .0) t′ (subst (λ (c : Counts). HasRoom c t′) (sizes-alike bytes-of n (b .0) (sym (b .2))) (room-back n t′ room));
+          right = sound-alike bytes-of n (b .0) (sym (b .2)) (a .right);
+        };
+        same = b .2;
+      })
+
+  -- so in the same tables: as many rows are needed
+  pub rndf-returns : (text : Bytes) (t : Lent) (n : Network Field) → AcceptsRndf (rules-of edition) text t n → (house : Bytes) → HouseRndf n house → length house ≤ most → RndfReturns (rules-of edition) n house t
+  rndf-returns text t n a house h size = rndf-returns-in text t t n a house h size (a .room)
+
+  -- for every network that is the same as the one that the MDF was accepted for: that one, or what its house writing spells
+  pub mdf-returns-in : (mdf : Bytes) (u u′ : MissionLent) (n n′ : Network Field) (m : Mission Field) → AcceptsMdf (rules-of edition) n mdf u m → SameNetwork n′ n → (house : Bytes) → HouseMdf m house → length house ≤ most → Law.MissionHasRoom m u′ → MdfReturns (rules-of edition) n′ m house u′
+  mdf-returns-in mdf u u′ n n′ m a e house h size room =
+      let q = house-mdf-only m house h in
+      let b = mdf-back m mdf (Texts.mdf-back-in (inner edition) m mdf (a .spelled)) in
+      subst (λ (w : Bytes). MdfReturns (rules-of edition) n′ m w u′) (sym q)
+      (record {
+        again = b .0;
+        accepts = record {
+          size = subst (λ (w : Bytes). length w ≤ most) q size;
+          spelled = mdf-to-in (inner edition) (b .0) (house-mdf m) (b .1);
+          room = mission-room-to (b .0) u′ (subst (λ (c : MissionCounts). MissionHasRoom c u′) (mission-sizes-alike bytes-of m (b .0) (sym (b .2))) (mission-room-back m u′ room));
+          right = fits-to n′ (b .0) (subst (λ (x : Mission Name). Fits (network-named bytes-of n′) x) (sym (b .2)) (subst (λ (x : Network Name). Fits x (mission-named bytes-of m)) (sym e) (fits-back n m (a .right))));
+        };
+        same = b .2;
+      })
+
+  pub mdf-returns : (mdf : Bytes) (u : MissionLent) (n n′ : Network Field) (m : Mission Field) → AcceptsMdf (rules-of edition) n mdf u m → SameNetwork n′ n → (house : Bytes) → HouseMdf m house → length house ≤ most → MdfReturns (rules-of edition) n′ m house u
+  mdf-returns mdf u n n′ m a e house h size = mdf-returns-in mdf u u n n′ m a e house h size (a .room)
+
+  -- THE RETURN TRIP
+  pub pair-returns : (rndf mdf : Bytes) (t : Lent) (u : MissionLent) (n : Network Field) (m : Mission Field) → AcceptsRndf (rules-of edition) rndf t n → AcceptsMdf (rules-of edition) n mdf u m
+      → (rndf-house mdf-house : Bytes) → HouseRndf n rndf-house → HouseMdf m mdf-house → length rndf-house ≤ most → length mdf-house ≤ most → PairReturns (rules-of edition) n m rndf-house mdf-house t u
+  pair-returns rndf mdf t u n m a b v w h g size mission-size =
+      let x = rndf-returns rndf t n a v h size in
+      record { network = x; mission = mdf-returns mdf u n (x .again) m b (x .same) w g mission-size }
+
+  -- ## What a reader replies: the same rows used; the file's own row and the tables are those of what came back
+  pub rndf-read-again : (text : Bytes) (t : Lent) (n : Network Field) → AcceptsRndf (rules-of edition) text t n → (house : Bytes) → HouseRndf n house → length house ≤ most → (reply : RndfReply) (left : Lent) → ReadsRndf (rules-of edition) house t reply left
+      → (x : RndfReturns (rules-of edition) n house t) × (reply ≡ Reply.Accepted (rows-used n) (network-file (x .again))) × (left ≡ Law.filled (x .again) t)
+  rndf-read-again text t n a house g size reply left h =
+      let x = rndf-returns text t n a house g size in
+      let s = spelled-accepted edition house t reply left h (x .again) (x .accepts) in
+      (x, s .0 ∙ ap (λ (c : Declared.Counts). Reply.Accepted c (network-file (x .again))) (counts-alike (x .again) n (x .same)), s .1)
+
+  -- and the goals and limits are the same words
+  pub pair-read-again : (rndf mdf : Bytes) (t : Lent) (u : MissionLent) (n : Network Field) (m : Mission Field) → AcceptsRndf (rules-of edition) rndf t n → AcceptsMdf (rules-of edition) n mdf u m
+      → (rndf-house mdf-house : Bytes) → HouseRndf n rndf-house → HouseMdf m mdf-house → length rndf-house ≤ most → length mdf-house ≤ most
+      → (reply : PairReply) (left : Lent) (mission-left : MissionLent) → ReadsPair (rules-of edition) rndf-house mdf-house t u reply left mission-left
+      → (x : PairReturns (rules-of edition) n m rndf-house mdf-house t u) × (reply ≡ Pair.Accepted (rows-used n) (network-file (x .network .again)) (mission-rows-used m) (mission-file (x .mission .again)))
+      × (left ≡ Law.filled (x .network .again) t) × (mission-left ≡ Law.mission-filled m u)
+  pair-read-again rndf mdf t u n m a b v w g f size mission-size reply left mission-left h =
+      let x = pair-returns rndf mdf t u n m a b v w g f size mission-size in
+      let n′ = x .network .again in
+      let m′ = x .mission .again in
+      let s = spelled-pair-accepted edition v w t u reply left mission-left h n′ m′ (x .network .accepts) (x .mission .accepts) in
+      let c = counts-alike n′ n (x .network .same) in
+      let d = mission-counts-alike m′ m (x .mission .same) in
+      (x, s .0 ∙ (λ i. Pair.Accepted (c i) (network-file n′) (d i) (mission-file m′)), s .1, s .2 ∙ sym (mission-filled-same m′ u) ∙ mission-words-alike m′ m (x .mission .same) u ∙ mission-filled-same m u)

@@ -1,20 +1,21 @@
--- THE RETURN TRIP, from the contracts of writers and readers alone: what was written of an accepted text, read into the same tables, is accepted with the same rows used and the same names, and leaves the same tables but for where names start. Assumes nothing.
+-- THE RETURN TRIP, from the contracts of writers and readers alone: what was written of an accepted text, read into the same tables, is accepted by its edition with the same rows used and the same names, and leaves the same tables but for where names start. Assumes nothing.
 use mathlib.Core.Path.{_≡_, refl, sym, ap, ap₂, subst, _∙_}
 use mathlib.Core.List.{List, [], _∷_, _++_, map, append-assoc, head-eq-of-cons-eq, tail-eq-of-cons-eq}
 use mathlib.Core.Option.{Option, none, some}
-use Prim.Native.Nat.{ℕ, _+_, _-_, _≤_}
+use Prim.Native.Nat.{ℕ, _+_, _-_}
 use native.Mathlib.Omega.{arith}
 use lib.ListN.{length, take, replicate, length-append}
 use Rattle.terms.specs.Ascii.{Bytes}
 use Rattle.terms.specs.Words.{Each}
 use Rattle.line.specs.Content.{Field}
-use Rattle.law.specs.Network.{Network, Mission, Lane, Segment, Perimeter, Spot, Zone, present}
+use Rattle.law.specs.Network.{Network, Mission, Lane, Segment, Perimeter, Spot, Zone, SpellsNetwork, SpellsMission, SpellsText}
 use Rattle.law.specs.Tables.{Lent, MissionLent, gather, along, name-words, first-spot, spot-points, first-zone-point, zone-size, zone-rows-from, zone-rows, holding, filled}
 use Rattle.law.specs.Faults.{Sound}
-use Rattle.law.specs.Short.{SpellsRndf, SpellsMdf}
+use Rattle.edition.specs.declared.Edition.{Edition}
+use Rattle.edition.specs.Editions.{rules-of}
 use Rattle.grammar.specs.Names.{perhaps-name, segment-named, zone-named, network-named, mission-named}
 use Rattle.text.specs.Spelling.{Name, bytes, bytes-of}
-use Rattle.house_text.specs.House.{HouseRndf, HouseMdf}
+use Rattle.house_text.specs.House.{HouseRndf}
 use Rattle.house_text.proofs.References.{words-alike}
 use Rattle.law_tables.proofs.SameTables.{filled-same}
 use Rattle.rows.specs.declared.FileRow.{FileRow}
@@ -26,23 +27,17 @@ use Rattle.replies.specs.declared.RndfReply.{RndfReply}
 use Rattle.replies.specs.declared.RndfReply.the-variants as Reply
 use Rattle.replies.specs.declared.PairReply.{PairReply}
 use Rattle.replies.specs.declared.PairReply.the-variants as Pair
-use Rattle.replies.specs.Replies.{most, AcceptsRndf, AcceptsMdf, stretch, rows-used, network-file, mission-file, ReadsRndf, ReadsPair}
-use Rattle.writings.specs.declared.WriteReply.{WriteReply}
+use Rattle.replies.specs.Replies.{stretch, network-file, mission-file, ReadsRndf, ReadsPair}
 use Rattle.writings.specs.declared.WriteReply.the-variants as Write
-use Rattle.writings.specs.declared.WriteMdfReply.{WriteMdfReply}
 use Rattle.writings.specs.declared.WriteMdfReply.the-variants as WriteMdf
 use Rattle.writings.specs.Writes.{WritesRndf, WritesMdf}
-use Rattle.writings.specs.Writes as W
-use Rattle.writer.proofs.Steps.{wrote-or-not, mdf-wrote-or-not}
-use Rattle.promises.specs.Accepted.{name-bytes, Asked, Meant}
-use Rattle.promises.proofs.Forms.{one-spelled, one-mission}
+use Rattle.promises.specs.Accepted.{name-bytes, Asked}
+use Rattle.promises.proofs.Forms.{one-spelled}
 use Rattle.promises.proofs.Names.{names-asked, mission-names-asked}
-use Rattle.promises.proofs.Promises.{accepted-spelled, tables-are}
-use Rattle.promises.proofs.PairPromises.{pair-accepted-spelled, pair-tables-are}
 use Rattle.same.specs.Same.{SameNetwork, SameMission}
 use Rattle.return_trip.specs.RoundTrip.{SameRows, rest, row, SameTables, SameFile, SameMissionFile, RndfRoundTrip, PairRoundTrip}
 use Rattle.return_trip.proofs.Returns.{rndf-read-again, pair-read-again}
-use Rattle.return_trip.proofs.Writings.{first-are}
+use Rattle.return_trip.proofs.Written.{rndf-written, mdf-written}
 
 -- ## Names that are the same
 bytes-in : Option Name → Bytes
@@ -140,7 +135,7 @@ module _ (text text′ : Bytes) where
       (zones-alike (p + zone-size s) (q + length (s .spots)) ss ss′ (tail-eq-of-cons-eq e) (a .1) (a′ .1) z))
 
   -- ## Networks that are the same
-  module _ (n n′ : Network Field) (e : SameNetwork n n′) (spelled : SpellsRndf n text) (spelled′ : SpellsRndf n′ text′) where
+  module _ (edition : Edition) (n n′ : Network Field) (e : SameNetwork n n′) (spelled : SpellsText (rules-of edition) SpellsNetwork n text) (spelled′ : SpellsText (rules-of edition) SpellsNetwork n′ text′) where
     same-segments : Segments (n .segments) (n′ .segments)
     unfolding network-named
     same-segments = ap (λ (x : Network Name). x .segments) e
@@ -152,8 +147,8 @@ module _ (text text′ : Bytes) where
     pub same-file : SameFile text text′ (network-file n) (network-file n′)
     unfolding network-named
     same-file =
-        let a = names-asked text n spelled in
-        let a′ = names-asked text′ n′ spelled′ in
+        let a = names-asked text edition n spelled in
+        let a′ = names-asked text′ edition n′ spelled′ in
         record {
           name = asked-both (some (n .name)) (some (n′ .name)) (ap (λ (x : Network Name). some (x .name)) e) (a .name) (a′ .name);
           version = asked-both (n .version) (n′ .version) (ap (λ (x : Network Name). x .version) e) (a .version) (a′ .version);
@@ -162,8 +157,8 @@ module _ (text text′ : Bytes) where
 
     pub same-tables : Sound n → Sound n′ → (t : Lent) → SameTables text text′ (filled n t) (filled n′ t)
     same-tables sound sound′ t =
-        let a = names-asked text n spelled in
-        let a′ = names-asked text′ n′ spelled′ in
+        let a = names-asked text edition n spelled in
+        let a′ = names-asked text′ edition n′ spelled′ in
         let p = filled-same n sound t in
         let p′ = filled-same n′ sound′ t in
         let w = words-alike n n′ e t in
@@ -180,11 +175,11 @@ module _ (text text′ : Bytes) where
           exits = sym (ap (λ (l : Lent). l .exits) p) ∙ ap (λ (l : Lent). l .exits) w ∙ ap (λ (l : Lent). l .exits) p′;
         }
 
-  pub same-mission-file : (m m′ : Mission Field) → SameMission m m′ → SpellsMdf m text → SpellsMdf m′ text′ → SameMissionFile text text′ (mission-file m) (mission-file m′)
+  pub same-mission-file : (edition : Edition) (m m′ : Mission Field) → SameMission m m′ → SpellsText (rules-of edition) SpellsMission m text → SpellsText (rules-of edition) SpellsMission m′ text′ → SameMissionFile text text′ (mission-file m) (mission-file m′)
   unfolding mission-named
-  same-mission-file m m′ e spelled spelled′ =
-      let a = mission-names-asked text m spelled in
-      let a′ = mission-names-asked text′ m′ spelled′ in
+  same-mission-file edition m m′ e spelled spelled′ =
+      let a = mission-names-asked text edition m spelled in
+      let a′ = mission-names-asked text′ edition m′ spelled′ in
       record {
         name = asked-both (some (m .name)) (some (m′ .name)) (ap (λ (x : Mission Name). some (x .name)) e) (a .name) (a′ .name);
         rndf = asked-both (some (m .rndf)) (some (m′ .rndf)) (ap (λ (x : Mission Name). some (x .rndf)) e) (a .rndf) (a′ .rndf);
@@ -192,133 +187,51 @@ module _ (text text′ : Bytes) where
         date = asked-both (m .date) (m′ .date) (ap (λ (x : Mission Name). x .date) e) (a .date) (a′ .date);
       }
 
--- ## What was written
-record RndfWritten (text : Bytes) (t left : Lent) (c : Counts) (file : FileRow) (k : ℕ) (out : Bytes) : Type 0 where
-  pub net : Network Field
-  pub writing : Bytes
-  pub accepts : AcceptsRndf present text t net
-  pub house : HouseRndf net writing
-  pub size : length writing ≤ most
-  pub first : take k out ≡ writing
-  pub counted : c ≡ rows-used net
-  pub row : file ≡ network-file net
-  pub holds : left ≡ filled net t
-
-abbrev counts-in : Counts → WriteReply → Counts
-counts-in d (Write.Written c file k) = c
-counts-in d (Write.Refused why) = d
-
-abbrev file-in : FileRow → WriteReply → FileRow
-file-in d (Write.Written c file k) = file
-file-in d (Write.Refused why) = d
-
-abbrev long-in : WriteReply → ℕ
-long-in (Write.Written c file k) = k
-long-in (Write.Refused why) = 0
-
-rndf-written : (text : Bytes) (t left : Lent) (lent : ℕ) (c : Counts) (file : FileRow) (k : ℕ) (out : Bytes) → WritesRndf present text t lent (Write.Written c file k) left out → RndfWritten text t left c file k out
-rndf-written text t left lent c file k out (W.refused why h e z) = absurd (wrote-or-not e)
-rndf-written text t left lent c file k out (W.too-long n writing c′ file′ l h s g f e p z) = absurd (wrote-or-not e)
-rndf-written text t left lent c file k out (W.written n writing c′ file′ h s g f e z) =
-    let a = accepted-spelled text t c′ file′ left h in
-    let m = tables-are text t c′ file′ left h n s in
-    record {
-      net = n;
-      writing = writing;
-      accepts = subst (AcceptsRndf present text t) (one-spelled text (a .0) n (a .1 .spelled) s) (a .1);
-      house = g;
-      size = f .size;
-      first = first-are lent writing out k z (ap long-in e);
-      counted = ap (counts-in c) e ∙ m .0;
-      row = ap (file-in file) e ∙ m .1;
-      holds = m .2;
-    }
-
-record MdfWritten (rndf mdf : Bytes) (t left : Lent) (u mission-left : MissionLent) (c : Counts) (file : FileRow) (d : MissionCounts) (own : MissionFileRow) (k : ℕ) (out : Bytes) : Type 0 where
-  pub net : Network Field
-  pub mission : Mission Field
-  pub writing : Bytes
-  pub accepts : AcceptsRndf present rndf t net
-  pub takes : AcceptsMdf present net mdf u mission
-  pub house : HouseMdf mission writing
-  pub size : length writing ≤ most
-  pub first : take k out ≡ writing
-  pub meant : Meant t u net mission c file d own left mission-left
-
--- the reply's parts, of a reply that was written
-abbrev written-as : WriteMdfReply → PairReply → PairReply
-written-as (WriteMdf.Written c file d own k) other = Pair.Accepted c file d own
-written-as (WriteMdf.Refused why) other = other
-
-abbrev mdf-long-in : WriteMdfReply → ℕ
-mdf-long-in (WriteMdf.Written c file d own k) = k
-mdf-long-in (WriteMdf.Refused why) = 0
-
-mdf-written : (rndf mdf : Bytes) (t left : Lent) (u mission-left : MissionLent) (lent : ℕ) (c : Counts) (file : FileRow) (d : MissionCounts) (own : MissionFileRow) (k : ℕ) (out : Bytes)
-    → WritesMdf present rndf mdf t u lent (WriteMdf.Written c file d own k) left mission-left out → MdfWritten rndf mdf t left u mission-left c file d own k out
-mdf-written rndf mdf t left u mission-left lent c file d own k out (W.refused why h e z) = absurd (mdf-wrote-or-not e)
-mdf-written rndf mdf t left u mission-left lent c file d own k out (W.too-long m writing c′ file′ d′ own′ l l′ h s g f e p q z) = absurd (mdf-wrote-or-not e)
-mdf-written rndf mdf t left u mission-left lent c file d own k out (W.written m writing c′ file′ d′ own′ h s g f e z) =
-    let h′ : ReadsPair present rndf mdf t u (Pair.Accepted c file d own) left mission-left = subst (λ (r : WriteMdfReply). ReadsPair present rndf mdf t u (written-as r (Pair.Accepted c′ file′ d′ own′)) left mission-left) (sym e) h in
-    let a = pair-accepted-spelled rndf mdf t u c file d own left mission-left h′ in
-    let same = one-mission mdf (a .mission) m (a .mission-accepted .spelled) s in
-    record {
-      net = a .net;
-      mission = m;
-      writing = writing;
-      accepts = a .network-accepted;
-      takes = subst (AcceptsMdf present (a .net) mdf u) same (a .mission-accepted);
-      house = g;
-      size = f .size;
-      first = first-are lent writing out k z (ap mdf-long-in e);
-      meant = pair-tables-are rndf mdf t u c file d own left mission-left h′ (a .net) m (a .network-accepted .spelled) s;
-    }
-
--- ## THE THEOREMS
+-- ## THE THEOREMS, in each edition
 -- of an RNDF
-pub rndf-round-trip : (text : Bytes) (t left : Lent) (lent : ℕ) (c : Counts) (file : FileRow) (k : ℕ) (out : Bytes) → WritesRndf present text t lent (Write.Written c file k) left out
-    → (reply : RndfReply) (left′ : Lent) → ReadsRndf present (take k out) t reply left′ → RndfRoundTrip text (take k out) c file left reply left′
-rndf-round-trip text t left lent c file k out w reply left′ h =
-    let x = rndf-written text t left lent c file k out w in
+pub rndf-round-trip : (edition : Edition) (text : Bytes) (t left : Lent) (lent : ℕ) (c : Counts) (file : FileRow) (k : ℕ) (out : Bytes) → WritesRndf (rules-of edition) text t lent (Write.Written c file k) left out
+    → (reply : RndfReply) (left′ : Lent) → ReadsRndf (rules-of edition) (take k out) t reply left′ → RndfRoundTrip (rules-of edition) text (take k out) c file left reply left′
+rndf-round-trip edition text t left lent c file k out w reply left′ h =
+    let x = rndf-written edition text t left lent c file k out w in
     let n = x .net in
-    let r = rndf-read-again text t n (x .accepts) (x .writing) (x .house) (x .size) reply left′ (subst (λ (b : Bytes). ReadsRndf present b t reply left′) (x .first) h) in
+    let r = rndf-read-again edition text t n (x .accepts) (x .writing) (x .house) (x .size) reply left′ (subst (λ (b : Bytes). ReadsRndf (rules-of edition) b t reply left′) (x .first) h) in
     let y = r .0 in
     let n′ = y .again in
-    let spelled′ = subst (SpellsRndf n′) (sym (x .first)) (y .accepts .spelled) in
+    let spelled′ = subst (SpellsText (rules-of edition) SpellsNetwork n′) (sym (x .first)) (y .accepts .spelled) in
     record {
       file′ = network-file n′;
       replied = r .1 ∙ ap (λ (d : Counts). Reply.Accepted d (network-file n′)) (sym (x .counted));
-      names = subst (λ (f : FileRow). SameFile text (take k out) f (network-file n′)) (sym (x .row)) (same-file text (take k out) n n′ (sym (y .same)) (x .accepts .spelled) spelled′);
-      tables = subst (λ (l : Lent). SameTables text (take k out) l left′) (sym (x .holds)) (subst (λ (l : Lent). SameTables text (take k out) (filled n t) l) (sym (r .2)) (same-tables text (take k out) n n′ (sym (y .same)) (x .accepts .spelled) spelled′ (x .accepts .right) (y .accepts .right) t));
+      names = subst (λ (f : FileRow). SameFile text (take k out) f (network-file n′)) (sym (x .row)) (same-file text (take k out) edition n n′ (sym (y .same)) (x .accepts .spelled) spelled′);
+      tables = subst (λ (l : Lent). SameTables text (take k out) l left′) (sym (x .holds)) (subst (λ (l : Lent). SameTables text (take k out) (filled n t) l) (sym (r .2)) (same-tables text (take k out) edition n n′ (sym (y .same)) (x .accepts .spelled) spelled′ (x .accepts .right) (y .accepts .right) t));
       network = record { one = n; other = n′; spells-one = x .accepts .spelled; spells-other = spelled′; same = y .same };
     }
 
 -- of a pair: what was written of the RNDF, with what was written of the MDF
-pub pair-round-trip : (rndf mdf : Bytes) (t left₁ left : Lent) (u mission-left : MissionLent) (lent₁ lent : ℕ) (c₁ : Counts) (file₁ : FileRow) (k₁ : ℕ) (out₁ : Bytes) (c : Counts) (file : FileRow) (d : MissionCounts) (own : MissionFileRow) (k : ℕ) (out : Bytes)
-    → WritesRndf present rndf t lent₁ (Write.Written c₁ file₁ k₁) left₁ out₁ → WritesMdf present rndf mdf t u lent (WriteMdf.Written c file d own k) left mission-left out
-    → (reply : PairReply) (left′ : Lent) (mission-left′ : MissionLent) → ReadsPair present (take k₁ out₁) (take k out) t u reply left′ mission-left′ → PairRoundTrip rndf mdf (take k₁ out₁) (take k out) c file d own left mission-left reply left′ mission-left′
-pair-round-trip rndf mdf t left₁ left u mission-left lent₁ lent c₁ file₁ k₁ out₁ c file d own k out w₁ w reply left′ mission-left′ h =
-    let x₁ = rndf-written rndf t left₁ lent₁ c₁ file₁ k₁ out₁ w₁ in
-    let x = mdf-written rndf mdf t left u mission-left lent c file d own k out w in
+pub pair-round-trip : (edition : Edition) (rndf mdf : Bytes) (t left₁ left : Lent) (u mission-left : MissionLent) (lent₁ lent : ℕ) (c₁ : Counts) (file₁ : FileRow) (k₁ : ℕ) (out₁ : Bytes) (c : Counts) (file : FileRow) (d : MissionCounts) (own : MissionFileRow) (k : ℕ) (out : Bytes)
+    → WritesRndf (rules-of edition) rndf t lent₁ (Write.Written c₁ file₁ k₁) left₁ out₁ → WritesMdf (rules-of edition) rndf mdf t u lent (WriteMdf.Written c file d own k) left mission-left out
+    → (reply : PairReply) (left′ : Lent) (mission-left′ : MissionLent) → ReadsPair (rules-of edition) (take k₁ out₁) (take k out) t u reply left′ mission-left′ → PairRoundTrip (rules-of edition) rndf mdf (take k₁ out₁) (take k out) c file d own left mission-left reply left′ mission-left′
+pair-round-trip edition rndf mdf t left₁ left u mission-left lent₁ lent c₁ file₁ k₁ out₁ c file d own k out w₁ w reply left′ mission-left′ h =
+    let x₁ = rndf-written edition rndf t left₁ lent₁ c₁ file₁ k₁ out₁ w₁ in
+    let x = mdf-written edition rndf mdf t left u mission-left lent c file d own k out w in
     let n = x .net in
     let m = x .mission in
-    let house = subst (λ (y : Network Field). HouseRndf y (x₁ .writing)) (one-spelled rndf (x₁ .net) n (x₁ .accepts .spelled) (x .accepts .spelled)) (x₁ .house) in
-    let h′ = subst (λ (b : Bytes). ReadsPair present b (x .writing) t u reply left′ mission-left′) (x₁ .first) (subst (λ (b : Bytes). ReadsPair present (take k₁ out₁) b t u reply left′ mission-left′) (x .first) h) in
-    let r = pair-read-again rndf mdf t u n m (x .accepts) (x .takes) (x₁ .writing) (x .writing) house (x .house) (x₁ .size) (x .size) reply left′ mission-left′ h′ in
+    let house = subst (λ (y : Network Field). HouseRndf y (x₁ .writing)) (one-spelled edition rndf (x₁ .net) n (x₁ .accepts .spelled) (x .accepts .spelled)) (x₁ .house) in
+    let h′ = subst (λ (b : Bytes). ReadsPair (rules-of edition) b (x .writing) t u reply left′ mission-left′) (x₁ .first) (subst (λ (b : Bytes). ReadsPair (rules-of edition) (take k₁ out₁) b t u reply left′ mission-left′) (x .first) h) in
+    let r = pair-read-again edition rndf mdf t u n m (x .accepts) (x .takes) (x₁ .writing) (x .writing) house (x .house) (x₁ .size) (x .size) reply left′ mission-left′ h′ in
     let y = r .0 .network in
     let z = r .0 .mission in
-    let spelled′ = subst (SpellsRndf (y .again)) (sym (x₁ .first)) (y .accepts .spelled) in
+    let spelled′ = subst (SpellsText (rules-of edition) SpellsNetwork (y .again)) (sym (x₁ .first)) (y .accepts .spelled) in
     let counted = sym (x .meant .counted) in
     let mission-counted = sym (x .meant .mission-counted) in
-    let mission-spelled′ = subst (SpellsMdf (z .again)) (sym (x .first)) (z .accepts .spelled) in
+    let mission-spelled′ = subst (SpellsText (rules-of edition) SpellsMission (z .again)) (sym (x .first)) (z .accepts .spelled) in
     record {
       file′ = network-file (y .again);
       own′ = mission-file (z .again);
       replied = r .1 ∙ (λ i. Pair.Accepted (counted i) (network-file (y .again)) (mission-counted i) (mission-file (z .again)));
-      names = subst (λ (f : FileRow). SameFile rndf (take k₁ out₁) f (network-file (y .again))) (sym (x .meant .row)) (same-file rndf (take k₁ out₁) n (y .again) (sym (y .same)) (x .accepts .spelled) spelled′);
-      mission-names = subst (λ (f : MissionFileRow). SameMissionFile mdf (take k out) f (mission-file (z .again))) (sym (x .meant .mission-row)) (same-mission-file mdf (take k out) m (z .again) (sym (z .same)) (x .takes .spelled) mission-spelled′);
+      names = subst (λ (f : FileRow). SameFile rndf (take k₁ out₁) f (network-file (y .again))) (sym (x .meant .row)) (same-file rndf (take k₁ out₁) edition n (y .again) (sym (y .same)) (x .accepts .spelled) spelled′);
+      mission-names = subst (λ (f : MissionFileRow). SameMissionFile mdf (take k out) f (mission-file (z .again))) (sym (x .meant .mission-row)) (same-mission-file mdf (take k out) edition m (z .again) (sym (z .same)) (x .takes .spelled) mission-spelled′);
       tables = subst (λ (l : Lent). SameTables rndf (take k₁ out₁) l left′) (sym (x .meant .holds))
-          (subst (λ (l : Lent). SameTables rndf (take k₁ out₁) (filled n t) l) (sym (r .2)) (same-tables rndf (take k₁ out₁) n (y .again) (sym (y .same)) (x .accepts .spelled) spelled′ (x .accepts .right) (y .accepts .right) t));
+          (subst (λ (l : Lent). SameTables rndf (take k₁ out₁) (filled n t) l) (sym (r .2)) (same-tables rndf (take k₁ out₁) edition n (y .again) (sym (y .same)) (x .accepts .spelled) spelled′ (x .accepts .right) (y .accepts .right) t));
       mission-tables = x .meant .mission-holds ∙ sym (r .3);
       network = record { one = n; other = y .again; spells-one = x .accepts .spelled; spells-other = spelled′; same = y .same };
       mission = record { one = m; other = z .again; spells-one = x .takes .spelled; spells-other = mission-spelled′; same = z .same };

@@ -1,5 +1,4 @@
 -- What comes back.
 pub mod Returns
-pub mod ByStatements
 pub mod ReadBack
 pub mod RoundTrip

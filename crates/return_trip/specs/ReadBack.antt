@@ -3,7 +3,7 @@ use Rattle.terms.specs.Words.{_≡_, _≤_, _/_, length, Bytes}
 use Rattle.line.specs.Content.{Field}
 use Rattle.grammar.specs.Network.{Network}
 use Rattle.grammar.specs.Mission.{Mission}
-use Rattle.law.specs.Short.{SpellsRndf, SpellsMdf}
+use Rattle.law.specs.Network.{Rules, SpellsNetwork, SpellsMission, SpellsText}
 use Rattle.rows.specs.declared.FileRow.{FileRow}
 use Rattle.rows.specs.declared.MissionFileRow.{MissionFileRow}
 use Rattle.law.specs.Tables.{Lent, MissionLent}
@@ -30,31 +30,31 @@ pub record MissionRoomFor (c : MissionCounts) (u : MissionLent) : Type 0 where
   pub goals : c .goals ≤ length (u .goals) / 1
   pub limits : c .limits ≤ length (u .limits) / 3
 
--- two texts that spell the same network, names by their bytes
-pub record SameRndf (text text′ : Bytes) : Type 0 where
+-- two texts that by these rules spell the same network, names by their bytes
+pub record SameRndf (rules : Rules) (text text′ : Bytes) : Type 0 where
   pub one : Network Field
   pub other : Network Field
-  pub spells-one : SpellsRndf one text
-  pub spells-other : SpellsRndf other text′
+  pub spells-one : SpellsText rules SpellsNetwork one text
+  pub spells-other : SpellsText rules SpellsNetwork other text′
   pub same : SameNetwork other one
 
-pub record SameMdf (text text′ : Bytes) : Type 0 where
+pub record SameMdf (rules : Rules) (text text′ : Bytes) : Type 0 where
   pub one : Mission Field
   pub other : Mission Field
-  pub spells-one : SpellsMdf one text
-  pub spells-other : SpellsMdf other text′
+  pub spells-one : SpellsText rules SpellsMission one text
+  pub spells-other : SpellsText rules SpellsMission other text′
   pub same : SameMission other one
 
 -- the reply to what was written of an RNDF
-pub record RndfReadBack (text writing : Bytes) (c : Counts) (reply : RndfReply) : Type 0 where
+pub record RndfReadBack (rules : Rules) (text writing : Bytes) (c : Counts) (reply : RndfReply) : Type 0 where
   pub file : FileRow
   pub replied : reply ≡ Reply.Accepted c file
-  pub network : SameRndf text writing
+  pub network : SameRndf rules text writing
 
 -- the reply to an RNDF with what was written of an MDF; that RNDF is the one that was read then, or what was written of it
-pub record PairReadBack (rndf mdf rndf′ writing : Bytes) (c : Counts) (d : MissionCounts) (reply : PairReply) : Type 0 where
+pub record PairReadBack (rules : Rules) (rndf mdf rndf′ writing : Bytes) (c : Counts) (d : MissionCounts) (reply : PairReply) : Type 0 where
   pub file : FileRow
   pub mission-file : MissionFileRow
   pub replied : reply ≡ Pair.Accepted c file d mission-file
-  pub network : SameRndf rndf rndf′
-  pub mission : SameMdf mdf writing
+  pub network : SameRndf rules rndf rndf′
+  pub mission : SameMdf rules mdf writing

@@ -1,24 +1,25 @@
--- WHAT A READER MUST BELIEVE. The return trip: the house writing of what was accepted is accepted in the same tables, and is the same network, or mission. Document 01, "House writing"; "A network or mission is its tables with each name's bytes in place of start and length." Assumes nothing.
+-- WHAT A READER MUST BELIEVE. The return trip: the house writing of what was accepted is accepted by the same rules in the same tables, and is the same network, or mission. Document 01, "House writing"; "A network or mission is its tables with each name's bytes in place of start and length." Assumes nothing.
 use Rattle.terms.specs.Words.{Bytes}
 use Rattle.line.specs.Line.{Field}
-use Rattle.law.specs.Network.{Network, Mission, present}
+use Rattle.law.specs.Network.{Network, Mission, Rules}
 use Rattle.law.specs.Tables.{Lent, MissionLent}
 use Rattle.same.specs.Same.{SameNetwork, SameMission}
 use Rattle.replies.specs.Replies.{AcceptsRndf, AcceptsMdf}
 
+-- rules: those by which it was accepted, so that the trip stays within its edition (L10)
 -- an RNDF alone: these bytes are accepted in these tables, and spell the same network again
-pub record RndfReturns (n : Network Field) (house : Bytes) (t : Lent) : Type 0 where
+pub record RndfReturns (rules : Rules) (n : Network Field) (house : Bytes) (t : Lent) : Type 0 where
   pub again : Network Field
-  pub accepts : AcceptsRndf present house t again
+  pub accepts : AcceptsRndf rules house t again
   pub same : SameNetwork again n
 
 -- an MDF for a network
-pub record MdfReturns (n : Network Field) (m : Mission Field) (house : Bytes) (u : MissionLent) : Type 0 where
+pub record MdfReturns (rules : Rules) (n : Network Field) (m : Mission Field) (house : Bytes) (u : MissionLent) : Type 0 where
   pub again : Mission Field
-  pub accepts : AcceptsMdf present n house u again
+  pub accepts : AcceptsMdf rules n house u again
   pub same : SameMission again m
 
 -- an RNDF with its MDF
-pub record PairReturns (n : Network Field) (m : Mission Field) (rndf-house mdf-house : Bytes) (t : Lent) (u : MissionLent) : Type 0 where
-  pub network : RndfReturns n rndf-house t
-  pub mission : MdfReturns (network .again) m mdf-house u
+pub record PairReturns (rules : Rules) (n : Network Field) (m : Mission Field) (rndf-house mdf-house : Bytes) (t : Lent) (u : MissionLent) : Type 0 where
+  pub network : RndfReturns rules n rndf-house t
+  pub mission : MdfReturns rules (network .again) m mdf-house u

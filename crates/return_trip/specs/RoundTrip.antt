@@ -1,5 +1,6 @@
 -- WHAT A READER MUST BELIEVE. THE RETURN TRIP: what is replied, and left in the lent tables, where what was written of a text is read into the same tables. Document 01, "House writing"; "A network or mission is its tables with each name's bytes in place of start and length." Assumes nothing.
 use Rattle.terms.specs.Words.{_≡_, List, _∷_, _++_, ℕ, length, Bytes}
+use Rattle.law.specs.Network.{Rules}
 use Rattle.law.specs.Tables.{Lent, MissionLent}
 use Rattle.rows.specs.declared.FileRow.{FileRow}
 use Rattle.rows.specs.declared.MissionFileRow.{MissionFileRow}
@@ -45,16 +46,17 @@ module _ (text text′ : Bytes) where
     pub version : nameOf text (file .version) ≡ nameOf text′ (file′ .version)
     pub date : nameOf text (file .date) ≡ nameOf text′ (file′ .date)
 
+-- rules: those by which it was accepted, and is read again (L10: its edition's)
 -- an RNDF: it was accepted with these rows used and this file's row, which left the tables so. What was written of it is then accepted with the same rows used and the same names, and leaves the same tables but for where names start; the two spell the same network
-pub record RndfRoundTrip (text writing : Bytes) (c : Counts) (file : FileRow) (left : Lent) (reply : RndfReply) (left′ : Lent) : Type 0 where
+pub record RndfRoundTrip (rules : Rules) (text writing : Bytes) (c : Counts) (file : FileRow) (left : Lent) (reply : RndfReply) (left′ : Lent) : Type 0 where
   pub file′ : FileRow
   pub replied : reply ≡ Reply.Accepted c file′
   pub names : SameFile text writing file file′
   pub tables : SameTables text writing left left′
-  pub network : SameRndf text writing
+  pub network : SameRndf rules text writing
 
 -- an RNDF with its MDF: likewise, and the goals and limits are the same words
-pub record PairRoundTrip (rndf mdf rndf-writing mdf-writing : Bytes) (c : Counts) (file : FileRow) (d : MissionCounts) (own : MissionFileRow) (left : Lent) (mission-left : MissionLent) (reply : PairReply) (left′ : Lent) (mission-left′ : MissionLent) : Type 0 where
+pub record PairRoundTrip (rules : Rules) (rndf mdf rndf-writing mdf-writing : Bytes) (c : Counts) (file : FileRow) (d : MissionCounts) (own : MissionFileRow) (left : Lent) (mission-left : MissionLent) (reply : PairReply) (left′ : Lent) (mission-left′ : MissionLent) : Type 0 where
   pub file′ : FileRow
   pub own′ : MissionFileRow
   pub replied : reply ≡ Pair.Accepted c file′ d own′
@@ -62,5 +64,5 @@ pub record PairRoundTrip (rndf mdf rndf-writing mdf-writing : Bytes) (c : Counts
   pub mission-names : SameMissionFile mdf mdf-writing own own′
   pub tables : SameTables rndf rndf-writing left left′
   pub mission-tables : mission-left ≡ mission-left′
-  pub network : SameRndf rndf rndf-writing
-  pub mission : SameMdf mdf mdf-writing
+  pub network : SameRndf rules rndf rndf-writing
+  pub mission : SameMdf rules mdf mdf-writing

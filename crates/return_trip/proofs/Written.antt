@@ -1,0 +1,123 @@
+-- WHAT WAS WRITTEN, from the contracts of writers: the house writing of what was accepted, in its edition. Assumes nothing.
+use mathlib.Core.Path.{_≡_, sym, ap, subst, _∙_}
+use Prim.Native.Nat.{ℕ, _-_, _≤_}
+use lib.ListN.{length, take}
+use lib.Seq.{take-at}
+use Rattle.terms.specs.Ascii.{Bytes}
+use Rattle.line.specs.Content.{Field}
+use Rattle.law.specs.Network.{Network, Mission}
+use Rattle.law.specs.Tables.{Lent, MissionLent, filled}
+use Rattle.edition.specs.declared.Edition.{Edition}
+use Rattle.edition.specs.Editions.{rules-of}
+use Rattle.house_text.specs.House.{HouseRndf, HouseMdf}
+use Rattle.output.specs.Output as Output
+use Rattle.rows.specs.declared.FileRow.{FileRow}
+use Rattle.rows.specs.declared.MissionFileRow.{MissionFileRow}
+use Rattle.counts.specs.declared.Counts.{Counts}
+use Rattle.counts.specs.declared.MissionCounts.{MissionCounts}
+use Rattle.replies.specs.declared.PairReply.{PairReply}
+use Rattle.replies.specs.declared.PairReply.the-variants as Pair
+use Rattle.replies.specs.Replies.{most, AcceptsRndf, AcceptsMdf, rows-used, network-file, ReadsPair}
+use Rattle.writings.specs.declared.WriteReply.{WriteReply}
+use Rattle.writings.specs.declared.WriteReply.the-variants as Write
+use Rattle.writings.specs.declared.WriteMdfReply.{WriteMdfReply}
+use Rattle.writings.specs.declared.WriteMdfReply.the-variants as WriteMdf
+use Rattle.writings.specs.Writes.{WritesRndf, WritesMdf}
+use Rattle.writings.specs.Writes as W
+use Rattle.writer.proofs.Steps.{wrote-or-not, mdf-wrote-or-not}
+use Rattle.promises.specs.Accepted.{Meant}
+use Rattle.promises.proofs.Forms.{one-spelled, one-mission}
+use Rattle.promises.proofs.Promises.{accepted-spelled, tables-are}
+use Rattle.promises.proofs.PairPromises.{pair-accepted-spelled, pair-tables-are}
+
+-- the first bytes of an output that was filled
+first-are : (lent : ℕ) (x out : Bytes) (k : ℕ) → out ≡ Output.filled lent x → k ≡ length x → take k out ≡ x
+first-are lent x out k o e = ap (take k) o ∙ take-at x (Output.zeros (lent - length x)) k (sym e)
+
+module _ (edition : Edition) where
+  -- ## An RNDF
+  pub record RndfWritten (text : Bytes) (t left : Lent) (c : Counts) (file : FileRow) (k : ℕ) (out : Bytes) : Type 0 where
+    pub net : Network Field
+    pub writing : Bytes
+    pub accepts : AcceptsRndf (rules-of edition) text t net
+    pub house : HouseRndf net writing
+    pub size : length writing ≤ most
+    pub long : k ≡ length writing
+    pub first : take k out ≡ writing
+    pub counted : c ≡ rows-used net
+    pub row : file ≡ network-file net
+    pub holds : left ≡ filled net t
+
+  abbrev counts-in : Counts → WriteReply → Counts
+  counts-in d (Write.Written c file k) = c
+  counts-in d (Write.Refused why) = d
+
+  abbrev file-in : FileRow → WriteReply → FileRow
+  file-in d (Write.Written c file k) = file
+  file-in d (Write.Refused why) = d
+
+  abbrev long-in : WriteReply → ℕ
+  long-in (Write.Written c file k) = k
+  long-in (Write.Refused why) = 0
+
+  pub rndf-written : (text : Bytes) (t left : Lent) (lent : ℕ) (c : Counts) (file : FileRow) (k : ℕ) (out : Bytes) → WritesRndf (rules-of edition) text t lent (Write.Written c file k) left out → RndfWritten text t left c file k out
+  rndf-written text t left lent c file k out (W.refused why h e z) = absurd (wrote-or-not e)
+  rndf-written text t left lent c file k out (W.too-long n writing c′ file′ l h s g f e p z) = absurd (wrote-or-not e)
+  rndf-written text t left lent c file k out (W.written n writing c′ file′ h s g f e z) =
+      let a = accepted-spelled edition text t c′ file′ left h in
+      let m = tables-are edition text t c′ file′ left h n s in
+      record {
+        net = n;
+        writing = writing;
+        accepts = subst (AcceptsRndf (rules-of edition) text t) (one-spelled edition text (a .0) n (a .1 .spelled) s) (a .1);
+        house = g;
+        size = f .size;
+        long = ap long-in e;
+        first = first-are lent writing out k z (ap long-in e);
+        counted = ap (counts-in c) e ∙ m .0;
+        row = ap (file-in file) e ∙ m .1;
+        holds = m .2;
+      }
+
+  -- ## The MDF of a pair
+  pub record MdfWritten (rndf mdf : Bytes) (t left : Lent) (u mission-left : MissionLent) (c : Counts) (file : FileRow) (d : MissionCounts) (own : MissionFileRow) (k : ℕ) (out : Bytes) : Type 0 where
+    pub net : Network Field
+    pub mission : Mission Field
+    pub writing : Bytes
+    pub accepts : AcceptsRndf (rules-of edition) rndf t net
+    pub takes : AcceptsMdf (rules-of edition) net mdf u mission
+    pub house : HouseMdf mission writing
+    pub size : length writing ≤ most
+    pub long : k ≡ length writing
+    pub first : take k out ≡ writing
+    pub meant : Meant t u net mission c file d own left mission-left
+
+  -- the reply's parts, of a reply that was written
+  abbrev written-as : WriteMdfReply → PairReply → PairReply
+  written-as (WriteMdf.Written c file d own k) other = Pair.Accepted c file d own
+  written-as (WriteMdf.Refused why) other = other
+
+  abbrev mdf-long-in : WriteMdfReply → ℕ
+  mdf-long-in (WriteMdf.Written c file d own k) = k
+  mdf-long-in (WriteMdf.Refused why) = 0
+
+  pub mdf-written : (rndf mdf : Bytes) (t left : Lent) (u mission-left : MissionLent) (lent : ℕ) (c : Counts) (file : FileRow) (d : MissionCounts) (own : MissionFileRow) (k : ℕ) (out : Bytes)
+      → WritesMdf (rules-of edition) rndf mdf t u lent (WriteMdf.Written c file d own k) left mission-left out → MdfWritten rndf mdf t left u mission-left c file d own k out
+  mdf-written rndf mdf t left u mission-left lent c file d own k out (W.refused why h e z) = absurd (mdf-wrote-or-not e)
+  mdf-written rndf mdf t left u mission-left lent c file d own k out (W.too-long m writing c′ file′ d′ own′ l l′ h s g f e p q z) = absurd (mdf-wrote-or-not e)
+  mdf-written rndf mdf t left u mission-left lent c file d own k out (W.written m writing c′ file′ d′ own′ h s g f e z) =
+      let h′ : ReadsPair (rules-of edition) rndf mdf t u (Pair.Accepted c file d own) left mission-left = subst (λ (r : WriteMdfReply). ReadsPair (rules-of edition) rndf mdf t u (written-as r (Pair.Accepted c′ file′ d′ own′)) left mission-left) (sym e) h in
+      let a = pair-accepted-spelled edition rndf mdf t u c file d own left mission-left h′ in
+      let same = one-mission edition mdf (a .mission) m (a .mission-accepted .spelled) s in
+      record {
+        net = a .net;
+        mission = m;
+        writing = writing;
+        accepts = a .network-accepted;
+        takes = subst (AcceptsMdf (rules-of edition) (a .net) mdf u) same (a .mission-accepted);
+        house = g;
+        size = f .size;
+        long = ap mdf-long-in e;
+        first = first-are lent writing out k z (ap mdf-long-in e);
+        meant = pair-tables-are edition rndf mdf t u c file d own left mission-left h′ (a .net) m (a .network-accepted .spelled) s;
+      }
