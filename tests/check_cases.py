@@ -33,6 +33,7 @@ N, MDF = "network.rndf", "mission.mdf"
 FOLDER = object()
 MOST = 1048576
 WORDS = reasons.of_readme()
+OLDER = ["--edition", "2006"]      # request L10: before the names, the texts are read in the edition of December 6, 2006
 
 
 BYTES = {0: "a NUL", 13: "a carriage return", 0x2A: "an asterisk", 0x5C: "a backslash"}
@@ -157,6 +158,24 @@ def one_refusal_each():
     ]
 
 
+def older():
+    """The same in the edition of December 6, 2006 (request L10): 8 for solid_yellow, 9 for 0 spots, all else as now."""
+    yellow = ins(A, 8, "right_boundary>solid_yellow")
+    empty = Z[:14] + ["num_spots>0"] + Z[15:19] + Z[24:]
+    return [
+        ("2006: yard A", A, None, accepted(1, 0, 1, 2, 0, 1, 0, 1)),
+        ("2006: yard A as a pair", A, M, accepted(1, 0, 1, 2, 0, 1, 0, 1, 1, 1)),
+        ("2006: a spot with its checkpoint", Z, None, accepted(1, 1, 1, 5, 1, 2, 0, 1)),
+        ("2006: solid_yellow", yellow, M, (N, 8, 8, 16)),
+        ("2006: 0 spots", empty, None, (N, 15, 9, 11)),
+        ("2006: 25", put(Z, 21), None, (N, 21, 25, 1)),
+        ("2006: a fault of the MDF", A, put(M, 5, "8"), (MDF, 5, 15, 1)),
+    ], [
+        ("2007: solid_yellow", yellow, M, accepted(1, 0, 1, 2, 0, 1, 0, 1, 1, 1)),
+        ("2007: 0 spots", empty, None, accepted(1, 1, 1, 3, 0, 1, 0, 1)),
+    ]
+
+
 def as_printed():
     """Some answers to the letter."""
     return [
@@ -172,10 +191,11 @@ def as_printed():
 def not_checked():
     """(label, {name: content}, arguments, answer); what is wrong with the RNDF is told before anything about the MDF."""
     big = padded(A, MOST + 1)
-    none = "Name an RNDF file, and behind it an MDF file if both are to be checked."
+    none = "Name an RNDF file, and behind it an MDF file if both are to be checked: run-check [--edition 2006] RNDF [MDF]"
     many = "Too many names: one RNDF file and at most one MDF file can be checked."
     bad = told(N, b"x", 1, 5, 1)
-    usage = (none[:-1] + ": run-check RNDF [MDF]\n"
+    usage = (none + "\n"
+             "With --edition 2006 the RNDF is read by the edition of December 6, 2006; without, or with --edition 2007, by the present one.\n"
              "The answer is what is wrong first, as FILE:LINE:COLUMN: reason (NUMBER) and that line with a caret under the column; or what the files hold.\n"
              "A file may have up to 1,048,576 bytes. The status is 0 accepted, 1 refused, 2 not checked.")
     return [
@@ -183,6 +203,18 @@ def not_checked():
         ("-h, with a name behind it", {N: A}, ["-h", N], (usage, 2)),
         ("no argument", {N: A, MDF: M}, [], (none, 2)),
         ("three arguments", {N: A, MDF: M}, [N, MDF, N], (many, 2)),
+        ("--edition and nothing behind it", {N: A}, OLDER[:1], (none, 2)),
+        ("--edition 2006 and no name", {N: A}, OLDER, (none, 2)),
+        ("--edition 2006 and three names", {N: A, MDF: M}, OLDER + [N, MDF, N], (many, 2)),
+        ("--edition 2006 --help", {N: A}, OLDER + ["--help"], (usage, 2)),
+        ("--edition 2006 behind a name", {N: A}, [N] + OLDER, (many, 2)),
+        ("--edition 2006, no such RNDF", {MDF: M}, OLDER + [N, MDF], missing(N)),
+        ("--edition 2006, the two swapped", {N: A, MDF: M}, OLDER + [MDF, N], swapped(MDF)),
+        ("--edition 2006, too long an RNDF", {N: padded(A, 16777216)}, OLDER + [N], told(N, b"", 0, 1, 0)),
+        ("another edition", {N: A}, OLDER[:1] + ["2005", N], (none, 2)),
+        ("an edition that begins as one", {N: A}, OLDER[:1] + ["2006" + "0" * 16, N], (none, 2)),
+        ("a name where the edition stands", {N: A}, OLDER[:1] + [N], (none, 2)),
+        ("the present edition by its year", {N: ins(A, 8, "right_boundary>solid_yellow")}, OLDER[:1] + ["2007", N], accepted(1, 0, 1, 2, 0, 1, 0, 1)),
         ("no such RNDF", {MDF: M}, [N, MDF], missing(N)),
         ("no such MDF", {N: A}, [N, MDF], missing(MDF)),
         ("bad RNDF, no such MDF", {N: b"x"}, [N, MDF], bad),
@@ -276,12 +308,12 @@ def run(files, arguments):
         return ran.stdout.decode("ascii", "replace"), ran.returncode
 
 
-def by_oracle(rndf, mdf):
+def by_oracle(rndf, mdf, edition):
     """The oracle's reply in the program's words, with the tables that the program has."""
     room = {"segments": 4 * (MOST // 92 + 1), "lanes": 5 * (MOST // 58 + 1), "zones": 6 * (MOST // 102 + 1), "spots": 2 * (MOST // 66 + 1),
             "points": 2 * (MOST // 24 + 1), "checkpoints": 2 * (MOST // 19 + 1), "stops": MOST // 11 + 1, "exits": 2 * (MOST // 17 + 1),
             "goals": 32768, "limits": 3 * 32768}
-    reply = oracle.read_rndf(rndf, room) if mdf is None else oracle.read_pair(rndf, mdf, room)
+    reply = oracle.read_rndf(rndf, room, edition) if mdf is None else oracle.read_pair(rndf, mdf, room, edition)
     if reply.accepted:
         return accepted(*(reply.used[t] for t in oracle.COUNT_ORDER if t in reply.used))
     file, *where = reply.refusal
@@ -298,16 +330,18 @@ def main():
         if subprocess.run([RUN, os.path.join(data, N), os.path.join(data, MDF)]).returncode != 1:
             return 1
     every = not_checked()
-    for label, rndf, mdf, want in one_refusal_each() + largest() + as_printed():
+    then, now = older()
+    present = [(case, oracle.PRESENT, []) for case in one_refusal_each() + largest() + as_printed() + now]
+    for (label, rndf, mdf, want), edition, option in present + [(case, oracle.DECEMBER_2006, OLDER) for case in then]:
         rndf, mdf = as_bytes(rndf), as_bytes(mdf)
-        found = by_oracle(rndf, mdf)
+        found = by_oracle(rndf, mdf, edition)
         files = {N: rndf} if mdf is None else {N: rndf, MDF: mdf}
         if isinstance(want, str):
             want, found = (want, 1), told(found[0], files[found[0]], *found[1:])
         assert found == want, (label, found)
         if options.oracle:
             continue
-        every.append((label, files, list(files), told(want[0], files[want[0]], *want[1:]) if len(want) == 4 else want))
+        every.append((label, files, option + list(files), told(want[0], files[want[0]], *want[1:]) if len(want) == 4 else want))
     if options.oracle:
         print("the oracle agrees")
         return 0

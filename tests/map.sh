@@ -27,6 +27,16 @@ status=0
 [ "$(cat "$work/bad.err")" = "$("$root/run-check" --built "$work/bad.rndf" || true)" ]
 echo "a refusal: $(sed "s,$work/,," "$work/bad.err")"
 
+# the edition of December 6, 2006 (L10) has no solid_yellow, and reads yard A as the present one does
+sed '7a right_boundary\tsolid_yellow' "$root/crates/yard_map/data/network.rndf" >"$work/yellow.rndf"
+"$root/run-map" --built "$work/yellow.rndf" >/dev/null
+status=0
+"$root/run-map" --built --edition 2006 "$work/yellow.rndf" >"$work/bad.out" 2>"$work/bad.err" || status=$?
+[ "$status" = 1 ] && [ ! -s "$work/bad.out" ]
+[ "$(cat "$work/bad.err")" = "$("$root/run-check" --built --edition 2006 "$work/yellow.rndf" || true)" ]
+"$root/run-map" --built --edition 2006 "$root/crates/yard_map/data/network.rndf" | cmp - "$root/crates/yard_map/stdout"
+echo "the edition of 2006: $(sed "s,$work/,," "$work/bad.err")"
+
 python3 "$here/big_yard.py" >"$work/big.rndf"
 "$root/run-map" --built "$work/big.rndf" >"$work/yard.geojson"
 python3 "$here/gdal_test.py" "$work/yard.geojson" "$work"

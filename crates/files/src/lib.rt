@@ -1,9 +1,10 @@
-// A file's bytes loaded into a lent text, and in plain words why not: for the planners' programs.
+// A file's bytes loaded into a lent text, and in plain words why not, and whether an argument is a word: for the planners' programs.
 // No contract can say what a file holds. Proved is that nothing is out of range, and what is put of a file that is not there or can't be taken (`put_trouble`,
 // specs/Troubles), for every name.
 //
-// Rests on `output`, `shown` and the kit's `io`, `libc` and `os`.
+// Rests on `output`, `shown`, `scan` and the kit's `io`, `libc` and `os`.
 use output::put_bytes;
+use scan::same;
 use shown::first;
 use shown::is_mission_first;
 ghost use mathlib.Core.List.{_++_};
@@ -20,6 +21,15 @@ pub enum Loaded {
     Folder,
     Unreadable,
     Mission,
+}
+
+// ## Arguments
+
+// Whether the argument at that place is this word, of up to 16 bytes.
+pub fn is_argument(i: usize, word: &[u8]) -> bool {
+    let mut given = [0u8; 16];
+    let n = os::arg(i, &mut given);
+    same(first(&given, n), word)
 }
 
 // ## Loading

@@ -1,9 +1,10 @@
 // Writes the house writing of `network.rndf`, from the folder that it is run in, to standard output; and behind it, where there is a `mission.mdf`, that of the MDF. Where either is
 // refused it prints one line and nothing else: `refused` with file, line and number; `no file` where there is no RNDF, `file too big` for the first file that is over 8,192 bytes.
-// Both files are loaded before either is judged. There is room for 256 points and 128 rows of every other table, as in the summary program.
+// Both files are loaded before either is judged, by the present edition. There is room for 256 points and 128 rows of every other table, as in the summary program.
 // Rests on `writer`. Nothing is promised of what is printed (no contract can say it); what is written is `write_rndf`'s and `write_mdf`'s, and proved there.
 //
 // `data/` is yard B with every option and a mission for it, both as untidy as a text may be; `stdout` was written by hand from it.
+use edition::Edition;
 use libc::STDOUT_FILENO;
 use refusal::Refusal;
 use writer::write_mdf;
@@ -91,6 +92,7 @@ fn write_network(rndf: &[u8], out: &mut [u8]) -> Ended {
     let mut stops = [0u32; 128];
     let mut exits = [0u32; 256];
     let reply = write_rndf(
+        Edition::March2007,
         rndf,
         &mut segments,
         &mut lanes,
@@ -120,6 +122,7 @@ fn write_mission(rndf: &[u8], mdf: &[u8], out: &mut [u8]) -> Ended {
     let mut goals = [0u32; 128];
     let mut limits = [0u32; 384];
     let reply = write_mdf(
+        Edition::March2007,
         rndf,
         mdf,
         &mut segments,

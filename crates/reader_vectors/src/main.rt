@@ -1,12 +1,13 @@
 // Runs the readers on whole and damaged texts, alone and in pairs, with tables of many lengths, and prints for each its reply and every lent word.
 // The cases stand in the files of `data/`, one behind the other. A case is a line of fixed length, its label and an LF, the RNDF, the MDF and an LF.
-// That line is `1` (the RNDF alone) or `2` (a pair) and thirteen numbers of four digits: the bytes of the RNDF and of the MDF, the words lent of each of
+// That line is `1` (the RNDF alone) or `2` (a pair), `3` or `4` the same by the edition of December 6, 2006, and thirteen numbers of four digits: the bytes of the RNDF and of the MDF, the words lent of each of
 // the ten tables, the bytes of the label. No lent word is zero before the call.
 // Printed are the label, the reply (the rows used and each file's own row, or file, line and number), and of each table the words lent and those up to
 // the last that is not zero, so that a row too many or one that was not cleared shows. Coordinates are printed as they stand in a text.
 // The file `stdout` was not copied from a run: the oracle in tests/oracle, written from document 01 alone, wrote it (tests/reader_vectors.py).
 use counts::Counts;
 use counts::MissionCounts;
+use edition::Edition;
 use libc::STDOUT_FILENO;
 use output::put_coordinate;
 use reader::read_pair;
@@ -203,7 +204,7 @@ fn put_network(
 }
 
 // The tables stand where they are lent from: a function that only handed ten slices on would be dear to check.
-fn show_alone(text: &[u8], room: Room) {
+fn show_alone(edition: Edition, text: &[u8], room: Room) {
     let mut segment_words = [FULL; MOST_WORDS];
     let mut lane_words = [FULL; MOST_WORDS];
     let mut zone_words = [FULL; MOST_WORDS];
@@ -221,6 +222,7 @@ fn show_alone(text: &[u8], room: Room) {
     let stops = lent(&mut stop_words, room.stops);
     let exits = lent(&mut exit_words, room.exits);
     let reply = read_rndf(
+        edition,
         text,
         segments,
         lanes,
@@ -244,7 +246,7 @@ fn show_alone(text: &[u8], room: Room) {
     );
 }
 
-fn show_pair(rndf: &[u8], mdf: &[u8], room: Room) {
+fn show_pair(edition: Edition, rndf: &[u8], mdf: &[u8], room: Room) {
     let mut segment_words = [FULL; MOST_WORDS];
     let mut lane_words = [FULL; MOST_WORDS];
     let mut zone_words = [FULL; MOST_WORDS];
@@ -266,6 +268,7 @@ fn show_pair(rndf: &[u8], mdf: &[u8], room: Room) {
     let goals = lent(&mut goal_words, room.goals);
     let limits = lent(&mut limit_words, room.limits);
     let reply = read_pair(
+        edition,
         rndf,
         mdf,
         segments,
@@ -346,6 +349,19 @@ fn part(s: &[u8], from: usize, n: usize) -> &[u8] {
     }
 }
 
+// The edition of a case's first digit: `3` and `4` are `1` and `2` in that of December 6, 2006.
+fn edition_in(mode: usize) -> Edition {
+    if mode > 2 {
+        Edition::December2006
+    } else {
+        Edition::March2007
+    }
+}
+
+fn is_pair(mode: usize) -> bool {
+    if mode == 2 { true } else { mode == 4 }
+}
+
 // Prints one case, and answers its length.
 fn show(s: &[u8]) -> usize
     ensures { λ r. ⌜ 67 ≤ r ⌝ }
@@ -356,10 +372,12 @@ fn show(s: &[u8]) -> usize
     put(part(s, HEAD, number(s, 12)));
     put(b"\n");
     let rndf = part(s, rndf_at, number(s, 0));
-    if digit(s, 0) == 2 {
-        show_pair(rndf, part(s, mdf_at, number(s, 1)), room_of(s));
+    let mode = digit(s, 0);
+    let edition = edition_in(mode);
+    if is_pair(mode) {
+        show_pair(edition, rndf, part(s, mdf_at, number(s, 1)), room_of(s));
     } else {
-        show_alone(rndf, room_of(s));
+        show_alone(edition, rndf, room_of(s));
     }
     put(b"\n");
     behind + 1

@@ -1,9 +1,10 @@
 // The summary program of document 01: reads `network.rndf`, then `mission.mdf` from the folder that it is run in, and prints one line: `ok` and the
 // rows used of each table, or `refused` with file, line and number; `no file` or `file too big` for the first file that is missing or over 8,192 bytes.
-// Both files are loaded before either is judged. The texts and the tables lie on the stack, each once: 8,192 bytes to a text, 15,360 for the tables.
+// Both files are loaded before either is judged, by the present edition. The texts and the tables lie on the stack, each once: 8,192 bytes to a text, 15,360 for the tables.
 // Rests on `reader`. Nothing is promised of what is printed (no contract can say it); the judging is `read_pair`'s, and proved there.
 use counts::Counts;
 use counts::MissionCounts;
+use edition::Edition;
 use libc::STDOUT_FILENO;
 use reader::read_pair;
 use refusal::Refusal;
@@ -98,6 +99,7 @@ fn summarise(rndf: &[u8], mdf: &[u8]) {
     let mut goals = [0u32; 128];
     let mut limits = [0u32; 384];
     let reply = read_pair(
+        Edition::March2007,
         rndf,
         mdf,
         &mut segments,

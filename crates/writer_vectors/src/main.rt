@@ -1,12 +1,13 @@
 // Runs the writers on whole and damaged texts, with outputs of many lengths, and prints for each its reply, how many words of some tables are in use, and every byte of the output.
 // The cases stand in the files of `data/`, one behind the other. A case is a line of fixed length, its label and an LF, the RNDF, the MDF and an LF.
-// That line is `1` (the RNDF is written) or `2` (the MDF) and four numbers of four digits: the bytes of the RNDF, of the MDF, of the lent output and of the label.
+// That line is `1` (the RNDF is written) or `2` (the MDF), `3` or `4` the same by the edition of December 6, 2006, and four numbers of four digits: the bytes of the RNDF, of the MDF, of the lent output and of the label.
 // No lent word and no byte of the output is zero before the call.
 // Printed are the label; the reply (the rows used, each file's own row and the bytes written, or file, line and number); of the segments, the points
 // and, behind an MDF, the limits how many words there are up to the last that is not zero; and of the output the same, and these bytes.
 // The file `stdout` was not copied from a run: the oracle in tests/oracle, written from document 01 alone, wrote it (tests/writer_vectors.py).
 use counts::Counts;
 use counts::MissionCounts;
+use edition::Edition;
 use libc::STDOUT_FILENO;
 use refusal::Refusal;
 use rows::FileRow;
@@ -173,7 +174,7 @@ fn put_output(out: &[u8]) {
 
 // ## The two writers, run
 
-fn show_rndf(text: &[u8], out: &mut [u8]) {
+fn show_rndf(edition: Edition, text: &[u8], out: &mut [u8]) {
     let mut segments = [FULL; WORDS];
     let mut lanes = [FULL; WORDS];
     let mut zones = [FULL; WORDS];
@@ -183,6 +184,7 @@ fn show_rndf(text: &[u8], out: &mut [u8]) {
     let mut stops = [FULL; WORDS];
     let mut exits = [FULL; WORDS];
     let reply = write_rndf(
+        edition,
         text,
         &mut segments,
         &mut lanes,
@@ -199,7 +201,7 @@ fn show_rndf(text: &[u8], out: &mut [u8]) {
     put_size(used_signed(&points));
 }
 
-fn show_mdf(rndf: &[u8], mdf: &[u8], out: &mut [u8]) {
+fn show_mdf(edition: Edition, rndf: &[u8], mdf: &[u8], out: &mut [u8]) {
     let mut segments = [FULL; WORDS];
     let mut lanes = [FULL; WORDS];
     let mut zones = [FULL; WORDS];
@@ -211,6 +213,7 @@ fn show_mdf(rndf: &[u8], mdf: &[u8], out: &mut [u8]) {
     let mut goals = [FULL; WORDS];
     let mut limits = [FULL; WORDS];
     let reply = write_mdf(
+        edition,
         rndf,
         mdf,
         &mut segments,
@@ -273,13 +276,27 @@ fn part(s: &[u8], from: usize, n: usize) -> &[u8] {
     }
 }
 
+// The edition of a case's first digit: `3` and `4` are `1` and `2` in that of December 6, 2006.
+fn edition_in(mode: usize) -> Edition {
+    if mode > 2 {
+        Edition::December2006
+    } else {
+        Edition::March2007
+    }
+}
+
+fn is_pair(mode: usize) -> bool {
+    if mode == 2 { true } else { mode == 4 }
+}
+
 fn show_in(mode: usize, rndf: &[u8], mdf: &[u8], out: &mut [u8]) {
-    if mode == 2 {
-        show_mdf(rndf, mdf, out);
+    let edition = edition_in(mode);
+    if is_pair(mode) {
+        show_mdf(edition, rndf, mdf, out);
         put_output(out);
         return;
     }
-    show_rndf(rndf, out);
+    show_rndf(edition, rndf, out);
     put_output(out);
 }
 

@@ -1,5 +1,5 @@
-// The planners' program: `yard_check RNDF`, or `yard_check RNDF MDF`, names of files. It answers on standard output: what is wrong, with the file's name, the
-// line, the column, the reason and its number, and below it the line with a caret; or the rows used; or why a file could not be checked. What is wrong with the
+// The planners' program: `yard_check RNDF`, or `yard_check RNDF MDF`, names of files. With `--edition 2006` in front the RNDF is read by the edition of December 6,
+// 2006 (L10), with `--edition 2007` or without by the present one. It answers on standard output: what is wrong, with the file's name, the line, the column, the reason and its number, and below it the line with a caret; or the rows used; or why a file could not be checked. What is wrong with the
 // RNDF is told before anything about the MDF. `run-check` builds and runs it, and adds a status.
 //
 // Proved is what goes into the output: the sentence (crate `answers`) of what the readers (crate `reader`) reply to these bytes, specs/Tells, and that of a file
@@ -11,7 +11,9 @@
 use answers::put_pair_answer;
 use answers::put_rndf_answer;
 use answers::put_sentence;
+use edition::Edition;
 use files::Loaded;
+use files::is_argument;
 use files::load;
 use files::load_rndf;
 use files::put_trouble;
@@ -58,6 +60,7 @@ const LIMIT_WORDS: usize = 3 * 32768;
 
 // An RNDF without an MDF; `trouble` is the sentence of what is the matter with the MDF, if one is asked for.
 fn tell_rndf(
+    edition: Edition,
     out: &mut [u8],
     name: &[u8],
     text: &[u8],
@@ -71,9 +74,10 @@ fn tell_rndf(
     stops: &mut [u32; STOP_WORDS],
     exits: &mut [u32; EXIT_WORDS],
 ) -> usize
-    ensures { λ r. ⌜ TellsRndf (now (name .entry)) (now (text .entry)) (now (trouble .entry)) (lent (now (segments .entry)) (now (lanes .entry)) (now (zones .entry)) (now (spots .entry)) (now (points .entry)) (now (checkpoints .entry)) (now (stops .entry)) (now (exits .entry))) (lent (now (segments .exit)) (now (lanes .exit)) (now (zones .exit)) (now (spots .exit)) (now (points .exit)) (now (checkpoints .exit)) (now (stops .exit)) (now (exits .exit))) (now (out .entry)) (now (out .exit)) r ⌝ }
+    ensures { λ r. ⌜ TellsRndf edition (now (name .entry)) (now (text .entry)) (now (trouble .entry)) (lent (now (segments .entry)) (now (lanes .entry)) (now (zones .entry)) (now (spots .entry)) (now (points .entry)) (now (checkpoints .entry)) (now (stops .entry)) (now (exits .entry))) (lent (now (segments .exit)) (now (lanes .exit)) (now (zones .exit)) (now (spots .exit)) (now (points .exit)) (now (checkpoints .exit)) (now (stops .exit)) (now (exits .exit))) (now (out .entry)) (now (out .exit)) r ⌝ }
 {
     let reply = read_rndf(
+        edition,
         text,
         segments,
         lanes,
@@ -89,6 +93,7 @@ fn tell_rndf(
 
 // An RNDF with its MDF.
 fn tell_pair(
+    edition: Edition,
     out: &mut [u8],
     rndf_name: &[u8],
     mdf_name: &[u8],
@@ -105,9 +110,10 @@ fn tell_pair(
     goals: &mut [u32; GOAL_WORDS],
     limits: &mut [u32; LIMIT_WORDS],
 ) -> usize
-    ensures { λ r. ⌜ TellsPair (now («rndf_name» .entry)) (now («mdf_name» .entry)) (now (rndf .entry)) (now (mdf .entry)) (lent (now (segments .entry)) (now (lanes .entry)) (now (zones .entry)) (now (spots .entry)) (now (points .entry)) (now (checkpoints .entry)) (now (stops .entry)) (now (exits .entry))) (mission-lent (now (goals .entry)) (now (limits .entry))) (lent (now (segments .exit)) (now (lanes .exit)) (now (zones .exit)) (now (spots .exit)) (now (points .exit)) (now (checkpoints .exit)) (now (stops .exit)) (now (exits .exit))) (mission-lent (now (goals .exit)) (now (limits .exit))) (now (out .entry)) (now (out .exit)) r ⌝ }
+    ensures { λ r. ⌜ TellsPair edition (now («rndf_name» .entry)) (now («mdf_name» .entry)) (now (rndf .entry)) (now (mdf .entry)) (lent (now (segments .entry)) (now (lanes .entry)) (now (zones .entry)) (now (spots .entry)) (now (points .entry)) (now (checkpoints .entry)) (now (stops .entry)) (now (exits .entry))) (mission-lent (now (goals .entry)) (now (limits .entry))) (lent (now (segments .exit)) (now (lanes .exit)) (now (zones .exit)) (now (spots .exit)) (now (points .exit)) (now (checkpoints .exit)) (now (stops .exit)) (now (exits .exit))) (mission-lent (now (goals .exit)) (now (limits .exit))) (now (out .entry)) (now (out .exit)) r ⌝ }
 {
     let reply = read_pair(
+        edition,
         rndf,
         mdf,
         segments,
@@ -166,6 +172,7 @@ fn load_asked(asked: bool, path: &[u8], text: &mut [u8]) -> Loaded {
 
 // The RNDF's text, the MDF's room, and what came of the MDF: its bytes, or what is the matter with it.
 fn judge(
+    edition: Edition,
     rndf_name: &[u8],
     mdf_name: &[u8],
     rndf: &[u8],
@@ -187,6 +194,7 @@ fn judge(
     match loaded {
         Loaded::Bytes(n) => {
             let told = tell_pair(
+                edition,
                 &mut out,
                 rndf_name,
                 mdf_name,
@@ -207,6 +215,7 @@ fn judge(
         }
         _ => {
             let told = tell_rndf(
+                edition,
                 &mut out,
                 rndf_name,
                 rndf,
@@ -225,12 +234,13 @@ fn judge(
     }
 }
 
-fn with_network(rndf_name: &[u8], mdf_name: &[u8], rndf: &[u8], asked: bool) {
+fn with_network(edition: Edition, rndf_name: &[u8], mdf_name: &[u8], rndf: &[u8], asked: bool) {
     let mut mission = [0u8; MOST_BYTES];
     let loaded = load_asked(asked, mdf_name, &mut mission);
     let mut trouble = [0u8; MOST_ANSWER];
     let n = put_matter(&mut trouble, mdf_name, loaded);
     judge(
+        edition,
         rndf_name,
         mdf_name,
         rndf,
@@ -240,11 +250,11 @@ fn with_network(rndf_name: &[u8], mdf_name: &[u8], rndf: &[u8], asked: bool) {
     );
 }
 
-fn with_names(rndf_name: &[u8], mdf_name: &[u8], asked: bool) {
+fn with_names(edition: Edition, rndf_name: &[u8], mdf_name: &[u8], asked: bool) {
     let mut network = [0u8; MOST_BYTES];
     let loaded = load_rndf(rndf_name, &mut network);
     match loaded {
-        Loaded::Bytes(n) => with_network(rndf_name, mdf_name, first(&network, n), asked),
+        Loaded::Bytes(n) => with_network(edition, rndf_name, mdf_name, first(&network, n), asked),
         Loaded::OverLimit => say_over_limit(rndf_name),
         _ => say_matter(rndf_name, loaded),
     }
@@ -254,9 +264,16 @@ fn is_help(name: &[u8]) -> bool {
     same(name, b"--help") | same(name, b"-h")
 }
 
-fn say_help() {
+fn say_usage() {
     say(
-        b"Name an RNDF file, and behind it an MDF file if both are to be checked: run-check RNDF [MDF]\n",
+        b"Name an RNDF file, and behind it an MDF file if both are to be checked: run-check [--edition 2006] RNDF [MDF]\n",
+    );
+}
+
+fn say_help() {
+    say_usage();
+    say(
+        b"With --edition 2006 the RNDF is read by the edition of December 6, 2006; without, or with --edition 2007, by the present one.\n",
     );
     say(
         b"The answer is what is wrong first, as FILE:LINE:COLUMN: reason (NUMBER) and that line with a caret under the column; or what the files hold.\n",
@@ -266,12 +283,13 @@ fn say_help() {
     );
 }
 
-fn with_arguments(asked: bool) {
+// The names are the arguments at these places.
+fn with_arguments(edition: Edition, rndf_at: usize, mdf_at: usize, asked: bool) {
     let mut rndf_name = [0u8; MOST_NAME];
-    let n = os::arg(1, &mut rndf_name);
+    let n = os::arg(rndf_at, &mut rndf_name);
     let rndf_error = os::errno();
     let mut mdf_name = [0u8; MOST_NAME];
-    let m = os::arg(2, &mut mdf_name);
+    let m = os::arg(mdf_at, &mut mdf_name);
     let mdf_error = os::errno();
     if rndf_error == libc::ENAMETOOLONG {
         say(b"The RNDF file's name is over 4,095 bytes.\n");
@@ -280,17 +298,30 @@ fn with_arguments(asked: bool) {
     } else if is_help(first(&rndf_name, n)) {
         say_help();
     } else {
-        with_names(first(&rndf_name, n), first(&mdf_name, m), asked);
+        with_names(edition, first(&rndf_name, n), first(&mdf_name, m), asked);
+    }
+}
+
+// The names begin at this argument: one or two.
+fn with_names_at(edition: Edition, at: usize) {
+    let count = os::arg_count();
+    if count <= at {
+        say_usage();
+    } else if count - at > 2 {
+        say(b"Too many names: one RNDF file and at most one MDF file can be checked.\n");
+    } else {
+        with_arguments(edition, at, at + 1, count - at == 2);
     }
 }
 
 fn main() {
-    let count = os::arg_count();
-    if count < 2 {
-        say(b"Name an RNDF file, and behind it an MDF file if both are to be checked.\n");
-    } else if count > 3 {
-        say(b"Too many names: one RNDF file and at most one MDF file can be checked.\n");
+    if !is_argument(1, b"--edition") {
+        with_names_at(Edition::March2007, 1);
+    } else if is_argument(2, b"2006") {
+        with_names_at(Edition::December2006, 3);
+    } else if is_argument(2, b"2007") {
+        with_names_at(Edition::March2007, 3);
     } else {
-        with_arguments(count == 3);
+        say_usage();
     }
 }

@@ -1,4 +1,4 @@
-// The planners' map: `yard_map RNDF`, the name of a file. It prints the network's map (GeoJSON, docs/GEOJSON.md) on standard output; or, on standard error, what
+// The planners' map: `yard_map RNDF`, the name of a file, with `--edition 2006` in front of it as `yard_check` takes it. It prints the network's map (GeoJSON, docs/GEOJSON.md) on standard output; or, on standard error, what
 // is wrong, with the file's name, the line, the column, the reason and its number, in the words of `yard_check`; or why the file could not be taken. Standard output is then
 // empty. `run-map` builds and runs it, and adds a status.
 //
@@ -8,7 +8,9 @@
 // output has eight bytes to each of the text: 11 and 19 should never come of it (counted by hand, not proved; if they came, they would be told). A larger file is too big for
 // this program; of one over 16,777,215 bytes the answer is known without it: 1.
 use answers::put_sentence;
+use edition::Edition;
 use files::Loaded;
+use files::is_argument;
 use files::load;
 use files::put_trouble;
 use libc::STDERR_FILENO;
@@ -74,6 +76,7 @@ fn say_matter(name: &[u8], loaded: Loaded) {
 
 // Tables and output are lent as arrays up to here, which is cheaper to prove.
 fn draw(
+    edition: Edition,
     out: &mut [u8; MOST_MAP],
     text: &[u8],
     segments: &mut [u32; SEGMENT_WORDS],
@@ -86,6 +89,7 @@ fn draw(
     exits: &mut [u32; EXIT_WORDS],
 ) -> WriteReply {
     write_map(
+        edition,
         text,
         segments,
         lanes,
@@ -103,7 +107,7 @@ fn print(out: &[u8; MOST_MAP], n: u32) {
     io::write_all(STDOUT_FILENO, first(out, n as usize));
 }
 
-fn show(name: &[u8], text: &[u8]) {
+fn show(edition: Edition, name: &[u8], text: &[u8]) {
     let mut segments = [0u32; SEGMENT_WORDS];
     let mut lanes = [0u32; LANE_WORDS];
     let mut zones = [0u32; ZONE_WORDS];
@@ -114,6 +118,7 @@ fn show(name: &[u8], text: &[u8]) {
     let mut exits = [0u32; EXIT_WORDS];
     let mut out = [0u8; MOST_MAP];
     let reply = draw(
+        edition,
         &mut out,
         text,
         &mut segments,
@@ -131,26 +136,52 @@ fn show(name: &[u8], text: &[u8]) {
     }
 }
 
-fn with_name(name: &[u8]) {
+fn with_name(edition: Edition, name: &[u8]) {
     let mut text = [0u8; MOST_BYTES];
     let loaded = load(name, &mut text);
     match loaded {
-        Loaded::Bytes(n) => show(name, first(&text, n)),
+        Loaded::Bytes(n) => show(edition, name, first(&text, n)),
         Loaded::OverLimit => say_refused(name, b"", 0, 1, 0),
         _ => say_matter(name, loaded),
     }
 }
 
-fn main() {
-    if os::arg_count() != 2 {
-        say(b"Name one RNDF file.\n");
-        return;
-    }
+// ## What is asked
+
+fn say_usage() {
+    say(b"Name one RNDF file: run-map [--edition 2006] FILE\n");
+}
+
+fn with_argument(edition: Edition, at: usize) {
     let mut name = [0u8; MOST_NAME];
-    let n = os::arg(1, &mut name);
+    let n = os::arg(at, &mut name);
     if os::errno() == libc::ENAMETOOLONG {
         say(b"The file's name is over 4,095 bytes.\n");
     } else {
-        with_name(first(&name, n));
+        with_name(edition, first(&name, n));
+    }
+}
+
+// The name is this argument, and the last.
+fn with_name_at(edition: Edition, at: usize) {
+    let count = os::arg_count();
+    if count <= at {
+        say_usage();
+    } else if count - at > 1 {
+        say_usage();
+    } else {
+        with_argument(edition, at);
+    }
+}
+
+fn main() {
+    if !is_argument(1, b"--edition") {
+        with_name_at(Edition::March2007, 1);
+    } else if is_argument(2, b"2006") {
+        with_name_at(Edition::December2006, 3);
+    } else if is_argument(2, b"2007") {
+        with_name_at(Edition::March2007, 3);
+    } else {
+        say_usage();
     }
 }
