@@ -36,7 +36,7 @@ extern cr_reply plain_read_pair(const void *, size_t, const void *, size_t, cons
 static cr_reply read_ours(const struct text *rndf, const struct text *mdf, const cr_tables *t)
 {
     const uint8_t *r = (const uint8_t *)rndf->bytes, *m = (const uint8_t *)mdf->bytes;
-    kastepuhm_answer a = mdf->length ? kastepuhm_read_pair(r, rndf->length, m, mdf->length, NETWORK, LENT(goals, GOAL), LENT(limits, LIMIT)) : kastepuhm_read_rndf(r, rndf->length, NETWORK);
+    kastepuhm_answer a = mdf->length ? kastepuhm_read_pair(KASTEPUHM_MARCH_2007, r, rndf->length, m, mdf->length, NETWORK, LENT(goals, GOAL), LENT(limits, LIMIT)) : kastepuhm_read_rndf(KASTEPUHM_MARCH_2007, r, rndf->length, NETWORK);
     return (cr_reply){(int)a.accepted, a.file, a.line, a.number,
                       {a.segments, a.lanes, a.zones, a.spots, a.points, a.checkpoints, a.stops, a.exits, a.goals, a.limits},
                       {NAME(rndf_name), NAME(rndf_version), NAME(rndf_date), {0, 0}},

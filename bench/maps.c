@@ -24,7 +24,7 @@ static uint8_t *output;
 static size_t output_length;
 
 #define LENT(i) tables[i], lengths[i]
-#define TEXT (const uint8_t *)rndf.bytes, rndf.length
+#define TEXT KASTEPUHM_MARCH_2007, (const uint8_t *)rndf.bytes, rndf.length
 #define NETWORK LENT(0), LENT(1), LENT(2), LENT(3), (int32_t *)tables[POINTS], lengths[POINTS], LENT(5), LENT(6), LENT(7)
 
 static void *must(void *memory)

@@ -181,7 +181,7 @@ static void lend(int i, size_t rows)
 }
 
 #define LENT(i) tables[i], lengths[i]
-#define TEXTS (const uint8_t *)rndf, rndf_length, (const uint8_t *)mdf, mdf_length
+#define TEXTS KASTEPUHM_MARCH_2007, (const uint8_t *)rndf, rndf_length, (const uint8_t *)mdf, mdf_length
 #define NETWORK LENT(SEGMENTS), LENT(LANES), LENT(ZONES), LENT(SPOTS), (int32_t *)tables[POINTS], lengths[POINTS], LENT(CHECKPOINTS), LENT(STOPS), LENT(EXITS)
 
 /* Just the rows needed: first as many as the text can have lines. */
@@ -189,11 +189,11 @@ static void lend_all(uint32_t goals)
 {
     for (int i = 0; i < TABLES; i++)
         lend(i, rndf_length / 6 + 1);
-    kastepuhm_answer a = kastepuhm_read_rndf((const uint8_t *)rndf, rndf_length, NETWORK);
+    kastepuhm_answer a = kastepuhm_read_rndf(KASTEPUHM_MARCH_2007, (const uint8_t *)rndf, rndf_length, NETWORK);
     const uint32_t rows[TABLES] = {a.segments, a.lanes, a.zones, a.spots, a.points, a.checkpoints, a.stops, a.exits, goals, a.segments + a.zones};
     for (int i = 0; i < TABLES; i++)
         lend(i, rows[i]);
-    a = kastepuhm_read_rndf((const uint8_t *)rndf, rndf_length, NETWORK);
+    a = kastepuhm_read_rndf(KASTEPUHM_MARCH_2007, (const uint8_t *)rndf, rndf_length, NETWORK);
     if (!a.accepted) {
         printf("refused %u %u %u\n", a.file, a.line, a.number);
         exit(1);

@@ -3,7 +3,7 @@
 # tests/callers.sh --built   the same with the library as it was last built
 #
 # Compared: yard A as a pair and alone, yard A written untidily and with spaces for tabs (its house writing is the same), yard B (every table; its answer was worked out by hand), two damaged texts and a
-# missing file; routes over yard A (request L5); then document 01's cases and the edges of the summary program's rules (tests/summary_cases.py), and every reply and every lent number of the oracle's corpus and of
+# missing file; these in the edition of December 6, 2006 too, with a boundary and a zone that it has not (request L10); routes over yard A (request L5); then document 01's cases and the edges of the summary program's rules (tests/summary_cases.py), and every reply and every lent number of the oracle's corpus and of
 # 2,000 random pairs (tests/callers/corpus.c).
 # The last line is 'N passed, M failed, K skipped'; the status is 0 if none failed.
 #
@@ -88,6 +88,20 @@ compare 'yard A with an entry 1.1.3' "$work/entry" "$work/entry.rndf" "$a/missio
 compare 'the damaged RNDF alone' "$work/entry" "$work/entry.rndf"
 compare 'yard A with goal 8' "$work/goal" "$a/network.rndf" "$work/goal.mdf"
 compare 'no RNDF' "$work/missing" "$work/none.rndf" "$a/mission.mdf"
+
+# L10: the older edition: yard A is the same, solid_yellow is no boundary there, and yard B's second zone has no spots
+sed "s/^checkpoint${tab}1.*/&\nright_boundary${tab}solid_yellow/" "$a/network.rndf" >"$work/yellow.rndf"
+echo 'refused 1 9 8 16' >"$work/yellow"
+echo 'refused 1 62 9 11' >"$work/no_spots"
+echo 'ok 1 0 1 2 0 1 0 1 1 1' >"$work/route"
+compare 'yard A, 2006' "$here/expected/yard_a" --2006 "$a/network.rndf" "$a/mission.mdf"
+compare 'the RNDF of yard A alone, 2006' "$here/expected/yard_a_alone" --2006 "$a/network.rndf"
+compare 'solid_yellow, 2006' "$work/yellow" --2006 "$work/yellow.rndf" "$a/mission.mdf"
+compare 'solid_yellow alone, 2006' "$work/yellow" --2006 "$work/yellow.rndf"
+compare 'a route, and solid_yellow, 2006' "$work/yellow" --2006 "$work/yellow.rndf" "$a/mission.mdf" 0 0 1
+compare 'a route, and solid_yellow' "$work/route" "$work/yellow.rndf" "$a/mission.mdf" 0 0 1
+compare 'yard B, 2006' "$work/no_spots" --2006 "$here/yard_b/network.rndf" "$here/yard_b/mission.mdf"
+compare 'yard A with goal 8, 2006' "$work/goal" --2006 "$a/network.rndf" "$work/goal.mdf"
 
 # L5: routes over yard A: rows 0 and 1 in one lane, an exit from 1 back to 0, the goal at row 1
 # route MISSION ANSWER START [POINT ..]

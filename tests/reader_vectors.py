@@ -8,8 +8,8 @@ With --check it writes nothing, and says which cases differ from their answer by
 With --mutants it writes nothing either, and puts each small mistake of tests/oracle/mutate.py into the oracle to see whether
 some case notices.
 
-A case is a line of fixed length, its label and an LF, the RNDF, the MDF and an LF. That line is `1` (the RNDF alone) or
-`2` (a pair) and thirteen numbers of four digits: the bytes of the RNDF and of the MDF, the numbers lent of each of the
+A case is a line of fixed length, its label and an LF, the RNDF, the MDF and an LF. That line is `1` (the RNDF alone),
+`2` (a pair), `3` or `4` (the same in the edition of December 6, 2006) and thirteen numbers of four digits: the bytes of the RNDF and of the MDF, the numbers lent of each of the
 ten tables, the bytes of the label. The program opens the files in turn; each has to fit its buffer of 65,536 bytes.
 
 Taken are, in this order, the cases below; of the oracle's hand-made corpus the parts WHOLE, and of its other parts, for
@@ -23,6 +23,7 @@ import types
 
 here = os.path.dirname(os.path.abspath(__file__))
 sys.path.insert(0, os.path.join(here, "oracle"))
+import casefile   # noqa: E402
 import cases      # noqa: E402
 import generate   # noqa: E402
 import mutate     # noqa: E402
@@ -102,13 +103,13 @@ end_file
 
 
 class Case:
-    def __init__(self, label, files, rndf, mdf, room):
-        self.label = "".join(c if " " <= c <= "~" else "?" for c in label)[:90].encode()
+    def __init__(self, label, mode, rndf, mdf, room):
+        files = 2 - mode % 2
+        self.mode, self.label = mode, "".join(c if " " <= c <= "~" else "?" for c in label)[:90].encode()
         self.files, self.rndf, self.mdf = files, rndf, (mdf if files == 2 else b"")
         self.room = {t: room.get(t, 0) for t in oracle.TABLES}
         self.tables = oracle.TABLES if files == 2 else oracle.RNDF_TABLES
-        self.reply = (oracle.read_pair(rndf, mdf, self.room) if files == 2
-                      else oracle.read_rndf(rndf, self.room))
+        self.reply = casefile.judge(mode, rndf, mdf, self.room)
 
     def answer(self):
         return "ok" if self.reply.accepted else "%d %d %d %d" % self.reply.refusal
@@ -118,7 +119,7 @@ class Case:
 
     def bytes(self):
         numbers = ([len(self.rndf), len(self.mdf)] + [self.room[t] for t in oracle.TABLES] + [len(self.label)])
-        head = "%d%s\n" % (self.files, "".join(" %04d" % n for n in numbers))
+        head = "%d%s\n" % (self.mode, "".join(" %04d" % n for n in numbers))
         assert len(head) == 67 and all(self.room[t] < MOST_WORDS for t in oracle.TABLES)
         return head.encode() + self.label + b"\n" + self.rndf + self.mdf + b"\n"
 
@@ -150,15 +151,15 @@ class Collect:
         self.taken, self.seen, self.counts, self.wrong = [], set(), {}, []
 
     def take(self, case):
-        identity = (case.files, case.rndf, case.mdf, tuple(case.room.values()))
+        identity = (case.mode, case.rndf, case.mdf, tuple(case.room.values()))
         if identity in self.seen or max(len(case.rndf), len(case.mdf)) > MOST_TEXT:
             return
         self.seen.add(identity)
         self.taken.append(case)
         self.counts[case.key()] = self.counts.get(case.key(), 0) + 1
 
-    def add(self, label, files, rndf, mdf, room):
-        case = Case(label, files, rndf, mdf, room)
+    def add(self, label, mode, rndf, mdf, room):
+        case = Case(label, mode, rndf, mdf, room)
         self.take(case)
         return case.reply
 
@@ -166,10 +167,10 @@ class Collect:
 collect = Collect()
 
 
-def run(label, r, m, want, room=WIDE):
+def run(label, r, m, want, room=WIDE, older=0):
     """A case with its answer worked out by hand; m is None for the RNDF alone."""
     as_bytes = lambda t: t if isinstance(t, bytes) else text(t)
-    case = Case(label, 1 if m is None else 2, as_bytes(r), b"" if m is None else as_bytes(m), room)
+    case = Case(label, older + (1 if m is None else 2), as_bytes(r), b"" if m is None else as_bytes(m), room)
     if case.answer().split()[:len(want.split())] != want.split():       # L7's column is not always told
         collect.wrong.append("%s: by hand %s, oracle %s" % (label, want, case.answer()))
     collect.take(case)
@@ -495,6 +496,21 @@ def spot_checkpoints():
     run("bare spot and no MDF", bare, b"", "1 32 25 1")
 
 
+def editions():
+    """L10: the edition of December 6, 2006 and the present one."""
+    yellow, empty = ins(YARD_A, 8, "left_boundary>double_yellow", "right_boundary>solid_yellow"), put(YARD_D[:30] + YARD_D[35:], 24, "num_spots>0")
+    for label, r, m, then, now in (("yard A", YARD_A, ROUND_1, "ok", "ok"), ("yard D", YARD_D, MISSION_D, "ok", "ok"), ("solid_yellow", yellow, None, "1 9 8 16", "ok"),
+                                   ("solid_yellow on the left", ins(YARD_A, 8, "left_boundary>solid_yellow"), None, "1 8 8 15", "ok"),
+                                   ("no spots", empty, None, "1 24 9 11", "ok"), ("yard B", YARD_B, MISSION_B, "1 62 9 11", "ok"),
+                                   ("solid_yellow again", ins(yellow, 10, "right_boundary>solid_yellow"), None, "1 9 8 16", "1 10 6 1"),
+                                   ("solid_yellow with a field more", ins(YARD_A, 8, "left_boundary>solid_yellow>x"), None, "1 8 7 1", "1 8 7 1"),
+                                   ("0 spots and a spot", put(YARD_D, 24, "num_spots>0"), None, "1 24 9 11", "1 31 5 1"),
+                                   ("bare spot", cut(YARD_D, 32), None, "1 32 25 1", "1 32 25 1"),
+                                   ("a fault of the MDF", YARD_D, put(MISSION_D, 6, "2"), "2 6 15 1", "2 6 15 1")):
+        run("2006: " + label, r, m, then, older=casefile.OLDER)
+        run("2007: " + label, r, m, now)
+
+
 def spread():
     """Of the corpus's other parts, for each file and answer EACH that are spread over them."""
     others = Collect()
@@ -531,7 +547,7 @@ def fill_up():
         files, rndf, mdf, room = generate.one_case(rng)
         if len(rndf) > 1500 or len(mdf) > 800:
             continue
-        case = Case("random %d" % k, files, rndf, mdf, room)
+        case = Case("random %d" % k, files + (casefile.OLDER if k % 4 == 0 else 0), rndf, mdf, room)
         if met.get(case.key(), 0) >= RANDOM_EACH:
             continue
         met[case.key()] = met.get(case.key(), 0) + 1
@@ -545,8 +561,7 @@ def noticed(module):
     """Whether a mutant of the oracle answers some case otherwise."""
     for case in collect.taken:
         try:
-            reply = (module.read_pair(case.rndf, case.mdf, case.room) if case.files == 2
-                     else module.read_rndf(case.rndf, case.room))
+            reply = casefile.judge(case.mode, case.rndf, case.mdf, case.room, module)
         except Exception:
             return True
         if any(getattr(reply, part) != getattr(case.reply, part)
@@ -569,7 +584,7 @@ def mutants():
 
 
 def main():
-    for part in (rooms, entries, checkpoints, values, lines, edges, two_faults, missions, columns, spot_checkpoints):
+    for part in (rooms, entries, checkpoints, values, lines, edges, two_faults, missions, columns, spot_checkpoints, editions):
         part()
     cases.writer = collect
     for part in WHOLE:

@@ -7,8 +7,8 @@ Run it again after a change of the corpus:  python3 tests/writer_vectors.py
 With --check it writes nothing.  With --mutants it writes nothing either, and puts each of the small mistakes below into the oracle's writer to see whether some
 case notices.
 
-A case is a line of fixed length, its label and an LF, the RNDF, the MDF and an LF. That line is `1` (the RNDF is written) or
-`2` (the MDF) and four numbers of four digits: the bytes of the RNDF, of the MDF, of the lent output and of the label. The
+A case is a line of fixed length, its label and an LF, the RNDF, the MDF and an LF. That line is `1` (the RNDF is written),
+`2` (the MDF), `3` or `4` (the same in the edition of December 6, 2006) and four numbers of four digits: the bytes of the RNDF, of the MDF, of the lent output and of the label. The
 program opens the files in turn, each of which has to fit its buffer of 65,536 bytes, and lends 160 words for each table.
 
 Taken are yards with outputs of every telling length; yards whose lines are made untidy by hand; random pairs, rough and
@@ -77,19 +77,21 @@ MUTANTS = [
 
 class Case:
     def __init__(self, label, mode, rndf, mdf, out):
+        self.older, mode = mode > 2, 2 - mode % 2
         self.label = "".join(c if " " <= c <= "~" else "?" for c in label)[:90].encode()
         self.mode, self.rndf, self.mdf, self.out = mode, rndf, (mdf if mode == 2 else b""), out
         self.reply = self.judged(oracle)
 
     def judged(self, module):
-        return (module.write_mdf(self.rndf, self.mdf, LENT, self.out) if self.mode == 2
-                else module.write_rndf(self.rndf, LENT, self.out))
+        edition = module.DECEMBER_2006 if self.older else module.PRESENT
+        return (module.write_mdf(self.rndf, self.mdf, LENT, self.out, edition) if self.mode == 2
+                else module.write_rndf(self.rndf, LENT, self.out, edition))
 
     def key(self):
         return (self.mode, "written") if self.reply.accepted else self.reply.refusal[::2]
 
     def bytes(self):
-        head = "%d%s\n" % (self.mode, "".join(" %04d" % n for n in (len(self.rndf), len(self.mdf), self.out, len(self.label))))
+        head = "%d%s\n" % (self.mode + 2 * self.older, "".join(" %04d" % n for n in (len(self.rndf), len(self.mdf), self.out, len(self.label))))
         assert len(head) == 22 and self.out <= MOST_OUT
         return head.encode() + self.label + b"\n" + self.rndf + self.mdf + b"\n"
 
@@ -116,7 +118,7 @@ taken, seen = [], set()
 
 
 def take(case):
-    identity = (case.mode, case.rndf, case.mdf, case.out)
+    identity = (case.mode, case.older, case.rndf, case.mdf, case.out)
     if identity not in seen:
         seen.add(identity)
         taken.append(case)
@@ -195,6 +197,15 @@ def refused():
     run("no limit", YARD_B, put(cut(MISSION_B, 17), 13, "num_speed_limits>3"), ("wide",))
 
 
+def older():
+    """L10: the edition of December 6, 2006."""
+    yellow = ins(YARD_A, 8, "right_boundary>solid_yellow")
+    for label, mode, r, m in (("yard A", 3, YARD_A, b""), ("mission A", 4, YARD_A, ROUND_1), ("yard D", 3, YARD_D, b""), ("mission D", 4, YARD_D, MISSION_D),
+                              ("solid_yellow", 3, yellow, b""), ("mission, solid_yellow", 4, yellow, ROUND_1), ("no spots", 3, YARD_B, b"")):
+        take(Case("2006: " + label, mode, as_bytes(r), as_bytes(m), 1500))
+    run("2007: solid_yellow", yellow, ROUND_1)
+
+
 def pack(taken):
     """The cases in files, in order."""
     files = [b""]
@@ -256,7 +267,7 @@ def mutants():
 
 
 def main():
-    for part in (lengths, untidy, refused, random_ones):
+    for part in (lengths, untidy, refused, older, random_ones):
         part()
     if sys.argv[1:] == ["--mutants"]:
         return mutants()

@@ -1,6 +1,7 @@
 /*
  * A worked caller in C: caller NETWORK [MISSION] reads an RNDF, alone or with its MDF, and prints the summary program's line, what stands in the tables, and then the
  * length and first line of the house writing, and the network's map; caller NETWORK MISSION START [POINT ..] prints whether the route of these points is drivable from there (request L5).
+ * With --2006 before all these words the texts are read in the edition of December 6, 2006 (request L10), else in the present one.
  * Texts up to 8,192 bytes, 256 points and 128 rows of every other table, as the summary program has them; all of it lies in this program's own memory.
  */
 #include "kastepuhm.h"
@@ -8,6 +9,7 @@
 #include <inttypes.h>
 #include <stdio.h>
 #include <stdlib.h>
+#include <string.h>
 
 #if defined(__STDC_VERSION__) && __STDC_VERSION__ >= 201112L
 _Static_assert(sizeof(kastepuhm_answer) == 29 * sizeof(uint32_t), "the library's answer has 29 words");
@@ -20,6 +22,7 @@ _Static_assert(sizeof(kastepuhm_write_answer) == 30 * sizeof(uint32_t), "a write
 
 enum { MOST_BYTES = 8192, POINTS = 256, ROWS = 128, STEPS = 256 };
 
+static uint32_t edition = KASTEPUHM_MARCH_2007;
 /* One byte more than a text may have: if it is filled, the file is too big. */
 static uint8_t rndf[MOST_BYTES + 1];
 static uint8_t mdf[MOST_BYTES + 1];
@@ -223,7 +226,7 @@ static void print_route(size_t rndf_length, size_t mdf_length, char **words, int
     kastepuhm_answer a;
     for (int i = 1; i < count; i++)
         route[i - 1] = (uint32_t)strtoul(words[i], NULL, 10);
-    a = kastepuhm_check_route(rndf, rndf_length, mdf, mdf_length, segments, LENGTH(segments), lanes, LENGTH(lanes), zones, LENGTH(zones), spots, LENGTH(spots), points, LENGTH(points),
+    a = kastepuhm_check_route(edition, rndf, rndf_length, mdf, mdf_length, segments, LENGTH(segments), lanes, LENGTH(lanes), zones, LENGTH(zones), spots, LENGTH(spots), points, LENGTH(points),
                               checkpoints, LENGTH(checkpoints), stops, LENGTH(stops), exits, LENGTH(exits), goals, LENGTH(goals), limits, LENGTH(limits), start, route, (size_t)count - 1);
     if (a.accepted)
         print_summary(&a);
@@ -238,8 +241,13 @@ int main(int count, char **words)
     size_t rndf_length, mdf_length;
     kastepuhm_answer a;
     kastepuhm_write_answer w;
+    if (count > 1 && strcmp(words[1], "--2006") == 0) {
+        edition = KASTEPUHM_DECEMBER_2006;
+        words++;
+        count--;
+    }
     if (count < 2 || count > 4 + STEPS) {
-        fputs("usage: caller NETWORK [MISSION [START [POINT ..]]]\n", stderr);
+        fputs("usage: caller [--2006] NETWORK [MISSION [START [POINT ..]]]\n", stderr);
         return 2;
     }
     if (!load(words[1], rndf, &rndf_length) || (count >= 3 && !load(words[2], mdf, &mdf_length)))
@@ -249,10 +257,10 @@ int main(int count, char **words)
         return 0;
     }
     if (count == 2)
-        a = kastepuhm_read_rndf(rndf, rndf_length, segments, LENGTH(segments), lanes, LENGTH(lanes), zones, LENGTH(zones), spots, LENGTH(spots), points, LENGTH(points),
+        a = kastepuhm_read_rndf(edition, rndf, rndf_length, segments, LENGTH(segments), lanes, LENGTH(lanes), zones, LENGTH(zones), spots, LENGTH(spots), points, LENGTH(points),
                                 checkpoints, LENGTH(checkpoints), stops, LENGTH(stops), exits, LENGTH(exits));
     else
-        a = kastepuhm_read_pair(rndf, rndf_length, mdf, mdf_length, segments, LENGTH(segments), lanes, LENGTH(lanes), zones, LENGTH(zones), spots, LENGTH(spots), points, LENGTH(points),
+        a = kastepuhm_read_pair(edition, rndf, rndf_length, mdf, mdf_length, segments, LENGTH(segments), lanes, LENGTH(lanes), zones, LENGTH(zones), spots, LENGTH(spots), points, LENGTH(points),
                                 checkpoints, LENGTH(checkpoints), stops, LENGTH(stops), exits, LENGTH(exits), goals, LENGTH(goals), limits, LENGTH(limits));
     if (!a.accepted) {
         printf("refused %" PRIu32 " %" PRIu32 " %" PRIu32 " %" PRIu32 "\n", a.file, a.line, a.number, a.column);
@@ -262,15 +270,15 @@ int main(int count, char **words)
     print_network(&a);
     if (count == 3)
         print_mission(&a);
-    w = kastepuhm_write_rndf(rndf, rndf_length, segments, LENGTH(segments), lanes, LENGTH(lanes), zones, LENGTH(zones), spots, LENGTH(spots), points, LENGTH(points),
+    w = kastepuhm_write_rndf(edition, rndf, rndf_length, segments, LENGTH(segments), lanes, LENGTH(lanes), zones, LENGTH(zones), spots, LENGTH(spots), points, LENGTH(points),
                              checkpoints, LENGTH(checkpoints), stops, LENGTH(stops), exits, LENGTH(exits), house, LENGTH(house));
     print_house("network", &w);
     if (count == 3) {
-        w = kastepuhm_write_mdf(rndf, rndf_length, mdf, mdf_length, segments, LENGTH(segments), lanes, LENGTH(lanes), zones, LENGTH(zones), spots, LENGTH(spots), points, LENGTH(points),
+        w = kastepuhm_write_mdf(edition, rndf, rndf_length, mdf, mdf_length, segments, LENGTH(segments), lanes, LENGTH(lanes), zones, LENGTH(zones), spots, LENGTH(spots), points, LENGTH(points),
                                 checkpoints, LENGTH(checkpoints), stops, LENGTH(stops), exits, LENGTH(exits), goals, LENGTH(goals), limits, LENGTH(limits), house, LENGTH(house));
         print_house("mission", &w);
     }
-    w = kastepuhm_write_map(rndf, rndf_length, segments, LENGTH(segments), lanes, LENGTH(lanes), zones, LENGTH(zones), spots, LENGTH(spots), points, LENGTH(points),
+    w = kastepuhm_write_map(edition, rndf, rndf_length, segments, LENGTH(segments), lanes, LENGTH(lanes), zones, LENGTH(zones), spots, LENGTH(spots), points, LENGTH(points),
                             checkpoints, LENGTH(checkpoints), stops, LENGTH(stops), exits, LENGTH(exits), map, LENGTH(map));
     print_map(&w);
     return 0;

@@ -1,9 +1,17 @@
 //! A worked caller in Rust, without crates: `caller NETWORK [MISSION]` reads an RNDF, alone or with its MDF, and prints the summary program's line, what stands in the tables, and
-//! then the length and first line of the house writing, and the network's map; `caller NETWORK MISSION START [POINT ..]` prints whether the route of these points is drivable from there (request L5). The module `kastepuhm` is what to copy: the declarations and safe functions over them. include/kastepuhm.h says what every column and number means.
+//! then the length and first line of the house writing, and the network's map; `caller NETWORK MISSION START [POINT ..]` prints whether the route of these points is drivable from there (request L5). With `--2006` before all these words
+//! the texts are read in the edition of December 6, 2006 (request L10), else in the present one. The module `kastepuhm` is what to copy: the declarations and safe functions over them. include/kastepuhm.h says what every column and number means.
 //! Texts up to 8,192 bytes, 256 points and 128 rows of every other table, as the summary program has them.
 use std::io::Read;
 
 mod kastepuhm {
+    /// The edition of the format, as the header numbers it.
+    #[derive(Clone, Copy)]
+    pub enum Edition {
+        March2007 = 0,
+        December2006 = 1,
+    }
+
     /// A name: its start and length in the text that was lent; a missing one is 0, 0.
     #[repr(C)]
     #[derive(Clone, Copy)]
@@ -88,6 +96,7 @@ mod kastepuhm {
     // Each slice crosses as a pointer and then its length in elements.
     extern "C" {
         fn kastepuhm_read_rndf(
+            edition: u32,
             text: *const u8, text_length: usize,
             segments: *mut u32, segments_length: usize,
             lanes: *mut u32, lanes_length: usize,
@@ -100,6 +109,7 @@ mod kastepuhm {
         ) -> Answer;
 
         fn kastepuhm_read_pair(
+            edition: u32,
             rndf: *const u8, rndf_length: usize,
             mdf: *const u8, mdf_length: usize,
             segments: *mut u32, segments_length: usize,
@@ -115,6 +125,7 @@ mod kastepuhm {
         ) -> Answer;
 
         fn kastepuhm_check_route(
+            edition: u32,
             rndf: *const u8, rndf_length: usize,
             mdf: *const u8, mdf_length: usize,
             segments: *mut u32, segments_length: usize,
@@ -132,6 +143,7 @@ mod kastepuhm {
         ) -> Answer;
 
         fn kastepuhm_write_rndf(
+            edition: u32,
             text: *const u8, text_length: usize,
             segments: *mut u32, segments_length: usize,
             lanes: *mut u32, lanes_length: usize,
@@ -145,6 +157,7 @@ mod kastepuhm {
         ) -> WriteAnswer;
 
         fn kastepuhm_write_map(
+            edition: u32,
             text: *const u8, text_length: usize,
             segments: *mut u32, segments_length: usize,
             lanes: *mut u32, lanes_length: usize,
@@ -158,6 +171,7 @@ mod kastepuhm {
         ) -> WriteAnswer;
 
         fn kastepuhm_write_mdf(
+            edition: u32,
             rndf: *const u8, rndf_length: usize,
             mdf: *const u8, mdf_length: usize,
             segments: *mut u32, segments_length: usize,
@@ -183,10 +197,11 @@ mod kastepuhm {
     }
 
     /// An RNDF alone.
-    pub fn read_rndf(text: &[u8], t: &mut Tables) -> Answer {
+    pub fn read_rndf(edition: Edition, text: &[u8], t: &mut Tables) -> Answer {
         // Safe: the functions require nothing of what the slices hold or how long they are, and keep no pointer; the borrows are the slices' own.
         unsafe {
             kastepuhm_read_rndf(
+                edition as u32,
                 text.as_ptr(), text.len(),
                 t.segments.as_mut_ptr(), t.segments.len(),
                 t.lanes.as_mut_ptr(), t.lanes.len(),
@@ -201,10 +216,11 @@ mod kastepuhm {
     }
 
     /// An RNDF with its MDF.
-    pub fn read_pair(rndf: &[u8], mdf: &[u8], t: &mut Tables) -> Answer {
+    pub fn read_pair(edition: Edition, rndf: &[u8], mdf: &[u8], t: &mut Tables) -> Answer {
         // Safe: as in `read_rndf`.
         unsafe {
             kastepuhm_read_pair(
+                edition as u32,
                 rndf.as_ptr(), rndf.len(),
                 mdf.as_ptr(), mdf.len(),
                 t.segments.as_mut_ptr(), t.segments.len(),
@@ -222,10 +238,11 @@ mod kastepuhm {
     }
 
     /// Whether a route, by rows of the point table, is drivable from a start: as `read_pair`, or refused with 21 to 24.
-    pub fn check_route(rndf: &[u8], mdf: &[u8], t: &mut Tables, start: u32, route: &[u32]) -> Answer {
+    pub fn check_route(edition: Edition, rndf: &[u8], mdf: &[u8], t: &mut Tables, start: u32, route: &[u32]) -> Answer {
         // Safe: as in `read_rndf`.
         unsafe {
             kastepuhm_check_route(
+                edition as u32,
                 rndf.as_ptr(), rndf.len(),
                 mdf.as_ptr(), mdf.len(),
                 t.segments.as_mut_ptr(), t.segments.len(),
@@ -245,10 +262,11 @@ mod kastepuhm {
     }
 
     /// The house writing of an RNDF.
-    pub fn write_rndf(text: &[u8], t: &mut Tables, out: &mut [u8]) -> WriteAnswer {
+    pub fn write_rndf(edition: Edition, text: &[u8], t: &mut Tables, out: &mut [u8]) -> WriteAnswer {
         // Safe: as in `read_rndf`.
         unsafe {
             kastepuhm_write_rndf(
+                edition as u32,
                 text.as_ptr(), text.len(),
                 t.segments.as_mut_ptr(), t.segments.len(),
                 t.lanes.as_mut_ptr(), t.lanes.len(),
@@ -264,10 +282,11 @@ mod kastepuhm {
     }
 
     /// The map of an RNDF's network, as GeoJSON.
-    pub fn write_map(text: &[u8], t: &mut Tables, out: &mut [u8]) -> WriteAnswer {
+    pub fn write_map(edition: Edition, text: &[u8], t: &mut Tables, out: &mut [u8]) -> WriteAnswer {
         // Safe: as in `read_rndf`.
         unsafe {
             kastepuhm_write_map(
+                edition as u32,
                 text.as_ptr(), text.len(),
                 t.segments.as_mut_ptr(), t.segments.len(),
                 t.lanes.as_mut_ptr(), t.lanes.len(),
@@ -283,10 +302,11 @@ mod kastepuhm {
     }
 
     /// The house writing of the MDF of a pair.
-    pub fn write_mdf(rndf: &[u8], mdf: &[u8], t: &mut Tables, out: &mut [u8]) -> WriteAnswer {
+    pub fn write_mdf(edition: Edition, rndf: &[u8], mdf: &[u8], t: &mut Tables, out: &mut [u8]) -> WriteAnswer {
         // Safe: as in `read_rndf`.
         unsafe {
             kastepuhm_write_mdf(
+                edition as u32,
                 rndf.as_ptr(), rndf.len(),
                 mdf.as_ptr(), mdf.len(),
                 t.segments.as_mut_ptr(), t.segments.len(),
@@ -317,7 +337,7 @@ mod kastepuhm {
     }
 }
 
-use kastepuhm::{Answer, Name, Tables, WriteAnswer};
+use kastepuhm::{Answer, Edition, Name, Tables, WriteAnswer};
 
 const MOST_BYTES: usize = 8192;
 
@@ -422,9 +442,9 @@ fn print_summary(a: &Answer) {
     println!("ok {} {} {} {} {} {} {} {} {} {}", a.segments, a.zones, a.lanes, a.points, a.spots, a.checkpoints, a.stops, a.exits, a.goals, a.limits);
 }
 
-fn run_route(network: &str, mission: &str, start: u32, route: &[u32]) -> Result<(), &'static str> {
+fn run_route(edition: Edition, network: &str, mission: &str, start: u32, route: &[u32]) -> Result<(), &'static str> {
     let (rndf, mdf, mut t) = (load(network)?, load(mission)?, tables());
-    let a = kastepuhm::check_route(&rndf, &mdf, &mut t, start, route);
+    let a = kastepuhm::check_route(edition, &rndf, &mdf, &mut t, start, route);
     if a.accepted == 0 {
         println!("refused {} {} {} {}", a.file, a.line, a.number, a.column);
     } else {
@@ -436,13 +456,13 @@ fn run_route(network: &str, mission: &str, start: u32, route: &[u32]) -> Result<
     Ok(())
 }
 
-fn run(network: &str, mission: Option<&str>) -> Result<(), &'static str> {
+fn run(edition: Edition, network: &str, mission: Option<&str>) -> Result<(), &'static str> {
     let rndf = load(network)?;
     let mdf = mission.map(load).transpose()?;
     let mut t = tables();
     let a = match &mdf {
-        Some(mdf) => kastepuhm::read_pair(&rndf, mdf, &mut t),
-        None => kastepuhm::read_rndf(&rndf, &mut t),
+        Some(mdf) => kastepuhm::read_pair(edition, &rndf, mdf, &mut t),
+        None => kastepuhm::read_rndf(edition, &rndf, &mut t),
     };
     if a.accepted == 0 {
         println!("refused {} {} {} {}", a.file, a.line, a.number, a.column);
@@ -454,28 +474,33 @@ fn run(network: &str, mission: Option<&str>) -> Result<(), &'static str> {
         print_mission(&a, &t, mdf);
     }
     let mut house = vec![0; MOST_BYTES + 1];
-    let w = kastepuhm::write_rndf(&rndf, &mut t, &mut house);
+    let w = kastepuhm::write_rndf(edition, &rndf, &mut t, &mut house);
     print_house("network", &w, &house);
     if let Some(mdf) = &mdf {
-        let w = kastepuhm::write_mdf(&rndf, mdf, &mut t, &mut house);
+        let w = kastepuhm::write_mdf(edition, &rndf, mdf, &mut t, &mut house);
         print_house("mission", &w, &house);
     }
     let mut map = vec![0; 8 * MOST_BYTES];
-    let w = kastepuhm::write_map(&rndf, &mut t, &mut map);
+    let w = kastepuhm::write_map(edition, &rndf, &mut t, &mut map);
     print_map(&w, &map);
     Ok(())
 }
 
 fn main() {
-    let words: Vec<String> = std::env::args().collect();
+    let mut words: Vec<String> = std::env::args().collect();
+    let mut edition = Edition::March2007;
+    if words.get(1).is_some_and(|word| word == "--2006") {
+        edition = Edition::December2006;
+        words.remove(1);
+    }
     let numbers: Vec<u32> = words.iter().skip(3).filter_map(|word| word.parse().ok()).collect();
     if words.len() < 2 || (words.len() > 3 && numbers.len() + 3 != words.len()) {
-        eprintln!("usage: caller NETWORK [MISSION [START [POINT ..]]]");
+        eprintln!("usage: caller [--2006] NETWORK [MISSION [START [POINT ..]]]");
         std::process::exit(2);
     }
     let done = match numbers.split_first() {
-        Some((&start, route)) => run_route(&words[1], &words[2], start, route),
-        None => run(&words[1], words.get(2).map(String::as_str)),
+        Some((&start, route)) => run_route(edition, &words[1], &words[2], start, route),
+        None => run(edition, &words[1], words.get(2).map(String::as_str)),
     };
     if let Err(why) = done {
         println!("{why}");

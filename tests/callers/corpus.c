@@ -89,13 +89,18 @@ int main(void)
     int mode;
     for (int k = 1; (mode = getchar()) != EOF; k++) {
         size_t rndf_length = number(3), mdf_length = number(3);
+        uint32_t edition;
         kastepuhm_answer a;
         for (size_t i = 0; i < TABLES; i++)
             lengths[i] = number(2) % MOST_NUMBERS;
         take(rndf, rndf_length);
         take(mdf, mdf_length);
         soil();
-        a = mode == 1 ? kastepuhm_read_rndf(rndf, rndf_length, NETWORK) : kastepuhm_read_pair(rndf, rndf_length, mdf, mdf_length, NETWORK, LENT(GOALS), LENT(LIMITS));
+        /* modes 3 and 4 are 1 and 2 in the edition of December 6, 2006; any other number than its own is the present one */
+        edition = mode > 2 ? KASTEPUHM_DECEMBER_2006 : (uint32_t)k + 1u;
+        mode = 2 - mode % 2;
+        a = mode == 1 ? kastepuhm_read_rndf(edition, rndf, rndf_length, NETWORK)
+                      : kastepuhm_read_pair(edition, rndf, rndf_length, mdf, mdf_length, NETWORK, LENT(GOALS), LENT(LIMITS));
         printf("case %d\n", k);
         print_answer(&a, mode == 2);
         for (size_t i = 0; i < (mode == 1 ? GOALS : TABLES); i++)

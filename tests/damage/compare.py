@@ -16,7 +16,10 @@ properties, positions, the direction and the closing of rings. The cases worked 
 Routes (request L5), half as many as pairs, are judged over pairs that are mostly whole: good by construction, then damaged in none, one or two ways (tests/oracle/routes.py); the
 cases worked out by hand there are in the first block. Reply, names, counts and tables have to be the oracle's.
 
-A case for the program, little endian: 1 byte mode (1 RNDF alone, 2 pair, 3 map, 4 route); both texts' lengths (8 bytes each) and how many bytes of each are given (4 each); the ten
+Every second pair, every fourth RNDF alone and half of the maps and routes are judged in the edition of December 6, 2006 (request L10), whose number is 1; the present one has any
+other number.
+
+A case for the program, little endian: 1 byte mode (1 RNDF alone, 2 pair, 3 map, 4 route); the edition (4 bytes); both texts' lengths (8 bytes each) and how many bytes of each are given (4 each); the ten
 tables' lengths and the output's (4 each); the start and how many points the route has (4 each); both texts' bytes; the route's points (4 each). Its answer: kastepuhm_write_answer (30 words: the column stands behind the number), the lent tables' words, the output's bytes, one word that is 0 if nothing else was written.
 """
 import array
@@ -38,9 +41,11 @@ KEPT = os.path.join(ROOT, "target", "damage")
 BLOCK = 500
 NUMBERS = [*range(1, 20), 21, 22, 23, 24, 25]
 OF_A_LINE = [*range(3, 10), *range(12, 19), 25]     # the column hangs on what stands in the line
+REQUESTED = ["9 of L8", "8 of L10", "9 of L10"]     # those that a request gives, at their usual places
 LIKE = ["led", "comment", "several", "field 1", "field 2", "field 3"]
 MOST_KEPT = 20                      # cases that differ, of a block
 RNDF_ALONE, PAIR, MAP, ROUTE = 1, 2, 3, 4
+OLDER = 16                          # added to a mode: in the edition of December 6, 2006
 LABELS = {PAIR: "pair", RNDF_ALONE: "RNDF alone", MAP: "map", ROUTE: "route"}
 HEAD = struct.Struct("<30I")        # kastepuhm_write_answer
 ROWS = ["segments", "lanes", "zones", "spots", "points", "checkpoints", "stops", "exits", "goals", "limits"]
@@ -51,17 +56,18 @@ def pairs_of(rng, number, count):
     cases = pairs.large_cases(rng) if number % 40 == 0 else []
     while len(cases) < count:
         cases.append(pairs.make_case(rng))
-    return [(mode, case) for k, case in enumerate(cases) for mode in ((PAIR, RNDF_ALONE, MAP), (PAIR,), (PAIR, MAP), (PAIR,))[k % 4]]
+    modes = ((PAIR, RNDF_ALONE, MAP), (PAIR, PAIR | OLDER), (PAIR, MAP | OLDER), (PAIR, PAIR | OLDER, RNDF_ALONE | OLDER))
+    return [(mode, case) for k, case in enumerate(cases) for mode in modes[k % 4]]
 
 
 def maps_of(rng, number, count):
     """Maps of whole RNDFs, half as many; in the first block also those worked out by hand."""
-    return [(MAP, case) for case in [pairs.map_case(rng) for _ in range(count // 2)] + (pairs.maps_by_hand() if number == 0 else [])]
+    return [(MAP | OLDER * (k % 2), case) for k, case in enumerate([pairs.map_case(rng) for _ in range(count // 2)] + (pairs.maps_by_hand() if number == 0 else []))]
 
 
 def routes_of(rng, number, count):
     """Routes, half as many; in the first block also those worked out by hand."""
-    return [(ROUTE, case) for case in [pairs.route_case(rng) for _ in range(count // 2)] + (pairs.routes_by_hand() if number == 0 else [])]
+    return [(ROUTE | OLDER * (k % 2), case) for k, case in enumerate([pairs.route_case(rng) for _ in range(count // 2)] + (pairs.routes_by_hand() if number == 0 else []))]
 
 
 SORTS = {"pairs": pairs_of, "maps": maps_of, "routes": routes_of}
@@ -72,9 +78,9 @@ def block_of(seed, number, count, sorts):
     out = []
     for sort in sorts:
         rng = random.Random("%s %d %d" % (sort.replace("pairs", "damage"), seed, number))    # the pairs are those of before there were sorts
-        cases = SORTS[sort](rng, number, count)
+        cases = [(mode, pairs.aged(case) if mode & OLDER and rng.random() < 0.75 else case) for mode, case in SORTS[sort](rng, number, count)]
         for mode, case in cases:
-            if mode == MAP:
+            if kind_of(mode) == MAP:
                 lend_output(rng, case)
         out += cases
     return out
@@ -96,19 +102,24 @@ def said(text, length):
     return longer
 
 
+def kind_of(mode):
+    return mode & ~OLDER
+
+
 def judge(reader, mode, case):
     """The reader's reply, and what the output then holds: its bytes in use, and all of them."""
     rndf, mdf = said(case.rndf, case.rndf_length), said(case.mdf, case.mdf_length)
-    if mode == MAP:
-        done = reader.write_map(rndf, case.room, case.out)
+    edition = reader.DECEMBER_2006 if mode & OLDER else reader.PRESENT
+    if kind_of(mode) == MAP:
+        done = reader.write_map(rndf, case.room, case.out, edition)
         return done.reply, done.written or 0, done.output
-    if mode == ROUTE:
-        return reader.drive(rndf, mdf, case.room, case.start, case.route), 0, b""
-    return reader.read_rndf(rndf, case.room) if mode == RNDF_ALONE else reader.read_pair(rndf, mdf, case.room), 0, b""
+    if kind_of(mode) == ROUTE:
+        return reader.drive(rndf, mdf, case.room, case.start, case.route, edition), 0, b""
+    return reader.read_pair(rndf, mdf, case.room, edition) if has_mdf(mode) else reader.read_rndf(rndf, case.room, edition), 0, b""
 
 
 def has_mdf(mode):
-    return mode in (PAIR, ROUTE)
+    return kind_of(mode) in (PAIR, ROUTE)
 
 
 def lent(mode, case):
@@ -116,7 +127,7 @@ def lent(mode, case):
 
 
 def lent_output(mode, case):
-    return case.out if mode == MAP else 0
+    return case.out if kind_of(mode) == MAP else 0
 
 
 def answer_size(mode, case):
@@ -125,8 +136,9 @@ def answer_size(mode, case):
 
 def encode(mode, case):
     mdf, mdf_length = (case.mdf, case.mdf_length) if has_mdf(mode) else (b"", 0)
-    start, route = (case.start, case.route) if mode == ROUTE else (0, [])
-    head = struct.pack("<B2Q2I13I", mode, case.rndf_length, mdf_length, len(case.rndf), len(mdf), *lent(mode, case), lent_output(mode, case), start, len(route))
+    start, route = (case.start, case.route) if kind_of(mode) == ROUTE else (0, [])
+    edition = 1 if mode & OLDER else (0, 2, 257, 0xFFFFFFFF)[len(case.rndf) % 4]
+    head = struct.pack("<BI2Q2I13I", kind_of(mode), edition, case.rndf_length, mdf_length, len(case.rndf), len(mdf), *lent(mode, case), lent_output(mode, case), start, len(route))
     return head + case.rndf + mdf + struct.pack("<%dI" % len(route), *route)
 
 
@@ -186,9 +198,9 @@ def keep(seed, number, k, mode, case, want, got):
             f.write(case.mdf)
     oracles, ours = shown(want, mode, case), shown(got, mode, case)
     with open(path + ".txt", "w") as f:
-        f.write("%s; damage: %s; lengths %d %d; numbers lent %s; output of %d bytes\n" % (LABELS[mode], ", ".join(case.kinds),
+        f.write("%s; damage: %s; lengths %d %d; numbers lent %s; output of %d bytes\n" % (LABELS[kind_of(mode)] + (", December 6, 2006" if mode & OLDER else ""), ", ".join(case.kinds),
                 case.rndf_length, case.mdf_length, dict(zip(ROWS, lent(mode, case))), lent_output(mode, case)))
-        if mode == ROUTE:
+        if kind_of(mode) == ROUTE:
             f.write("start %d, route %s\n" % (case.start, case.route))
         f.write("\nthe oracle:\n%s\n\nthe library:\n%s\n" % (oracles, ours))
     first = next(((a, b) for a, b in zip(oracles.splitlines(), ours.splitlines()) if a != b), ("the same", "the same, but it wrote elsewhere too"))
@@ -198,7 +210,7 @@ def keep(seed, number, k, mode, case, want, got):
 def map_said(judged, mode, case, got):
     """What Python's json finds otherwise in a written map, and how often each shape came in it."""
     reply, written, _ = judged
-    if mode != MAP or not reply.accepted:
+    if kind_of(mode) != MAP or not reply.accepted:
         return [], {}
     network = oracle.network_of(reply, case.rndf)
     at = HEAD.size + 4 * sum(lent(mode, case))
@@ -208,13 +220,17 @@ def map_said(judged, mode, case, got):
         return ["%s: %s" % (type(wrong).__name__, wrong)], {}
 
 
-def on_waypoint_1(refusal, rndf):
-    """Whether this is the 9 of a spot's checkpoint on waypoint 1 (request L8)."""
-    if (refusal[0], refusal[2]) != (1, 9):
-        return False
+def requested(refusal, rndf):
+    """Whether this is the 9 of a spot's checkpoint on waypoint 1 (request L8), or the 8 or 9 of the older edition (L10)."""
+    if refusal[0] != 1 or refusal[2] not in (8, 9):
+        return []
     lines = [line.replace(b"\t", b" ").split() for line in rndf.split(b"\n", refusal[1])[:refusal[1]]]
+    if refusal[2] == 8:
+        return ["8 of L10"] * (rndf.split(b"\n", refusal[1])[refusal[1] - 1][refusal[3] - 1:].startswith(b"solid_yellow") and lines[-1][0].endswith(b"_boundary"))
+    if lines[-1][:2] == [b"num_spots", b"0"]:
+        return ["9 of L10"]
     opened = [fields for fields in lines if fields and fields[0] in (b"spot", b"lane", b"perimeter", b"end_spot", b"end_lane")]
-    return bool(opened) and opened[-1][0] == b"spot" and lines[-1][0] == b"checkpoint" and lines[-1][1] == opened[-1][1] + b".1"
+    return ["9 of L8"] * (bool(opened) and opened[-1][0] == b"spot" and lines[-1][0] == b"checkpoint" and lines[-1][1] == opened[-1][1] + b".1")
 
 
 class Watched(oracle.Lines):
@@ -265,12 +281,12 @@ def run_block(job):
         key = "ok" if reply.accepted else (reply.refusal[0], reply.refusal[2])
         replies[mode, key] = replies.get((mode, key), 0) + 1
         if not reply.accepted:
-            for which in [reply.refusal[2]] + ["9 of L8"] * on_waypoint_1(reply.refusal, case.rndf):
+            for which in [reply.refusal[2]] + requested(reply.refusal, case.rndf):
                 for key in [reply.refusal[3]] + line_like(reply.refusal, case):
                     columns[which, key] = columns.get((which, key), 0) + 1
         for kind in set(case.kinds) if has_mdf(mode) else ():
-            drawn, taken = kinds.get((mode, kind), (0, 0))
-            kinds[mode, kind] = (drawn + 1, taken + reply.accepted)
+            drawn, taken = kinds.get((kind_of(mode), kind), (0, 0))
+            kinds[kind_of(mode), kind] = (drawn + 1, taken + reply.accepted)
         by_json, more = map_said(judged, mode, case, got)
         for shape, n in more.items():
             shapes[shape] = shapes.get(shape, 0) + n
@@ -284,17 +300,19 @@ def run_block(job):
 def print_counts(replies, kinds, shapes, columns):
     def of(mode, key):
         return replies.get((mode, key), 0)
-    print("\n%-12s %10s %10s %12s %8s %8s" % ("reply", "pair: RNDF", "pair: MDF", "RNDF alone", "map", "route"))
-    print("%-12s %21d %12d %8d %8d" % ("accepted", of(PAIR, "ok"), of(RNDF_ALONE, "ok"), of(MAP, "ok"), of(ROUTE, "ok")))
-    for number in NUMBERS:
-        print("%-12d %10d %10d %12d %8d %8d" % (number, of(PAIR, (1, number)), of(PAIR, (2, number)), of(RNDF_ALONE, (1, number)), of(MAP, (1, number)),
-                                                sum(of(ROUTE, (file, number)) for file in (0, 1, 2))))
+    for older, edition in (0, "present edition"), (OLDER, "December 6, 2006"):
+        pair, alone, drawn, route = (kind | older for kind in (PAIR, RNDF_ALONE, MAP, ROUTE))
+        print("\n%-16s %10s %10s %12s %8s %8s" % (edition, "pair: RNDF", "pair: MDF", "RNDF alone", "map", "route"))
+        print("%-16s %21d %12d %8d %8d" % ("accepted", of(pair, "ok"), of(alone, "ok"), of(drawn, "ok"), of(route, "ok")))
+        for number in NUMBERS:
+            print("%-16d %10d %10d %12d %8d %8d" % (number, of(pair, (1, number)), of(pair, (2, number)), of(alone, (1, number)), of(drawn, (1, number)),
+                                                    sum(of(route, (file, number)) for file in (0, 1, 2))))
     for mode in (PAIR, ROUTE):
         print("\n%-28s %8s %8s" % ("damage (%ss)" % LABELS[mode], "drawn", "accepted"))
         for (_, kind), (drawn, taken) in sorted(item for item in kinds.items() if item[0][0] == mode):
             print("%-28s %8d %8d" % (kind[:28], drawn, taken))
     print("\n%-8s %8s %8s %s  %s" % ("refusal", "came", "columns", " ".join("%8s" % like for like in LIKE), "the commonest columns, and how often"))
-    for number in NUMBERS + ["9 of L8"]:
+    for number in NUMBERS + REQUESTED:
         found = sorted(((n, column) for (one, column), n in columns.items() if one == number and column not in LIKE), reverse=True)
         print("%-8s %8d %8d %s  %s" % (number, sum(n for n, _ in found), len(found), " ".join("%8d" % columns.get((number, like), 0) for like in LIKE),
                                        ", ".join("%d: %d" % (column, n) for n, column in found[:5])))
@@ -324,11 +342,13 @@ def compare(program, count, seed, sorts):
     print_counts(replies, kinds, shapes, columns)
     missing = [n for n in NUMBERS if not any(key != "ok" and key[1] == n for _, key in replies)]
     missing += ["%d in a line led by tabs or spaces" % n for n in OF_A_LINE if not columns.get((n, "led"))]
+    missing += [which for which in REQUESTED if not any(one == which for one, _ in columns)]
     missing = missing if sorts == list(SORTS) else []
     if missing:
         print("never came: " + ", ".join(map(str, missing)))
-    counts = [sum(n for (mode, _), n in replies.items() if mode == one) for one in (PAIR, RNDF_ALONE, ROUTE, MAP)]
-    print("\nseed %d: %d pairs, %d RNDFs alone, %d routes and %d maps (%d written), %d differ" % (seed, *counts, replies.get((MAP, "ok"), 0), differing))
+    counts = [sum(n for (mode, _), n in replies.items() if kind_of(mode) == one) for one in (PAIR, RNDF_ALONE, ROUTE, MAP)]
+    counts += [sum(replies.get((mode, "ok"), 0) for mode in (MAP, MAP | OLDER)), sum(n for (mode, _), n in replies.items() if mode & OLDER)]
+    print("\nseed %d: %d pairs, %d RNDFs alone, %d routes and %d maps (%d written), %d of them in the older edition, %d differ" % (seed, *counts, differing))
     return 1 if differing or missing else 0
 
 

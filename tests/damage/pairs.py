@@ -439,6 +439,16 @@ def make_case(rng, places=None, pair=small_pair):
     return case
 
 
+def aged(case):
+    """The same with another boundary for each `solid_yellow`, so that the older edition (L10) does not mostly give 8."""
+    older = Case()
+    for name in Case.__slots__:
+        if hasattr(case, name):
+            setattr(older, name, getattr(case, name))
+    older.rndf = case.rndf.replace(b"solid_yellow", b"broken_white")
+    return older
+
+
 def padded(text, length):
     """The text, made that long by blank lines in front of it."""
     missing = length - len(text)

@@ -24,7 +24,7 @@ enum { SEGMENTS, LANES, ZONES, SPOTS, POINTS, CHECKPOINTS, STOPS, EXITS, GOALS, 
 
 static uint8_t *text_ends[2], *table_ends[TABLES], *output_end, *route_end, *given[2];
 static size_t text_lengths[2], given_lengths[2], lengths[TABLES], output_length, route_length;
-static uint32_t start, given_route[MOST_STEPS];
+static uint32_t edition, start, given_route[MOST_STEPS];
 
 /* Where `size` bytes of memory end; behind them nothing may be read or written. */
 static uint8_t *end_of_memory(size_t size)
@@ -95,15 +95,15 @@ static kastepuhm_write_answer answer(int mode)
     kastepuhm_write_answer read = {0};
     switch (mode) {
     case RNDF_ALONE:
-        read.answer = kastepuhm_read_rndf(TEXT(0), NETWORK);
+        read.answer = kastepuhm_read_rndf(edition, TEXT(0), NETWORK);
         return read;
     case PAIR:
-        read.answer = kastepuhm_read_pair(TEXT(0), TEXT(1), NETWORK, LENT(GOALS), LENT(LIMITS));
+        read.answer = kastepuhm_read_pair(edition, TEXT(0), TEXT(1), NETWORK, LENT(GOALS), LENT(LIMITS));
         return read;
     case MAP:
-        return kastepuhm_write_map(TEXT(0), NETWORK, output_end - output_length, output_length);
+        return kastepuhm_write_map(edition, TEXT(0), NETWORK, output_end - output_length, output_length);
     case ROUTE:
-        read.answer = kastepuhm_check_route(TEXT(0), TEXT(1), NETWORK, LENT(GOALS), LENT(LIMITS), start, route(), route_length);
+        read.answer = kastepuhm_check_route(edition, TEXT(0), TEXT(1), NETWORK, LENT(GOALS), LENT(LIMITS), start, route(), route_length);
         return read;
     default:
         exit(2);
@@ -122,6 +122,7 @@ int main(void)
     while ((mode = getchar()) != EOF) {
         uint32_t elsewhere = 0;
         kastepuhm_write_answer a;
+        edition = (uint32_t)number(4);
         for (int i = 0; i < 2; i++)
             text_lengths[i] = number(8);
         for (int i = 0; i < 2; i++)

@@ -1,12 +1,13 @@
 """The two files shared by cases.py and generate.py: cases.bin and expected.txt.
 
-cases.bin, repeated to the end: 1 byte mode (1 RNDF alone, 2 pair); RNDF length
+cases.bin, repeated to the end: 1 byte mode (1 RNDF alone, 2 pair; 3 and 4 the same
+in the edition of December 6, 2006); RNDF length
 and MDF length, 3 bytes LE each; ten table lengths in numbers, 2 bytes LE each
 (segments, lanes, zones, spots, points, checkpoints, stops, exits, goals,
-limits; the last two 0 in mode 1); the RNDF's bytes; the MDF's bytes.
+limits; the last two 0 in modes 1 and 3); the RNDF's bytes; the MDF's bytes.
 
 expected.txt, per case: `case K`; then `refused F L N C`, or `ok` with ten counts,
-`file` and (mode 2) `mission`; then, accepted or refused, one line per lent
+`file` and (modes 2 and 4) `mission`; then, accepted or refused, one line per lent
 table with all its numbers.
 """
 
@@ -16,18 +17,25 @@ TEXT_BOUND = 8192       # every text is shorter
 TABLE_BOUND = 600       # every table is shorter
 
 
+OLDER = 2               # what the older edition adds to the mode
+
+
+def is_pair(mode):
+    return mode % 2 == 0
+
+
 def full_room(room, mode):
     room = dict(room)
     for table in oracle.TABLES:
         room.setdefault(table, 0)
-    if mode == 1:
+    if not is_pair(mode):
         room["goals"] = room["limits"] = 0
     return room
 
 
 def encode(mode, rndf, mdf, room):
     assert len(rndf) < TEXT_BOUND and len(mdf) < TEXT_BOUND
-    assert mode == 2 or mdf == b""
+    assert is_pair(mode) or mdf == b""
     parts = [bytes([mode]), len(rndf).to_bytes(3, "little"),
              len(mdf).to_bytes(3, "little")]
     for table in oracle.TABLES:
@@ -55,19 +63,20 @@ def decode(data):
         yield mode, rndf, mdf, room
 
 
-def judge(mode, rndf, mdf, room):
-    if mode == 1:
-        return oracle.read_rndf(rndf, room)
-    return oracle.read_pair(rndf, mdf, room)
+def judge(mode, rndf, mdf, room, module=oracle):
+    edition = module.DECEMBER_2006 if mode > 2 else module.PRESENT
+    if is_pair(mode):
+        return module.read_pair(rndf, mdf, room, edition)
+    return module.read_rndf(rndf, room, edition)
 
 
 def expected(k, mode, reply):
     out = ["case %d" % k, reply.head()]
     if reply.accepted:
         out.append("file " + " ".join(map(str, reply.file)))
-        if mode == 2:
+        if is_pair(mode):
             out.append("mission " + " ".join(map(str, reply.mission)))
-    for table in (oracle.RNDF_TABLES if mode == 1 else oracle.TABLES):
+    for table in (oracle.TABLES if is_pair(mode) else oracle.RNDF_TABLES):
         out.append(" ".join([table] + [str(n) for n in reply.tables[table]]))
     return "\n".join(out) + "\n"
 

@@ -11,7 +11,7 @@ import os
 import sys
 
 import oracle
-from casefile import Writer
+from casefile import OLDER, Writer
 from yards import (MDF_STATEMENTS, MISSION_B, RNDF_STATEMENTS, ROUND_1, YARD_A,
                    YARD_B, YARD_C, cut, ins, put, text)
 
@@ -52,6 +52,12 @@ def rndf(label, t, want=None, room=ROOM):
 
 def pair(label, r, m, want=None, room=ROOM):
     check(label, writer.add(label, 2, as_bytes(r), as_bytes(m), room), want)
+
+
+def older(label, t, want, m=None):
+    """L10: in the edition of December 6, 2006; with an MDF if one is given."""
+    mode = OLDER + (1 if m is None else 2)
+    check(label, writer.add(label, mode, as_bytes(t), b"" if m is None else as_bytes(m), ROOM), want)
 
 
 def mdf(label, m, want=None, room=ROOM):
@@ -917,6 +923,47 @@ def spot_checkpoints():
     pair("25, and an empty MDF", bare, b"", "1 20 25 1")
 
 
+# ------------------------------------------------------- L10: the edition
+
+def editions():
+    """"in the older edition 8 for `solid_yellow`, 9 for 0 spots, at their usual
+    places"; "the rest we read by the present rules, L8 included"."""
+    C, B = YARD_C, YARD_B
+    # a zone without spots: lines 13, 19 to 23 of yard C
+    empty = put(C[:18] + C[23:], 13, "num_spots>0")
+    for label, lines, then, now in (
+            ("yard A", A, "ok", "ok"), ("yard C", C, "ok", "ok"), ("no spots", empty, "1 13 9 11", "ok"),
+            ("yard B, whose second zone has no spots", B, "1 62 9 11", "ok"), ("yard B without its second zone", put(B[:60] + B[67:], 3, "num_zones>1"), "ok", "ok"),
+            ("0 spots and a spot", put(C, 13, "num_spots>0"), "1 13 9 11", "1 19 5 1"),
+            ("0 spots spelled otherwise", put(empty, 13, "num_spots>00"), "1 13 8 11", "1 13 8 11"),
+            ("0 spots and a field more", put(empty, 13, "num_spots>0>0"), "1 13 7 1", "1 13 7 1"),
+            ("0 spots, spaces", put(empty, 13, "  num_spots   0"), "1 13 9 15", "ok"),
+            ("0 spots, and the text ends", empty[:13], "1 13 9 11", "1 14 10 0"),
+            ("solid_yellow on the left", ins(A, 8, "left_boundary>solid_yellow"), "1 8 8 15", "ok"),
+            ("solid_yellow on the right", ins(A, 8, "right_boundary>solid_yellow"), "1 8 8 16", "ok"),
+            ("solid_yellow behind double_yellow", ins(A, 8, "left_boundary>double_yellow", "right_boundary>solid_yellow"), "1 9 8 16", "ok"),
+            ("left boundary again, as solid_yellow", ins(A, 8, "left_boundary>solid_white", "left_boundary>solid_yellow"), "1 9 6 1", "1 9 6 1"),
+            ("solid_yellow twice", ins(A, 8, "left_boundary>solid_yellow", "left_boundary>solid_yellow"), "1 8 8 15", "1 9 6 1"),
+            ("solid_yellow and a field more", ins(A, 8, "left_boundary>solid_yellow>x"), "1 8 7 1", "1 8 7 1"),
+            ("solid_yellow in capitals", ins(A, 8, "left_boundary>Solid_yellow"), "1 8 8 15", "1 8 8 15"),
+            ("solid_yellow as a name", put(A, 1, "RNDF_name>solid_yellow"), "ok", "ok"),
+            ("solid_yellow out of place", ins(A, 6, "left_boundary>solid_yellow"), "1 6 5 1", "1 6 5 1"),
+            ("the other three", ins(B, 25, "left_boundary>broken_white", "right_boundary>double_yellow")[:38], "1 39 10 0", "1 39 10 0"),
+            ("solid_white on both sides", ins(A, 8, "left_boundary>solid_white", "right_boundary>solid_white"), "ok", "ok"),
+            ("broken_white on both sides", ins(A, 8, "left_boundary>broken_white", "right_boundary>broken_white"), "ok", "ok"),
+            ("a spot without its checkpoint", cut(C, 20), "1 20 25 1", "1 20 25 1"),
+            ("a spot's checkpoint on waypoint 1", put(C, 20, "checkpoint>2.1.1>5"), "1 20 9 12", "1 20 9 12"),
+            ("a bare spot behind a solid_yellow", ins(cut(C, 20), 8, "left_boundary>solid_yellow"), "1 8 8 15", "1 21 25 1"),
+            ("a comment in a line's middle", put(A, 4, "segment /* x */ 1"), "1 4 3 9", "1 4 3 9"),
+            ("an entry that is none, and 0 spots", ins(empty, 8, "exit>1.1.1>9.9.9"), "1 14 9 11", "1 8 12 12")):
+        older("2006: " + label, lines, then)
+        rndf("2007: " + label, lines, now)
+    older("2006: yard A as a pair", A, "ok", M)
+    older("2006: an MDF's limit without a ceiling", A, "ok", put(M, 9, "1>5>0"))
+    older("2006: an MDF's fault", A, "2 9 9 6", put(M, 9, "1>10>5"))
+    older("2006: yard B as a pair", B, "1 62 9 11", MISSION_B)
+
+
 # ---------------------------------------------------------- easy to get wrong
 
 def easy_to_get_wrong():
@@ -1176,7 +1223,7 @@ def main(directory="."):
     path = lambda name: os.path.join(directory, name)
     writer = Writer(path("cases.bin"), path("expected.txt"), path("labels.txt"))
     for part in (yard_a, lines_and_comments, spaces, after_the_end, integers, identifiers,
-                 coordinates, names_and_words, several_faults, columns, options, spot_checkpoints,
+                 coordinates, names_and_words, several_faults, columns, options, spot_checkpoints, editions,
                  easy_to_get_wrong, missions, rooms, systematic):
         part()
     # Refusal 1 is only described: a text of 16,777,216 bytes or more gives

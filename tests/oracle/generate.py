@@ -14,7 +14,7 @@ import re
 import sys
 
 import oracle
-from casefile import TABLE_BOUND, TEXT_BOUND, Writer, full_room
+from casefile import OLDER, TABLE_BOUND, TEXT_BOUND, Writer, full_room
 
 WORDS = [b"double_yellow", b"solid_yellow", b"solid_white", b"broken_white"]
 NAME_BYTES = bytes(b for b in range(33, 127) if b not in (0x2A, 0x5C))
@@ -758,8 +758,9 @@ def main():
     rng = random.Random(options.seed)
     writer = Writer(os.path.join(options.directory, options.bin),
                     os.path.join(options.directory, options.expected))
-    for _ in range(options.count):
-        writer.add("", *one_case(rng))
+    for k in range(options.count):
+        mode, *case = one_case(rng)
+        writer.add("", mode + (OLDER if k % 4 == 0 else 0), *case)     # L10
     writer.close()
     writer.print_histogram()
 

@@ -102,6 +102,15 @@ MUTANTS = [
     ("identifier == due, 0)", "identifier[2] == due[2], 0)"),
     ("identifier == due, 0)", "identifier[:2] == due[:2], 0)"),
     ("lines.permit(line, identifier == zone)", "pass"),
+    ("spots > 0 or not lines.older", "True"),
+    ("spots > 0 or not lines.older", "spots > 0"),
+    ("spots > 0 or not lines.older", "spots > 1 or not lines.older"),
+    ('return None if field == b"solid_yellow" else', "return"),
+    ('return None if field == b"solid_yellow" else', 'return None if field == b"solid_white" else'),
+    ("left, = lines.values(line, [boundary])", 'left, = lines.values(line, ["boundary"])'),
+    ("right, = lines.values(line, [boundary])", 'right, = lines.values(line, ["boundary"])'),
+    ("edition == DECEMBER_2006", "edition != DECEMBER_2006"),
+    ("edition == DECEMBER_2006", "False"),
     ("lines.permit(line, identifier == (zone, 0))", "lines.permit(line, identifier[0] == zone)"),
     ("lines.permit(line, identifier == (zone, 0))", "lines.permit(line, identifier[1] == 0)"),
     ("lines.permit(line, identifier == (zone, spot))", "lines.permit(line, identifier[1] == spot)"),
@@ -179,9 +188,7 @@ def main(directory="."):
     source = open(oracle.__file__).read()
     with open(os.path.join(directory, "cases.bin"), "rb") as corpus:
         cases = list(casefile.decode(corpus.read()))
-    judged = lambda module: [
-        (module.read_rndf(r, room) if mode == 1 else module.read_pair(r, m, room))
-        for mode, r, m, room in cases]
+    judged = lambda module: [casefile.judge(*case, module) for case in cases]
     right = [(x.refusal, x.used, x.file, x.mission, x.tables) for x in judged(oracle)]
     survivors = 0
     for old, new in MUTANTS:
@@ -191,10 +198,9 @@ def main(directory="."):
         module = types.ModuleType("mutant")
         exec(compile(source.replace(old, new, 1), "mutant", "exec"), module.__dict__)
         killed = 0
-        for (mode, r, m, room), want in zip(cases, right):
+        for case, want in zip(cases, right):
             try:
-                x = (module.read_rndf(r, room) if mode == 1
-                     else module.read_pair(r, m, room))
+                x = casefile.judge(*case, module)
                 got = (x.refusal, x.used, x.file, x.mission, x.tables)
             except Exception:
                 got = None

@@ -32,6 +32,10 @@ TABLES = RNDF_TABLES + MDF_TABLES
 COUNT_ORDER = ["segments", "zones", "lanes", "points", "spots",
                "checkpoints", "stops", "exits", "goals", "limits"]
 
+# L10: "The caller says which edition."  1 is December 6, 2006; any other number
+# is the present one.
+DECEMBER_2006, PRESENT = 1, 0
+
 # "each of `double_yellow`, `solid_yellow`, `solid_white`, `broken_white`",
 # "left and right (1 to 4 in the order above)".  0 stands for a missing one.
 BOUNDARIES = [None, b"double_yellow", b"solid_yellow", b"solid_white",
@@ -96,9 +100,10 @@ def first_other(part, allowed):
 class Lines:
     """The lines of one text, one at a time; only those with fields come out."""
 
-    def __init__(self, file, text):
+    def __init__(self, file, text, edition=PRESENT):
         self.file = file
         self.text = text
+        self.older = edition == DECEMBER_2006
         self.at = 0                 # where the next line begins
         self.count = 0              # the lines met so far
         self.line = None            # the last line with fields
@@ -289,6 +294,12 @@ def spell_boundary(field, start):
     return None
 
 
+def spell_older_boundary(field, start):
+    # L10: "`solid_yellow` was not yet a boundary"; "in the older edition 8 for
+    # `solid_yellow`"
+    return None if field == b"solid_yellow" else spell_boundary(field, start)
+
+
 def any_value(value):
     return True
 
@@ -319,6 +330,7 @@ KINDS = {
     "latitude": (spell_coordinate, range_latitude),
     "longitude": (spell_coordinate, range_longitude),
     "boundary": (spell_boundary, any_value),
+    "older boundary": (spell_older_boundary, any_value),
 }
 
 MISSING_NAME = (0, 0)               # "a missing name is 0, 0"
@@ -342,9 +354,9 @@ class RndfForm:
         self.exits = []         # (point, entry (x, y, z), its line and column)
 
 
-def form_of_rndf(text):
+def form_of_rndf(text, edition):
     """Refusals 2 to 10 of an RNDF, or its form."""
-    lines = Lines(1, text)
+    lines = Lines(1, text, edition)
     form = RndfForm()
 
     # "`RNDF_name` name; `num_segments` M > 0; `num_zones` N >= 0, with
@@ -439,6 +451,7 @@ def read_lane(lines, form, line, segment, lane):
 
     first = len(form.points)
     width, left, right = MISSING_WIDTH, 0, 0            # "A missing boundary is 0."
+    boundary = "older boundary" if lines.older else "boundary"
     given = set()
     while True:
         what, line = lines.statement(
@@ -450,10 +463,10 @@ def read_lane(lines, form, line, segment, lane):
             width, = lines.values(line, ["integer"])    # >= 0
             given.add(what)
         elif what == b"left_boundary":
-            left, = lines.values(line, ["boundary"])
+            left, = lines.values(line, [boundary])
             given.add(what)
         elif what == b"right_boundary":
-            right, = lines.values(line, ["boundary"])
+            right, = lines.values(line, [boundary])
             given.add(what)
         elif what == b"checkpoint":
             read_checkpoint(lines, form, line, segment, lane, points, first)
@@ -514,6 +527,9 @@ def read_zone(lines, form, line, zone):
 
     _, line = lines.statement([b"num_spots"])
     spots, = lines.values(line, ["integer"])
+    # L10: "the note of February 20 is what allowed a zone without spots"; "9
+    # for 0 spots"
+    lines.permit(line, spots > 0 or not lines.older)
 
     name = MISSING_NAME
     given = set()
@@ -694,13 +710,13 @@ def lay_out(rows, length):
     return flat
 
 
-def judge_rndf(text, room):
+def judge_rndf(text, room, edition):
     """1 to 13 of an RNDF in order, or (form, rows by table)."""
     # "Order: for the RNDF 1; then the first line with a fault of 2 to 9,
     # lowest number first ..; then 10; 11; then the first line with 12 or 13."
     if len(text) > LARGEST_TEXT:
         raise Refused(1, 0, 1)
-    form = form_of_rndf(text)
+    form = form_of_rndf(text, edition)
     # 11 "a table has fewer rows than needed".  "The rows of each table are as
     # many as its count lines declare together ..; checkpoints, stops and
     # exits have a row for each of their lines."
@@ -813,11 +829,11 @@ def refuse(reply, refused, room, names):
     reply.tables = zero_tables(room, names)
 
 
-def read_rndf(text, room):
+def read_rndf(text, room, edition=PRESENT):
     """The reader for an RNDF alone; `room` gives each table's lent length."""
     reply = Reply()
     try:
-        form, rows = judge_rndf(text, room)
+        form, rows = judge_rndf(text, room, edition)
         accept(reply, rows, room)
         reply.file = form.name + form.version + form.date
     except Refused as refused:
@@ -825,12 +841,12 @@ def read_rndf(text, room):
     return reply
 
 
-def read_pair(rndf, mdf, room):
+def read_pair(rndf, mdf, room, edition=PRESENT):
     """The reader for an RNDF with its MDF."""
     reply = Reply()
     try:
         # R13: everything about the RNDF comes before anything about the MDF.
-        form, rows = judge_rndf(rndf, room)
+        form, rows = judge_rndf(rndf, room, edition)
         mission, more = judge_mdf(mdf, room, rndf, form, rows)
         accept(reply, {**rows, **more}, room)
         reply.file = form.name + form.version + form.date
@@ -1117,14 +1133,14 @@ def write_out(reply, house, file, room, names, out_len):
     return Written(reply, None, bytes(out_len))
 
 
-def write_rndf(text, room, out_len):
-    reply = read_rndf(text, room)
+def write_rndf(text, room, out_len, edition=PRESENT):
+    reply = read_rndf(text, room, edition)
     return write_out(reply, lambda: house_rndf(network_of(reply, text)), 1,
                      room, RNDF_TABLES, out_len)
 
 
-def write_mdf(rndf, mdf, room, out_len):
-    reply = read_pair(rndf, mdf, room)
+def write_mdf(rndf, mdf, room, out_len, edition=PRESENT):
+    reply = read_pair(rndf, mdf, room, edition)
     return write_out(reply, lambda: house_mdf(mission_of(reply, mdf)), 2,
                      room, TABLES, out_len)
 
@@ -1179,10 +1195,10 @@ def geojson(network):
     return ('{"type":"FeatureCollection","features":[%s]}' % ",".join(features)).encode("latin-1")
 
 
-def write_map(text, room, out_len):
+def write_map(text, room, out_len, edition=PRESENT):
     # "19, with its zeros, where this or a later request's output is over
     # 16,777,215 bytes or longer than the lent one."
-    reply = read_rndf(text, room)
+    reply = read_rndf(text, room, edition)
     return write_out(reply, lambda: geojson(network_of(reply, text)), 1,
                      room, RNDF_TABLES, out_len)
 
@@ -1235,10 +1251,10 @@ def check_route(network, mission, start, route):
     return None
 
 
-def drive(rndf, mdf, room, start, route):
+def drive(rndf, mdf, room, start, route, edition=PRESENT):
     """The checker "over an accepted pair": the texts are read first and refused
     as the reader does; a refusal leaves every lent table zero."""
-    reply = read_pair(rndf, mdf, room)
+    reply = read_pair(rndf, mdf, room, edition)
     if reply.accepted:
         fault = check_route(network_of(reply, rndf), mission_of(reply, mdf), start, route)
         if fault is not None:

@@ -223,6 +223,17 @@ class Parts(unittest.TestCase):
         self.assertEqual(write_mdf(b"", m, WIDE, 0).refusal, (1, 1, 10, 0))
         self.assertEqual(write_rndf(r, dict(WIDE, points=3), 0).refusal, (1, 0, 11, 0))
 
+    def test_editions_of_the_parts(self):
+        """L10: every part that takes a text takes the edition."""
+        r, m = text(ins(YARD_A, 8, "left_boundary>solid_yellow")), text(ROUND_1)
+        for part in (lambda e: read_rndf(r, WIDE, e), lambda e: read_pair(r, m, WIDE, e), lambda e: write_rndf(r, WIDE, 999, e),
+                     lambda e: write_mdf(r, m, WIDE, 999, e), lambda e: write_map(r, WIDE, 999, e),
+                     lambda e: drive(r, m, WIDE, 0, [0, 1], e)):
+            self.assertEqual(part(oracle.DECEMBER_2006).refusal, (1, 8, 8, 15))
+            for edition in (0, 2, 3, 257, 4_294_967_295):
+                self.assertTrue(part(edition).accepted)
+        self.assertEqual(summary(r, m), "ok 1 0 1 2 0 1 0 1 1 1")
+
     def test_house_order(self):
         mixed = text(YARD_A[:7] + [
             "exit>1.1.2>1.1.1", "stop>1.1.2", "checkpoint>1.1.2>9",
@@ -542,6 +553,32 @@ class RandomNetworks(unittest.TestCase):
         self.assertTrue(read_rndf(text(every + YARD_A[9:]), room).accepted)
         for line, column in (("checkpoint>1.1.1>1", 18), ("  checkpoint 1.1.2   32768", 22)):
             self.assertEqual(read_rndf(text(every + [line] + YARD_A[9:]), room).refusal, (1, 32776, 13, column))
+
+    def test_editions(self):
+        """L10: "what the older edition accepts, the present one accepts with the
+        same tables", and they differ only in what the request says."""
+        rng = random.Random(9)
+        seen = {}
+        for _ in range(3000):
+            mode, r, m, room = generate.one_case(rng)
+            now = casefile.judge(mode, r, m, room)
+            then = casefile.judge(mode + casefile.OLDER, r, m, room)
+            self.assertEqual(vars(oracle.read_rndf(r, room, 2)), vars(oracle.read_rndf(r, room)))
+            new = b"solid_yellow" in r or any(
+                l.split(b"/*")[0].split()[:2] == [b"num_spots", b"0"] for l in r.split(b"\n"))
+            if then.accepted or not new or then.refusal == now.refusal:
+                self.assertEqual(vars(then), vars(now))
+                seen["same", then.accepted] = seen.get(("same", then.accepted), 0) + 1
+                continue
+            file, line, number, column = then.refusal
+            self.assertEqual(file, 1)
+            at = r.split(b"\n")[line - 1][column - 1:]
+            self.assertTrue(number == 8 and at.startswith(b"solid_yellow") or number == 9 and at.startswith(b"0"))
+            if now.refusal and now.refusal[:2] != (1, 0) and now.refusal[0] == 1 and now.refusal[2] < 11:
+                self.assertGreater(now.refusal[1], line)
+            seen[number] = seen.get(number, 0) + 1
+        for key in (8, 9, ("same", True), ("same", False)):
+            self.assertGreater(seen.get(key, 0), 20, seen)
 
     def test_space_for_tab(self):
         """L3: a space separates as a tab does, whatever the text."""
