@@ -1,11 +1,12 @@
 /*
- * Times our reader beside the C reader of bench/creader, with and without its shortcuts, on the texts of texts.c (bench/run.sh builds and runs it):
+ * Times our reader beside the C reader of bench/creader, with and without its shortcuts, and beside an ordinary one in C++ (bench/creader/typical.cpp), on the texts of texts.c
+ * (bench/run.sh builds and runs it):
  *
  *     bench SECONDS SIZE..      SECONDS for each text and reader; SIZE in bytes
  *
  * All read the same text in turn, each into its own tables, which have 16 rows more than needed; a time is the best of at least five runs, in processor time of this thread. Their
  * replies and tables are compared; they must be the same. The stack is what a reader wrote on a stack painted beforehand; ours has some 500 bytes of
- * read_ours below in it (tests/stack.py has the library's own).
+ * read_ours below in it (tests/stack.py has the library's own), and the ordinary one allocates besides.
  */
 #define _GNU_SOURCE
 #include "creader/creader.h"
@@ -18,7 +19,7 @@
 #include <time.h>
 #include <ucontext.h>
 
-enum { OURS, C, C_PLAIN, READERS };
+enum { OURS, C, C_PLAIN, ORDINARY, READERS };
 enum { RNDF_TABLES = 8, TABLES = 10, MOST_SIZES = 8, STACK = 1 << 20 };
 static const uint32_t columns[TABLES] = {4, 5, 6, 2, 2, 2, 1, 2, 1, 3};
 
@@ -28,6 +29,8 @@ typedef cr_reply reader(const struct text *rndf, const struct text *mdf, const c
 
 extern cr_reply plain_read_rndf(const void *, size_t, const cr_tables *);
 extern cr_reply plain_read_pair(const void *, size_t, const void *, size_t, const cr_tables *);
+extern cr_reply other_read_rndf(const void *, size_t, const cr_tables *);
+extern cr_reply other_read_pair(const void *, size_t, const void *, size_t, const cr_tables *);
 
 #define LENT(table, stride) t->table.cells, (size_t)t->table.rows * KASTEPUHM_##stride##_STRIDE
 #define NETWORK LENT(segments, SEGMENT), LENT(lanes, LANE), LENT(zones, ZONE), LENT(spots, SPOT), LENT(points, POINT), LENT(checkpoints, CHECKPOINT), LENT(stops, STOP), LENT(exits, EXIT)
@@ -53,13 +56,18 @@ static cr_reply read_c_plain(const struct text *rndf, const struct text *mdf, co
     return mdf->length ? plain_read_pair(rndf->bytes, rndf->length, mdf->bytes, mdf->length, t) : plain_read_rndf(rndf->bytes, rndf->length, t);
 }
 
+static cr_reply read_ordinary(const struct text *rndf, const struct text *mdf, const cr_tables *t)
+{
+    return mdf->length ? other_read_pair(rndf->bytes, rndf->length, mdf->bytes, mdf->length, t) : other_read_rndf(rndf->bytes, rndf->length, t);
+}
+
 static cr_reply read_nothing(const struct text *rndf, const struct text *mdf, const cr_tables *t)
 {
     (void)rndf, (void)mdf, (void)t;
     return (cr_reply){0};
 }
 
-static reader *const readers[READERS] = {read_ours, read_c, read_c_plain};
+static reader *const readers[READERS] = {read_ours, read_c, read_c_plain, read_ordinary};
 
 /* ---- tables */
 
@@ -147,20 +155,26 @@ static void time_text(const struct shape *shape, const struct text *rndf, const 
     uint32_t rows[TABLES];
     struct lent l[READERS];
     cr_reply reply[READERS];
-    double best[READERS] = {1e30, 1e30, 1e30}, spent = 0;
+    double best[READERS], spent[READERS];
     rows_for(rndf, mdf, rows);
     for (int i = 0; i < READERS; i++) {
         lend(&l[i], rows);
         memset(&reply[i], 0, sizeof reply[i]);
+        best[i] = 1e30, spent[i] = 0;
     }
-    for (int runs = 0; runs < 5 || spent < seconds * 1e9 * READERS; runs++)
+    for (int runs = 0, more = 1; more; runs++) {
+        more = 0;
         for (int i = 0; i < READERS; i++) {
+            if (runs >= 5 && spent[i] >= seconds * 1e9)
+                continue;
             double start = now();
             reply[i] = readers[i](rndf, mdf, &l[i].t);
             double took = now() - start;
-            spent += took;
+            spent[i] += took;
             best[i] = took < best[i] ? took : best[i];
+            more = 1;
         }
+    }
     for (int i = 0; i < READERS; i++) {
         if (!reply[i].accepted || memcmp(&reply[i], &reply[C], sizeof *reply) != 0 || !same_tables(&l[i], &l[C], mdf->length ? TABLES : RNDF_TABLES)) {
             printf("%s: REPLIES OR TABLES DIFFER\n", shape->name);
@@ -181,22 +195,22 @@ int main(int count, char **words)
     struct text rndf = {malloc(64u << 20), 0}, mdf = {malloc(4u << 20), 0};
     if (sizes < 1 || sizes > MOST_SIZES || rndf.bytes == NULL || mdf.bytes == NULL)
         return 2;
-    printf("                      nanoseconds to a byte           time, ours by      stack in bytes\n");
-    printf("shape          bytes     ours        C  C plain        C  C plain       ours        C  C plain\n");
+    printf("                      nanoseconds to a byte                  time, ours by                stack in bytes\n");
+    printf("shape          bytes     ours        C  C plain ordinary        C  C plain ordinary       ours        C  C plain ordinary\n");
     for (int z = 0; z < sizes; z++)
         for (int s = 0; s < SHAPES; s++) {
             double *n = ns[z][s];
             build(&shapes[s], strtoul(words[z + 2], NULL, 10), &rndf, &mdf);
             time_text(&shapes[s], &rndf, &mdf, atof(words[1]), n, stack);
-            printf("%-10s %9zu %8.3f %8.3f %8.3f %8.2f %8.2f %10zu %8zu %8zu\n", shapes[s].name, rndf.length + mdf.length, n[OURS], n[C], n[C_PLAIN], n[OURS] / n[C], n[OURS] / n[C_PLAIN],
-                   stack[OURS], stack[C], stack[C_PLAIN]);
+            printf("%-10s %9zu %8.3f %8.3f %8.3f %8.3f %8.2f %8.2f %8.2f %10zu %8zu %8zu %8zu\n", shapes[s].name, rndf.length + mdf.length, n[OURS], n[C], n[C_PLAIN], n[ORDINARY],
+                   n[OURS] / n[C], n[OURS] / n[C_PLAIN], n[OURS] / n[ORDINARY], stack[OURS], stack[C], stack[C_PLAIN], stack[ORDINARY]);
             fflush(stdout);
             for (int i = 0; i < READERS; i++)
                 most[i] = stack[i] > most[i] ? stack[i] : most[i];
         }
-    printf("all replies and tables are the same; most stack: ours %zu, C %zu, C plain %zu bytes\n", most[OURS], most[C], most[C_PLAIN]);
+    printf("all replies and tables are the same; most stack: ours %zu, C %zu, C plain %zu, ordinary %zu bytes\n", most[OURS], most[C], most[C_PLAIN], most[ORDINARY]);
     for (int s = 0; s < SHAPES && sizes > 1; s++)
-        printf("%s: a byte of the last size takes %.2f times as long as one of the first, in C %.2f, C plain %.2f\n", shapes[s].name, ns[sizes - 1][s][OURS] / ns[0][s][OURS],
-               ns[sizes - 1][s][C] / ns[0][s][C], ns[sizes - 1][s][C_PLAIN] / ns[0][s][C_PLAIN]);
+        printf("%s: a byte of the last size takes %.2f times as long as one of the first, in C %.2f, C plain %.2f, ordinary %.2f\n", shapes[s].name, ns[sizes - 1][s][OURS] / ns[0][s][OURS],
+               ns[sizes - 1][s][C] / ns[0][s][C], ns[sizes - 1][s][C_PLAIN] / ns[0][s][C_PLAIN], ns[sizes - 1][s][ORDINARY] / ns[0][s][ORDINARY]);
     return 0;
 }

@@ -2,12 +2,12 @@
 # bench/run.sh [--built] [SIZE..]
 #
 # Times our reader (target/staticlib/libyard.a, built first by `rt staticlib yard` unless --built is given) beside the C reader in bench/creader, with its shortcuts and without them
-# ("C plain"), in one run, on texts of five shapes (bench/texts.c) and each SIZE in bytes: 65536, 1048576 and 16777215 if none is given. Prints nanoseconds to a byte, the ratio of
+# ("C plain"), and beside what an ordinary program would be ("ordinary": C++ with getline, string streams, vectors and maps), in one run, on texts of five shapes (bench/texts.c) and each SIZE in bytes: 65536, 1048576 and 16777215 if none is given. Prints nanoseconds to a byte, the ratio of
 # times (ours by theirs; best of several runs), the stack that each wrote, and whether a byte takes longer in a long text than in a short one. All replies and tables have to be the
-# same; else it fails. BENCH_SECONDS (0.5) is the time for each text and reader; all sizes take half a minute, with as much memory as 600 MB.
+# same; else it fails. BENCH_SECONDS (0.5) is the time for each text and reader; all sizes take a minute and a half, with as much memory as 600 MB.
 #
-# Both readers are built for any x86-64 processor; on Arm for this machine, ours from the code that the kit makes of the library (bench/arm-library.sh; --built does not go there).
-# Needs a C compiler (Debian: gcc).
+# All readers are built for any x86-64 processor; on Arm for this machine, ours from the code that the kit makes of the library (bench/arm-library.sh; --built does not go there).
+# Needs a C and a C++ compiler (Debian: gcc and g++).
 set -eu
 root=$(cd "$(dirname "$0")/.." && pwd -P)
 here=$root/bench
@@ -26,10 +26,15 @@ else
     library=$work/yard.o
     "$here/arm-library.sh" "$library"
 fi
+need g++ g++
+command -v g++ >/dev/null || { echo "bench/run.sh: no C++ compiler (Debian: g++)" >&2; exit 2; }
 [ $# -gt 0 ] || set -- 65536 1048576 16777215
 
 compile() { "$compiler" -std=c11 -O2 -Wall -Wextra -I"$root/include" "$@"; }
 compile -c "$here/creader/creader.c" -o "$work/creader.o"
 compile -DCR_NO_SHORTCUTS -Dread_rndf=plain_read_rndf -Dread_pair=plain_read_pair -c "$here/creader/creader.c" -o "$work/plain.o"
-compile -static "$here/bench.c" "$here/texts.c" "$work/creader.o" "$work/plain.o" "$library" -o "$work/bench"
+g++ -std=c++17 -O2 -c "$here/creader/typical.cpp" -o "$work/typical.o"
+compile -c "$here/bench.c" -o "$work/bench.o"
+compile -c "$here/texts.c" -o "$work/texts.o"
+g++ -static "$work/bench.o" "$work/texts.o" "$work/creader.o" "$work/plain.o" "$work/typical.o" "$library" -o "$work/bench"
 "$work/bench" "${BENCH_SECONDS:-0.5}" "$@"
