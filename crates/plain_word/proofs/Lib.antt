@@ -1,0 +1,3 @@
+-- Why a keyword stands where it is said to.
+pub mod Pieces
+pub mod Rows

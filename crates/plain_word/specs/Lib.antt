@@ -1,0 +1,2 @@
+-- A word that stands in a text, and the tables' rows.
+pub mod Stands
