@@ -81,7 +81,7 @@ fn shape_of(kind: usize) -> u8
     SHAPE[kind]
 }
 
-fn bare(kind: u8) -> Statement
+pub fn bare(kind: u8) -> Statement
     ensures { λ r. ⌜ r ≡ bareOf kind ⌝ }
 {
     match kind {
@@ -94,7 +94,7 @@ fn bare(kind: u8) -> Statement
     }
 }
 
-fn named(kind: u8, start: u32, length: u32) -> Statement
+pub fn named(kind: u8, start: u32, length: u32) -> Statement
     ensures { λ r. ⌜ r ≡ namedOf kind start length ⌝ }
 {
     match kind {
@@ -106,7 +106,7 @@ fn named(kind: u8, start: u32, length: u32) -> Statement
     }
 }
 
-fn numbered(kind: u8, n: u32) -> Statement
+pub fn numbered(kind: u8, n: u32) -> Statement
     ensures { λ r. ⌜ r ≡ numberedOf kind n ⌝ }
 {
     match kind {
@@ -123,7 +123,7 @@ fn numbered(kind: u8, n: u32) -> Statement
     }
 }
 
-fn paired(kind: u8, m: u32, n: u32) -> Statement
+pub fn paired(kind: u8, m: u32, n: u32) -> Statement
     ensures { λ r. ⌜ r ≡ pairedOf kind m n ⌝ }
 {
     match kind {
@@ -133,7 +133,7 @@ fn paired(kind: u8, m: u32, n: u32) -> Statement
     }
 }
 
-fn sided(kind: u8, b: u8) -> Statement
+pub fn sided(kind: u8, b: u8) -> Statement
     ensures { λ r. ⌜ r ≡ sidedOf kind b ⌝ }
 {
     if kind == 12 {

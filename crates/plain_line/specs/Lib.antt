@@ -1,0 +1,3 @@
+-- What a plain line says.
+pub mod Fields
+pub mod Plain
