@@ -4,23 +4,30 @@
 // specs/Storing: a row stored in the tables, executable. specs/Reading: the walk.
 // proofs/Filled: the walk finds what `text` answers, and stores what `fill` gives; for a text that spells a mission, its tables.
 //
-// Rests on `refusal`, `walk`, `mission_judge`, `mission_progress`, `rows`, `fill`, `table_words` and what they rest on.
+// Rests on `refusal`, `walk`, `plain_order`, `mission_judge`, `mission_progress`, `rows`, `fill`, `table_words` and what they rest on.
 use mission_judge::MissionVerdict;
 use mission_judge::mission_judge_line;
+use mission_place::MissionOutcome;
 use mission_place::MissionPlace;
 use mission_progress::MissionProgress;
 use mission_progress::MissionRow;
 use mission_progress::mission_row;
 use place_table::mdf_table;
+use plain_order::PlainOrder;
+use plain_order::plain_order;
+use plain_order::stand;
 use refusal::Fault;
 use refusal::LONGEST_TEXT;
 use rows::store_goal;
 use rows::store_limit;
 use scan::far_byte_from;
+use statement::Order;
 ghost use mathlib.Core.Path.{_≡_};
-ghost use Rattle.mission_progress.specs.Progress.{noneRead};
+ghost use Prim.Native.Nat.{_<_};
+ghost use Rattle.mission_progress.specs.Progress.{noneRead, total};
+ghost use Rattle.walk.specs.Standing.{Where};
 ghost use Rattle.mission.specs.Storing.{MissionMemory, memory, stored};
-ghost use Rattle.mission.specs.Reading.{told, filledIn};
+ghost use Rattle.mission.specs.Reading.{put, told, filledIn};
 
 pub enum MissionFilled {
     Fault(Fault),
@@ -38,6 +45,20 @@ fn store(goals: &mut [u32], limits: &mut [u32], gained: MissionProgress, row: Mi
     }
 }
 
+// An order's row is stored, and counted.
+fn gather(
+    goals: &mut [u32],
+    limits: &mut [u32],
+    gained: MissionProgress,
+    s: Order,
+) -> MissionProgress
+    requires { ⌜ total gained < 4294967295 ⌝ }
+    ensures { λ r. ⌜ ((w : Where) → memory r (now (goals .exit)) (now (limits .exit)) ≡ put w s (memory gained (now (goals .entry)) (now (limits .entry)))) ⌝ }
+{
+    store(goals, limits, gained, mission_row(s));
+    gained.after(s)
+}
+
 // One walk over the lines of a text.
 pub fn fill_orders(text: &[u8], goals: &mut [u32], limits: &mut [u32]) -> MissionFilled
     ensures { λ r. ⌜ told r (λ p. memory p (now (goals .exit)) (now (limits .exit))) ≡ filledIn (now (text .entry)) (memory noneRead (now (goals .entry)) (now (limits .entry))) ⌝ }
@@ -51,20 +72,33 @@ pub fn fill_orders(text: &[u8], goals: &mut [u32], limits: &mut [u32]) -> Missio
     let mut from: usize = 0;
     let mut line: u32 = 1;
     while from < text.len() {
-        let e = far_byte_from(text, from, 10);
-        let v = mission_judge_line(&table, &text[from..e], from, place);
-        match v {
-            MissionVerdict::Blank => {}
-            MissionVerdict::Said(s, q) => {
-                store(goals, limits, gained, mission_row(s));
-                place = q;
-                gained = gained.after(s);
-            }
-            MissionVerdict::Bad(n) => {
-                return MissionFilled::Fault(Fault { line, number: n });
+        let kind = place.number_kind();
+        match plain_order(text, from, kind) {
+            PlainOrder::Is(s, e) => match stand(&table, kind, s, place) {
+                MissionOutcome::Next(q) => {
+                    gained = gather(goals, limits, gained, s);
+                    place = q;
+                    from = e + 1;
+                }
+                MissionOutcome::Refused(n) => {
+                    return MissionFilled::Fault(Fault { line, number: n });
+                }
+            },
+            PlainOrder::No => {
+                let e = far_byte_from(text, from, 10);
+                match mission_judge_line(&table, &text[from..e], from, place) {
+                    MissionVerdict::Blank => {}
+                    MissionVerdict::Said(s, q) => {
+                        gained = gather(goals, limits, gained, s);
+                        place = q;
+                    }
+                    MissionVerdict::Bad(n) => {
+                        return MissionFilled::Fault(Fault { line, number: n });
+                    }
+                }
+                from = e + 1;
             }
         }
-        from = e + 1;
         line += 1;
     }
     if place.is_over() {

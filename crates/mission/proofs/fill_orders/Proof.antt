@@ -2,7 +2,7 @@
 use borrow.Author.Needs.{needs}
 use mathlib.Core.Path.{_≡_, refl, sym, ap, _∙_}
 use mathlib.Core.Logic.{⊎-elim}
-use Prim.Native.Nat.{_+_, _-_, _≤_}
+use Prim.Native.Nat.{_+_, _-_, _≤_, _<_}
 use native.Mathlib.Omega.{arith}
 use lib.ListN.{length}
 use Rattle.scan.proofs.Reach.{reach-le}
@@ -11,14 +11,13 @@ use Rattle.scan.specs.Reach.{stopsBy}
 use Rattle.mission_place.specs.Step.{overOf}
 use Rattle.mission_judge.specs.MdfLine.{mdf-judging}
 use Rattle.mission_progress.specs.Progress.{noneRead, total}
-use Rattle.mission_progress.proofs.Shown.{counts}
 use Rattle.walk.specs.Standing.{place}
 use Rattle.refusal.proofs.Sized.{too-long, not-too-long}
 use Rattle.walk.proofs.Cutting.{at-end}
 use Rattle.walk.proofs.MdfSteps.{rest, a-line}
 use Rattle.mission.specs.Storing.{MissionMemory, memory}
 use Rattle.mission.specs.Reading.{most, put, filledOf, filledIn}
-use Rattle.mission.proofs.Steps.{put-so, one-more}
+use Rattle.mission.proofs.Steps.{one-more, plain-ends, a-plain-line}
 use Rattle.mission.proofs.fill_orders.Statement.{statement}
 use Rattle.mission.proofs.fill_orders.Tie as tie
 
@@ -52,6 +51,55 @@ loop-holds : tie.Need-loop-holds Inv-loop μ-loop
 unfolding filledOf filledIn
 loop-holds c = (omega arith, omega arith, rw (c .none .ensures) (omega arith), rw (c .none .ensures, c .before .start .ensures) (sym (not-too-long (c .before .before .before .before .before .before .before .args .text .now) _ _ (omega arith))), refl, refl, omega arith)
 
+number-kind-requires : tie.Need-number-kind-requires Inv-loop μ-loop
+number-kind-requires c κs = search needs
+
+plain-order-requires : tie.Need-plain-order-requires Inv-loop μ-loop
+plain-order-requires c κs = search needs
+
+enum-known-s : tie.Need-enum-known-s Inv-loop μ-loop
+enum-known-s c = search needs
+
+stand-requires : tie.Need-stand-requires Inv-loop μ-loop
+stand-requires c κs = search needs
+
+enum-known-q : tie.Need-enum-known-q Inv-loop μ-loop
+enum-known-q c = search needs
+
+gather-requires : tie.Need-gather-requires Inv-loop μ-loop
+gather-requires c κs = search needs
+
+add-from : tie.Need-add-from Inv-loop μ-loop
+add-from c =
+    let read = c .before .before .before .before .before .before .before .before .before .before .before .before .before in
+    let l = read .before .before .before .before .before .loop in
+    let s = read .before .before .before .before .before .before .before .before .before .before .before .before .before .args .text .now in
+    let h = rw (read .s .given .1) at (read .before .before .plain-order .ensures) in
+    omega (arith, plain-ends s (l .from) _ (read .s .given .0 .0) (read .s .given .0 .1 .0) h (omega arith))
+
+enum-known-n : tie.Need-enum-known-n Inv-loop μ-loop
+enum-known-n c = search needs
+
+same-length : tie.Need-same-length Inv-loop μ-loop
+same-length c = c .before .before .before .before .before .before .before .before .before .before .before .loop .inv .4
+
+same-length-2 : tie.Need-same-length-2 Inv-loop μ-loop
+same-length-2 c = c .before .before .before .before .before .before .before .before .before .before .before .loop .inv .5
+
+returns-2 : tie.Need-returns-2 Inv-loop μ-loop
+returns-2 c =
+    let read = c .before .before .before .before .before .before in
+    let l = read .before .before .before .before .before .loop in
+    let made = read .before .before .before .before .before .before .before .before .mdf-table in
+    let s = read .before .before .before .before .before .before .before .before .before .before .before .before .before .args .text .now in
+    let h = rw (read .s .given .1) at (read .before .before .plain-order .ensures) in
+    let judged = c .before .before .before .stand in
+    let o = a-plain-line s (l .from) _ (read .s .given .0 .0) (read .s .given .0 .1 .0) h (made .result) (made .ensures) (omega arith) (l .place) (memory (l .gained) (l .goals) (l .limits)) (l .line) (read .before .before .before .number-kind .ensures) (judged .result) (judged .ensures) in
+    sym (rw (c .before .n .given .1) at o) ∙ l .inv .3
+
+enum-told : tie.Need-enum-told Inv-loop μ-loop
+enum-told c = search needs
+
 far-byte-from-requires : tie.Need-far-byte-from-requires Inv-loop μ-loop
 far-byte-from-requires c κs = search needs
 
@@ -63,98 +111,110 @@ part-mission-judge-line-start c = search needs
 
 part-mission-judge-line-end : tie.Need-part-mission-judge-line-end Inv-loop μ-loop
 part-mission-judge-line-end c =
-    let s = c .before .before .before .before .before .before .before .before .before .before .before .args .text .now in
-    let l = c .before .before .before .loop .from in
+    let s = c .before .before .before .before .before .before .before .before .before .before .before .before .before .before .before .args .text .now in
+    let l = c .before .before .before .before .before .before .before .loop .from in
     omega (arith, c .before .far-byte-from .ensures, reach-le (stopsBy (Byte 10)) s l (omega arith))
 
 mission-judge-line-requires : tie.Need-mission-judge-line-requires Inv-loop μ-loop
 mission-judge-line-requires c κs = search needs
 
-enum-told : tie.Need-enum-told Inv-loop μ-loop
-enum-told c = search needs
+enum-told-2 : tie.Need-enum-told-2 Inv-loop μ-loop
+enum-told-2 c = search needs
 
-enum-known-v : tie.Need-enum-known-v Inv-loop μ-loop
-enum-known-v c = search needs
+enum-known-s-2 : tie.Need-enum-known-s-2 Inv-loop μ-loop
+enum-known-s-2 c = search needs
 
-mission-row-requires : tie.Need-mission-row-requires Inv-loop μ-loop
-mission-row-requires c κs = search needs
+gather-requires-2 : tie.Need-gather-requires-2 Inv-loop μ-loop
+gather-requires-2 c κs = search needs
 
-store-requires : tie.Need-store-requires Inv-loop μ-loop
-store-requires c κs = search needs
+enum-known-n-2 : tie.Need-enum-known-n-2 Inv-loop μ-loop
+enum-known-n-2 c = search needs
 
-after-requires : tie.Need-after-requires Inv-loop μ-loop
-after-requires c κs = search needs
+same-length-3 : tie.Need-same-length-3 Inv-loop μ-loop
+same-length-3 c = c .before .before .before .before .before .before .before .before .before .before .before .before .loop .inv .4
 
-enum-known-v-2 : tie.Need-enum-known-v-2 Inv-loop μ-loop
-enum-known-v-2 c = search needs
+same-length-4 : tie.Need-same-length-4 Inv-loop μ-loop
+same-length-4 c = c .before .before .before .before .before .before .before .before .before .before .before .before .loop .inv .5
 
-same-length : tie.Need-same-length Inv-loop μ-loop
-same-length c = c .before .before .before .before .before .before .before .before .loop .inv .4
-
-same-length-2 : tie.Need-same-length-2 Inv-loop μ-loop
-same-length-2 c = c .before .before .before .before .before .before .before .before .loop .inv .5
-
-returns-2 : tie.Need-returns-2 Inv-loop μ-loop
-returns-2 c =
-    let l = c .before .before .before .before .before .before .before .before .loop in
-    let made = c .before .before .before .before .before .before .before .before .before .before .before .mdf-table in
-    let s = c .before .before .before .before .before .before .before .before .before .before .before .before .before .before .before .before .args .text .now in
+returns-3 : tie.Need-returns-3 Inv-loop μ-loop
+returns-3 c =
+    let l = c .before .before .before .before .before .before .before .before .before .before .before .before .loop in
+    let made = c .before .before .before .before .before .before .before .before .before .before .before .before .before .before .before .mdf-table in
+    let s = c .before .before .before .before .before .before .before .before .before .before .before .before .before .before .before .before .before .before .before .before .args .text .now in
     let scanned = c .before .before .before .before .before .before .far-byte-from in
     let judged = c .before .before .before .mission-judge-line in
     let o = a-line put (made .result) (made .ensures) s (omega (arith, l .inv .6)) (l .from) (scanned .result) (omega arith) (scanned .ensures) (l .place) (memory (l .gained) (l .goals) (l .limits)) (l .line) (judged .result) (judged .ensures) in
-    sym (rw (c .before .v2 .given .1) at o) ∙ l .inv .3
+    sym (rw (c .before .n2 .given .1) at o) ∙ l .inv .3
 
-add-from : tie.Need-add-from Inv-loop μ-loop
-add-from c =
-    let s = c .before .before .before .before .before .before .before .before .before .before .before .before .before .before .args .text .now in
-    let l = c .before .before .before .before .before .before .loop .from in
+add-from-2 : tie.Need-add-from-2 Inv-loop μ-loop
+add-from-2 c =
+    let s = c .before .before .before .before .before .before .before .before .before .before .before .before .before .before .before .before .before .before .args .text .now in
+    let l = c .before .before .before .before .before .before .before .before .before .before .loop .from in
     omega (arith, c .before .before .before .before .far-byte-from .ensures, reach-le (stopsBy (Byte 10)) s l (omega arith))
 
 add-line : tie.Need-add-line Inv-loop μ-loop
 add-line c = search needs
 
+-- the next line starts further on, and within the text or right behind it
+further : (c : tie.At-match-came Inv-loop μ-loop) → (c .before .before .before .before .loop .from < c .match .from) × (c .match .from ≤ length (c .before .before .before .before .before .before .before .before .before .before .before .before .args .text .now) + 1)
+further c =
+    let l = c .before .before .before .before .loop in
+    let s = c .before .before .before .before .before .before .before .before .before .before .before .before .args .text .now in
+    ⊎-elim
+    (λ w. let h = rw (w .1 .given .1) at (c .before .plain-order .ensures) in
+    let k = plain-ends s (l .from) _ (w .1 .given .0 .0) (w .1 .given .0 .1 .0) h (omega arith) in
+    (omega (arith, w .19), omega (arith, w .19)))
+    (λ w. let k = reach-le (stopsBy (Byte 10)) s (l .from) (omega arith) in
+    (omega (arith, w .11, w .2 .ensures), omega (arith, w .11, w .2 .ensures)))
+    (c .match .came)
+
 loop-less : tie.Need-loop-less Inv-loop μ-loop
-loop-less c = search needs
+loop-less c = omega (arith, further c)
 
 loop-again : tie.Need-loop-again Inv-loop μ-loop
 loop-again c =
-    let l = c .before .before .before .before .before .before .loop in
-    let made = c .before .before .before .before .before .before .before .before .before .mdf-table in
-    let s = c .before .before .before .before .before .before .before .before .before .before .before .before .before .before .args .text .now in
-    let scanned = c .before .before .before .before .far-byte-from in
-    let e = scanned .ensures in
-    let k = reach-le (stopsBy (Byte 10)) s (l .from) (omega arith) in
-    let judged = c .before .mission-judge-line in
-    let o = a-line put (made .result) (made .ensures) s (omega (arith, l .inv .6)) (l .from) (scanned .result) (omega arith) (scanned .ensures) (l .place) (memory (l .gained) (l .goals) (l .limits)) (l .line) (judged .result) (judged .ensures) in
+    let l = c .before .before .before .before .loop in
+    let made = c .before .before .before .before .before .before .before .mdf-table in
+    let s = c .before .before .before .before .before .before .before .before .before .before .before .before .args .text .now in
+    let here = place (l .from) (l .line) in
+    let m = memory (l .gained) (l .goals) (l .limits) in
+    let on = further c in
     ⊎-elim
-    (λ w. (omega arith, omega arith, rw (w .5) (omega (arith, l .inv .2)), rw (w .2, w .3, w .4, w .5) (sym (rw (w .1 .given .1) at o) ∙ l .inv .3), rw (w .2) (l .inv .4), rw (w .3) (l .inv .5), l .inv .6))
-    (λ w. let room = counts (w .1 .given .0 .0) (l .gained) (omega (arith, l .inv .0, l .inv .1, l .inv .2, l .inv .6)) in (
+    (λ w. let h = rw (w .1 .given .1) at (c .before .plain-order .ensures) in
+    let o = a-plain-line s (l .from) _ (w .1 .given .0 .0) (w .1 .given .0 .1 .0) h (made .result) (made .ensures) (omega arith) (l .place) m (l .line) (c .before .before .number-kind .ensures) (w .4 .result) (w .4 .ensures) in (
+      on .1,
       omega arith,
-      omega arith,
-      one-more _ (l .gained) _ (l .line) (w .15 ∙ w .11 .ensures ∙ room) (l .inv .2),
-      ap (λ (m : MissionMemory). rest put s (c .match .place) m (scanned .result + 1) (l .line + 1))
-          (put-so (place (l .from) (l .line)) _ (l .gained) (c .match .gained) (w .5 .result) (l .goals) (l .limits) (c .match .goals) (c .match .limits) (w .5 .ensures) (rw (w .12, w .13) (w .6 .ensures)) (w .15 ∙ w .11 .ensures ∙ room))
-          ∙ rw (w .14) (sym (rw (w .1 .given .1) at o) ∙ l .inv .3),
-      rw (w .12) (w .6 .kept .0 ∙ l .inv .4),
-      rw (w .13) (w .6 .kept .1 .0 ∙ l .inv .5),
+      rw (w .18) (omega (arith, one-more here (w .1 .given .0 .0) (l .gained) (w .10 .result) (l .goals) (l .limits) (w .10 .last .0) (w .10 .last .1 .0) (w .10 .ensures here), l .inv .2)),
+      rw (w .15, w .16, w .17, w .18, w .19) (ap (λ (m : MissionMemory). rest put s (w .6 .given .0 .0) m (w .1 .given .0 .1 .0 + 1) (l .line + 1)) (w .10 .ensures here) ∙ sym (rw (w .6 .given .1) at o) ∙ l .inv .3),
+      rw (w .15) (w .10 .kept .0 ∙ l .inv .4),
+      rw (w .16) (w .10 .kept .1 .0 ∙ l .inv .5),
       l .inv .6,
     ))
+    (λ w. let o = a-line put (made .result) (made .ensures) s (omega (arith, l .inv .6)) (l .from) (w .2 .result) (omega arith) (w .2 .ensures) (l .place) m (l .line) (w .5 .result) (w .5 .ensures) in
+    ⊎-elim
+    (λ v. (
+      on .1,
+      omega arith,
+      rw (w .10, v .5) (omega (arith, l .inv .2)),
+      rw (w .7, w .8, w .9, w .10, w .11, v .2, v .3, v .4, v .5) (sym (rw (v .1 .given .1) at o) ∙ l .inv .3),
+      rw (w .7, v .2) (l .inv .4),
+      rw (w .8, v .3) (l .inv .5),
+      l .inv .6,
+    ))
+    (λ v. (
+      on .1,
+      omega arith,
+      rw (w .10, v .13) (omega (arith, one-more here (v .1 .given .0 .0) (l .gained) (v .5 .result) (l .goals) (l .limits) (v .5 .last .0) (v .5 .last .1 .0) (v .5 .ensures here), l .inv .2)),
+      rw (w .7, w .8, w .9, w .10, w .11, v .10, v .11, v .12, v .13) (ap (λ (m : MissionMemory). rest put s (v .1 .given .0 .1 .0) m (w .2 .result + 1) (l .line + 1)) (v .5 .ensures here) ∙ sym (rw (v .1 .given .1) at o) ∙ l .inv .3),
+      rw (w .7, v .10) (v .5 .kept .0 ∙ l .inv .4),
+      rw (w .8, v .11) (v .5 .kept .1 .0 ∙ l .inv .5),
+      l .inv .6,
+    ))
+    (w .6 .came))
     (c .match .came)
 
 is-over-requires : tie.Need-is-over-requires Inv-loop μ-loop
 is-over-requires c κs = search needs
-
-same-length-3 : tie.Need-same-length-3 Inv-loop μ-loop
-same-length-3 c = c .before .before .before .loop .inv .4
-
-same-length-4 : tie.Need-same-length-4 Inv-loop μ-loop
-same-length-4 c = c .before .before .before .loop .inv .5
-
-returns-3 : tie.Need-returns-3 Inv-loop μ-loop
-returns-3 c =
-    let l = c .before .before .before .loop in
-    let s = c .before .before .before .before .before .before .before .before .before .before .before .args .text .now in
-    sym (rw (← (c .before .is-over .ensures), c .if2 .taken) at (at-end mdf-judging put overOf s (l .from) (omega arith) (l .place) (memory (l .gained) (l .goals) (l .limits)) (l .line))) ∙ l .inv .3
 
 same-length-5 : tie.Need-same-length-5 Inv-loop μ-loop
 same-length-5 c = c .before .before .before .loop .inv .4
@@ -164,6 +224,18 @@ same-length-6 c = c .before .before .before .loop .inv .5
 
 returns-4 : tie.Need-returns-4 Inv-loop μ-loop
 returns-4 c =
+    let l = c .before .before .before .loop in
+    let s = c .before .before .before .before .before .before .before .before .before .before .before .args .text .now in
+    sym (rw (← (c .before .is-over .ensures), c .if2 .taken) at (at-end mdf-judging put overOf s (l .from) (omega arith) (l .place) (memory (l .gained) (l .goals) (l .limits)) (l .line))) ∙ l .inv .3
+
+same-length-7 : tie.Need-same-length-7 Inv-loop μ-loop
+same-length-7 c = c .before .before .before .loop .inv .4
+
+same-length-8 : tie.Need-same-length-8 Inv-loop μ-loop
+same-length-8 c = c .before .before .before .loop .inv .5
+
+returns-5 : tie.Need-returns-5 Inv-loop μ-loop
+returns-5 c =
     let l = c .before .before .before .loop in
     let s = c .before .before .before .before .before .before .before .before .before .before .before .args .text .now in
     sym (rw (← (c .before .is-over .ensures), c .if2 .left) at (at-end mdf-judging put overOf s (l .from) (omega arith) (l .place) (memory (l .gained) (l .goals) (l .limits)) (l .line))) ∙ l .inv .3
@@ -179,28 +251,38 @@ fill-orders-spec =
     start-requires
     none-requires
     loop-holds
+    number-kind-requires
+    plain-order-requires
+    enum-known-s
+    stand-requires
+    enum-known-q
+    gather-requires
+    add-from
+    enum-known-n
+    same-length
+    same-length-2
+    returns-2
+    enum-told
     far-byte-from-requires
     sub-mission-judge-line
     part-mission-judge-line-start
     part-mission-judge-line-end
     mission-judge-line-requires
-    enum-told
-    enum-known-v
-    mission-row-requires
-    store-requires
-    after-requires
-    enum-known-v-2
-    same-length
-    same-length-2
-    returns-2
-    add-from
+    enum-told-2
+    enum-known-s-2
+    gather-requires-2
+    enum-known-n-2
+    same-length-3
+    same-length-4
+    returns-3
+    add-from-2
     add-line
     loop-less
     loop-again
     is-over-requires
-    same-length-3
-    same-length-4
-    returns-3
     same-length-5
     same-length-6
-    returns-4)
+    returns-4
+    same-length-7
+    same-length-8
+    returns-5)

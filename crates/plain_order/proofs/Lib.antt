@@ -1,0 +1,2 @@
+-- Plain lines of an MDF.
+pub mod Orders

@@ -1,0 +1,2 @@
+-- What is said of a line that is plain.
+pub mod Orders

@@ -1,0 +1,40 @@
+-- What each answer says of the text that it was read from: its end is the line's, and the judge makes of the line what it makes of the order alone. `No` says nothing. Assumes nothing.
+use mathlib.Core.Path.{_≡_}
+use mathlib.Core.List.{List, [], _∷_}
+use Prim.Native.Nat.{ℕ}
+use Rattle.terms.specs.Ascii.{Bytes}
+use Rattle.scan.specs.Reach.{reach, stopsBy}
+use Rattle.scan.specs.declared.Until.the-variants.{Byte}
+use Rattle.line.specs.Content.{Field}
+use Rattle.number.specs.Spelling.{SpellsInteger}
+use Rattle.grammar.specs.MissionStatements.{goal, limit}
+use Rattle.grammar.specs.PlaceRows.{mission-kind-row}
+use Rattle.statement.specs.declared.Order.{Order}
+use Rattle.statement.specs.declared.Order.the-variants as or
+use Rattle.mission_place.specs.declared.MissionPlace.{MissionPlace}
+use Rattle.mission_place.specs.Step.{numberKindOf}
+use Rattle.judge.specs.Judging.{line}
+use Rattle.mission_judge.specs.MdfLine.{judging}
+use Rattle.plain_parts.specs.Stands.{stretch}
+use Rattle.plain_fields.specs.LineStands.{Rest, stated}
+use Rattle.plain_order.specs.declared.PlainOrder as DO
+use Rattle.plain_order.specs.declared.PlainOrder.the-variants as PlainOrder
+
+-- fields that spell an order of a kind, of the two kinds that have no keyword
+pub data SpellsOrder : ℕ → List Field → Order → Type 0 where
+  one : {f : Field} {n : ℕ} → SpellsInteger (f .bytes) n → SpellsOrder (mission-kind-row goal) (f ∷ []) (or.Goal n)
+  three : {f g h : Field} {i a b : ℕ} → SpellsInteger (f .bytes) i → SpellsInteger (g .bytes) a → SpellsInteger (h .bytes) b → SpellsOrder (mission-kind-row limit) (f ∷ g ∷ h ∷ []) (or.Limit i a b)
+
+-- from a place up to the line's end
+abbrev pub OrderStands : Bytes → ℕ → ℕ → DO.PlainOrder → Type 0
+OrderStands s from kind (PlainOrder.Is o stop) = (fields : List Field) × SpellsOrder kind fields o × Rest s from stop fields
+OrderStands s from kind PlainOrder.No = Unit {0}
+
+-- the line that starts at a place ends at another; where a kind is due it gets what the order of that kind gets alone, with every table
+pub record LineGets (s : Bytes) (from stop kind : ℕ) (o : Order) : Type 0 where
+  pub ends : stop ≡ reach (stopsBy (Byte 10)) s from
+  pub gets : (table : List (List ℕ)) (p : MissionPlace) → numberKindOf p ≡ kind → line (judging table) (stretch s from stop) from p ≡ stated (judging table) kind o p
+
+abbrev pub PlainStands : Bytes → ℕ → ℕ → DO.PlainOrder → Type 0
+PlainStands s from kind (PlainOrder.Is o stop) = LineGets s from stop kind o
+PlainStands s from kind PlainOrder.No = Unit {0}
