@@ -42,10 +42,6 @@ numberOf n = number-read (checkpointNumberOf n)
 unfoldable pub sideOf : ℕ → ℕ
 sideOf b = boundaryRow (boundary b)
 
--- one more, where the kind is the one that is counted
-abbrev pub counted : ℕ → ℕ → ℕ → ℕ
-counted n kind column = pick (eqb kind column) (suc n) n
-
 -- ## Rows of open parts
 abbrev pub named : ℕ → ℕ → Stretch
 named start len = record { start = start; length = len }

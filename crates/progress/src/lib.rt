@@ -22,26 +22,13 @@ use units::CheckpointNumberRead;
 use units::Feet;
 use units::FeetRead;
 ghost use mathlib.Core.Path.{_≡_};
-ghost use Prim.Native.Nat.{pred, _<_};
+ghost use Prim.Native.Nat.{suc, pred, _<_};
 ghost use lib.Dec.{leb};
 ghost use Rattle.grammar.specs.Tables.{first-spot};
-ghost use Rattle.progress.specs.After.{named, noName, segmentRow, laneRow, zoneRow, spotRow, noSegment, noLane, noZone, noSpot, noProgress, total, widthOf, numberOf, sideOf, counted, afterOf, afterWithin};
+ghost use Rattle.units.specs.Made.{missingFeet};
+ghost use Rattle.progress.specs.After.{named, noName, fileRow, segmentRow, laneRow, zoneRow, spotRow, noSegment, noLane, noZone, noSpot, noProgress, total, widthOf, numberOf, sideOf, next-point, with-segment, with-lane, with-zone, with-spot, one-checkpoint, one-stop, one-exit, points-at, begun, afterOf, afterWithin};
 ghost use Rattle.progress.specs.Given.{pointOf, rowOf};
-
-// The columns of the kinds that give a row to a table, as `Statement::kind` tells them.
-const END_SEGMENT: u8 = 8;
-
-const CHECKPOINT: u8 = 14;
-
-const STOP: u8 = 15;
-
-const EXIT: u8 = 16;
-
-const END_LANE: u8 = 17;
-
-const END_ZONE: u8 = 21;
-
-const END_SPOT: u8 = 27;
+ghost use Rattle.statement.specs.declared.Statement.the-variants as st;
 
 // The number of rows from which on nothing more is counted. No text that is accepted has so many.
 const FULL: u32 = 4294967295;
@@ -115,14 +102,6 @@ fn side(boundary: u8) -> u8
     }
 }
 
-// One more where the statement is of the kind that gives a row.
-fn count(n: u32, kind: u8, column: u8) -> u32
-    requires { ⌜ n < 4294967295 ⌝ }
-    ensures { λ r. ⌜ r ≡ counted n kind column ⌝ }
-{
-    if kind == column { n + 1 } else { n }
-}
-
 // A zone without spots has 0 for its first spot.
 fn spots_from(spots: u32, n: u32) -> u32
     ensures { λ r. ⌜ r ≡ first-spot spots n ⌝ }
@@ -150,6 +129,16 @@ fn no_name() -> Stretch
     ensures { λ r. ⌜ r ≡ noName ⌝ }
 {
     named(0, 0)
+}
+
+fn file_row(name: Stretch, version: Stretch, date: Stretch) -> FileRow
+    ensures { λ r. ⌜ r ≡ fileRow name version date ⌝ }
+{
+    FileRow {
+        name: name,
+        version: version,
+        date: date,
+    }
 }
 
 fn segment_row(first: u32, lanes: u32, name: Stretch) -> SegmentRow
@@ -265,27 +254,293 @@ impl Progress {
         FULL as usize <= lines + self.first as usize + self.within as usize
     }
 
+    // By the statement's kind, each changing nothing but what its statement says: so the caller's own counts are changed where they stand.
     fn onward(self, s: Statement) -> Progress
         requires { ⌜ total self < 4294967295 ⌝ }
         ensures { λ r. ⌜ r ≡ afterOf s self ⌝ }
     {
-        let kind = s.kind();
-        Progress {
-            segments: count(self.segments, kind, END_SEGMENT),
-            lanes: count(self.lanes, kind, END_LANE),
-            zones: count(self.zones, kind, END_ZONE),
-            spots: count(self.spots, kind, END_SPOT),
-            checkpoints: count(self.checkpoints, kind, CHECKPOINT),
-            stops: count(self.stops, kind, STOP),
-            exits: count(self.exits, kind, EXIT),
-            first: self.first_after(s),
-            within: self.within_after(s),
-            file: self.file_after(s),
-            segment: self.segment_after(s),
-            lane: self.lane_after(s),
-            zone: self.zone_after(s),
-            spot: self.spot_after(s),
+        match s {
+            Statement::RndfName(a, l) => self.file_named(a, l),
+            Statement::FormatVersion(a, l) => self.version_told(a, l),
+            Statement::CreationDate(a, l) => self.date_told(a, l),
+            Statement::Segment(_) => self.segment_begun(),
+            Statement::NumLanes(n) => self.lanes_told(n),
+            Statement::SegmentName(a, l) => self.segment_named(a, l),
+            Statement::EndSegment => self.segment_ended(),
+            Statement::Lane(_, _) => self.lane_begun(),
+            Statement::NumWaypoints(n) => self.waypoints_told(n),
+            Statement::LaneWidth(n) => self.lane_wide(n),
+            Statement::LeftBoundary(b) => self.left_told(b),
+            Statement::RightBoundary(b) => self.right_told(b),
+            Statement::Checkpoint(_, _) => self.one_checkpoint(),
+            Statement::Stop(_) => self.one_stop(),
+            Statement::Exit(_, _) => self.one_exit(),
+            Statement::EndLane => self.lane_ended(),
+            Statement::Zone(_) => self.zone_begun(),
+            Statement::NumSpots(n) => self.spots_told(n),
+            Statement::ZoneName(a, l) => self.zone_named(a, l),
+            Statement::EndZone => self.zone_ended(),
+            Statement::Perimeter(_, _) => self.part_begun(),
+            Statement::NumPerimeterpoints(n) => self.perimeterpoints_told(n),
+            Statement::Spot(_, _) => self.spot_begun(),
+            Statement::SpotWidth(n) => self.spot_wide(n),
+            Statement::EndSpot => self.spot_ended(),
+            Statement::Point(_, _, _) => self.one_point(),
+            _ => self,
         }
+    }
+
+    fn file_named(mut self, start: u32, length: u32) -> Progress
+        ensures { λ r. ⌜ r ≡ afterOf (st.RndfName start length) self ⌝ }
+    {
+        let file = self.file;
+        let version = file.version;
+        let date = file.date;
+        let named = file_row(named(start, length), version, date);
+        self.file = named;
+        self
+    }
+
+    fn version_told(mut self, start: u32, length: u32) -> Progress
+        ensures { λ r. ⌜ r ≡ afterOf (st.FormatVersion start length) self ⌝ }
+    {
+        let file = self.file;
+        let name = file.name;
+        let date = file.date;
+        let told = file_row(name, named(start, length), date);
+        self.file = told;
+        self
+    }
+
+    fn date_told(mut self, start: u32, length: u32) -> Progress
+        ensures { λ r. ⌜ r ≡ afterOf (st.CreationDate start length) self ⌝ }
+    {
+        let file = self.file;
+        let name = file.name;
+        let version = file.version;
+        let told = file_row(name, version, named(start, length));
+        self.file = told;
+        self
+    }
+
+    // A segment's lanes follow those of the segment before.
+    fn segment_begun(mut self) -> Progress
+        ensures { λ r. ⌜ r ≡ with-segment (segmentRow (self .lanes) 0 noName) self ⌝ }
+    {
+        let segment = segment_row(self.lanes, 0, no_name());
+        self.segment = segment;
+        self
+    }
+
+    fn lanes_told(mut self, n: u32) -> Progress
+        ensures { λ r. ⌜ r ≡ afterOf (st.NumLanes n) self ⌝ }
+    {
+        self.segment.lanes = n;
+        self
+    }
+
+    fn segment_named(mut self, start: u32, length: u32) -> Progress
+        ensures { λ r. ⌜ r ≡ afterOf (st.SegmentName start length) self ⌝ }
+    {
+        let segment = segment_row(
+            self.segment.first_lane,
+            self.segment.lanes,
+            named(start, length),
+        );
+        self.segment = segment;
+        self
+    }
+
+    fn segment_ended(mut self) -> Progress
+        requires { ⌜ total self < 4294967295 ⌝ }
+        ensures { λ r. ⌜ r ≡ afterOf st.EndSegment self ⌝ }
+    {
+        let segment = no_segment();
+        self.segments += 1;
+        self.segment = segment;
+        self
+    }
+
+    // The points of a lane, perimeter or spot begin behind those of the part before.
+    fn part_begun(mut self) -> Progress
+        requires { ⌜ total self < 4294967295 ⌝ }
+        ensures { λ r. ⌜ r ≡ begun self ⌝ }
+    {
+        self.first += self.within;
+        self.within = 0;
+        self
+    }
+
+    fn lane_begun(mut self) -> Progress
+        requires { ⌜ total self < 4294967295 ⌝ }
+        ensures { λ r. ⌜ r ≡ with-lane (laneRow (next-point self) 0 missingFeet 0 0) (begun self) ⌝ }
+    {
+        let first = self.first + self.within;
+        let lane = lane_row(first, 0, Feet::missing(), 0, 0);
+        self.first = first;
+        self.within = 0;
+        self.lane = lane;
+        self
+    }
+
+    fn waypoints_told(mut self, n: u32) -> Progress
+        ensures { λ r. ⌜ r ≡ afterOf (st.NumWaypoints n) self ⌝ }
+    {
+        self.lane.points = n;
+        self
+    }
+
+    fn lane_wide(mut self, n: u32) -> Progress
+        ensures { λ r. ⌜ r ≡ afterOf (st.LaneWidth n) self ⌝ }
+    {
+        let lane = self.lane;
+        let wide = lane_row(
+            lane.first_point,
+            lane.points,
+            feet(n),
+            lane.left,
+            lane.right,
+        );
+        self.lane = wide;
+        self
+    }
+
+    fn left_told(mut self, b: u8) -> Progress
+        ensures { λ r. ⌜ r ≡ afterOf (st.LeftBoundary b) self ⌝ }
+    {
+        let left = side(b);
+        self.lane.left = left;
+        self
+    }
+
+    fn right_told(mut self, b: u8) -> Progress
+        ensures { λ r. ⌜ r ≡ afterOf (st.RightBoundary b) self ⌝ }
+    {
+        let right = side(b);
+        self.lane.right = right;
+        self
+    }
+
+    fn one_checkpoint(mut self) -> Progress
+        requires { ⌜ total self < 4294967295 ⌝ }
+        ensures { λ r. ⌜ r ≡ one-checkpoint self ⌝ }
+    {
+        self.checkpoints += 1;
+        self
+    }
+
+    fn one_stop(mut self) -> Progress
+        requires { ⌜ total self < 4294967295 ⌝ }
+        ensures { λ r. ⌜ r ≡ one-stop self ⌝ }
+    {
+        self.stops += 1;
+        self
+    }
+
+    fn one_exit(mut self) -> Progress
+        requires { ⌜ total self < 4294967295 ⌝ }
+        ensures { λ r. ⌜ r ≡ one-exit self ⌝ }
+    {
+        self.exits += 1;
+        self
+    }
+
+    fn lane_ended(mut self) -> Progress
+        requires { ⌜ total self < 4294967295 ⌝ }
+        ensures { λ r. ⌜ r ≡ afterOf st.EndLane self ⌝ }
+    {
+        let lane = no_lane();
+        self.lanes += 1;
+        self.lane = lane;
+        self
+    }
+
+    fn zone_begun(mut self) -> Progress
+        requires { ⌜ total self < 4294967295 ⌝ }
+        ensures { λ r. ⌜ r ≡ with-zone (zoneRow (next-point self) 0 0 0 noName) self ⌝ }
+    {
+        let zone = zone_row(self.first + self.within, 0, 0, 0, no_name());
+        self.zone = zone;
+        self
+    }
+
+    fn spots_told(mut self, n: u32) -> Progress
+        ensures { λ r. ⌜ r ≡ afterOf (st.NumSpots n) self ⌝ }
+    {
+        let first = spots_from(self.spots, n);
+        self.zone.first_spot = first;
+        self.zone.spots = n;
+        self
+    }
+
+    fn zone_named(mut self, start: u32, length: u32) -> Progress
+        ensures { λ r. ⌜ r ≡ afterOf (st.ZoneName start length) self ⌝ }
+    {
+        let zone = self.zone;
+        let named = zone_row(
+            zone.first_point,
+            zone.points,
+            zone.first_spot,
+            zone.spots,
+            named(start, length),
+        );
+        self.zone = named;
+        self
+    }
+
+    fn zone_ended(mut self) -> Progress
+        requires { ⌜ total self < 4294967295 ⌝ }
+        ensures { λ r. ⌜ r ≡ afterOf st.EndZone self ⌝ }
+    {
+        let zone = no_zone();
+        self.zones += 1;
+        self.zone = zone;
+        self
+    }
+
+    fn perimeterpoints_told(mut self, n: u32) -> Progress
+        ensures { λ r. ⌜ r ≡ afterOf (st.NumPerimeterpoints n) self ⌝ }
+    {
+        self.zone.points = n;
+        self
+    }
+
+    fn spot_begun(mut self) -> Progress
+        requires { ⌜ total self < 4294967295 ⌝ }
+        ensures { λ r. ⌜ r ≡ with-spot (spotRow (next-point self) missingFeet) (begun self) ⌝ }
+    {
+        let first = self.first + self.within;
+        let spot = spot_row(first, Feet::missing());
+        self.first = first;
+        self.within = 0;
+        self.spot = spot;
+        self
+    }
+
+    fn spot_wide(mut self, n: u32) -> Progress
+        ensures { λ r. ⌜ r ≡ afterOf (st.SpotWidth n) self ⌝ }
+    {
+        let spot = spot_row(self.spot.first_point, feet(n));
+        self.spot = spot;
+        self
+    }
+
+    fn spot_ended(mut self) -> Progress
+        requires { ⌜ total self < 4294967295 ⌝ }
+        ensures { λ r. ⌜ r ≡ afterOf st.EndSpot self ⌝ }
+    {
+        let spot = no_spot();
+        self.spots += 1;
+        self.spot = spot;
+        self
+    }
+
+    fn one_point(mut self) -> Progress
+        requires { ⌜ total self < 4294967295 ⌝ }
+        ensures { λ r. ⌜ r ≡ points-at (self .first) (suc (self .within)) self ⌝ }
+    {
+        self.within += 1;
+        self
     }
 
     // The row that a statement gives, where the statement's line starts at `start`.
@@ -325,164 +580,5 @@ impl Progress {
         ensures { λ r. ⌜ r ≡ pointOf self z ⌝ }
     {
         in_word(self.first as usize + self.within as usize + rows_behind(z) as usize)
-    }
-
-    // The points of a lane, perimeter or spot begin behind those of the part before.
-    fn first_after(self, s: Statement) -> u32
-        requires { ⌜ total self < 4294967295 ⌝ }
-        ensures { λ r. ⌜ r ≡ afterOf s self .first ⌝ }
-    {
-        match s {
-            Statement::Lane(_, _) => self.first + self.within,
-            Statement::Perimeter(_, _) => self.first + self.within,
-            Statement::Spot(_, _) => self.first + self.within,
-            _ => self.first,
-        }
-    }
-
-    fn within_after(self, s: Statement) -> u32
-        requires { ⌜ total self < 4294967295 ⌝ }
-        ensures { λ r. ⌜ r ≡ afterOf s self .within ⌝ }
-    {
-        match s {
-            Statement::Lane(_, _) => 0,
-            Statement::Perimeter(_, _) => 0,
-            Statement::Spot(_, _) => 0,
-            Statement::Point(_, _, _) => self.within + 1,
-            _ => self.within,
-        }
-    }
-
-    fn file_after(self, s: Statement) -> FileRow
-        ensures { λ r. ⌜ r ≡ afterOf s self .file ⌝ }
-    {
-        let file = self.file;
-        let name = file.name;
-        let version = file.version;
-        let date = file.date;
-        match s {
-            Statement::RndfName(a, l) => FileRow {
-                name: named(a, l),
-                version: version,
-                date: date,
-            },
-            Statement::FormatVersion(a, l) => FileRow {
-                name: name,
-                version: named(a, l),
-                date: date,
-            },
-            Statement::CreationDate(a, l) => FileRow {
-                name: name,
-                version: version,
-                date: named(a, l),
-            },
-            _ => file,
-        }
-    }
-
-    fn segment_after(self, s: Statement) -> SegmentRow
-        ensures { λ r. ⌜ r ≡ afterOf s self .segment ⌝ }
-    {
-        let segment = self.segment;
-        let name = segment.name;
-        match s {
-            Statement::Segment(_) => segment_row(self.lanes, 0, no_name()),
-            Statement::NumLanes(n) => segment_row(segment.first_lane, n, name),
-            Statement::SegmentName(a, l) => segment_row(
-                segment.first_lane,
-                segment.lanes,
-                named(a, l),
-            ),
-            Statement::EndSegment => no_segment(),
-            _ => segment,
-        }
-    }
-
-    fn lane_after(self, s: Statement) -> LaneRow
-        requires { ⌜ total self < 4294967295 ⌝ }
-        ensures { λ r. ⌜ r ≡ afterOf s self .lane ⌝ }
-    {
-        let lane = self.lane;
-        let width = lane.width;
-        match s {
-            Statement::Lane(_, _) => lane_row(self.first + self.within, 0, Feet::missing(), 0, 0),
-            Statement::NumWaypoints(n) => lane_row(
-                lane.first_point,
-                n,
-                width,
-                lane.left,
-                lane.right,
-            ),
-            Statement::LaneWidth(n) => lane_row(
-                lane.first_point,
-                lane.points,
-                feet(n),
-                lane.left,
-                lane.right,
-            ),
-            Statement::LeftBoundary(b) => lane_row(
-                lane.first_point,
-                lane.points,
-                width,
-                side(b),
-                lane.right,
-            ),
-            Statement::RightBoundary(b) => lane_row(
-                lane.first_point,
-                lane.points,
-                width,
-                lane.left,
-                side(b),
-            ),
-            Statement::EndLane => no_lane(),
-            _ => lane,
-        }
-    }
-
-    fn zone_after(self, s: Statement) -> ZoneRow
-        requires { ⌜ total self < 4294967295 ⌝ }
-        ensures { λ r. ⌜ r ≡ afterOf s self .zone ⌝ }
-    {
-        let zone = self.zone;
-        let name = zone.name;
-        match s {
-            Statement::Zone(_) => zone_row(self.first + self.within, 0, 0, 0, no_name()),
-            Statement::NumSpots(n) => zone_row(
-                zone.first_point,
-                zone.points,
-                spots_from(self.spots, n),
-                n,
-                name,
-            ),
-            Statement::ZoneName(a, l) => zone_row(
-                zone.first_point,
-                zone.points,
-                zone.first_spot,
-                zone.spots,
-                named(a, l),
-            ),
-            Statement::NumPerimeterpoints(n) => zone_row(
-                zone.first_point,
-                n,
-                zone.first_spot,
-                zone.spots,
-                name,
-            ),
-            Statement::EndZone => no_zone(),
-            _ => zone,
-        }
-    }
-
-    fn spot_after(self, s: Statement) -> SpotRow
-        requires { ⌜ total self < 4294967295 ⌝ }
-        ensures { λ r. ⌜ r ≡ afterOf s self .spot ⌝ }
-    {
-        let spot = self.spot;
-        match s {
-            Statement::Spot(_, _) => spot_row(self.first + self.within, Feet::missing()),
-            Statement::SpotWidth(n) => spot_row(spot.first_point, feet(n)),
-            Statement::EndSpot => no_spot(),
-            _ => spot,
-        }
     }
 }
