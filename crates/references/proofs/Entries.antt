@@ -124,7 +124,7 @@ module _ (start : ℕ) (s : Bytes) (f g h : Field) (are : fieldsAt start s ≡ f
       let h-is : h ≡ fieldIn start s (fieldsIn s .c) = cc in
       ap (λ (f : Field). f .bytes) h-is
 
-  entry-third : entryIn s ≡ idFrom (tripleOf (h .bytes))
+  pub entry-third : entryIn s ≡ idFrom (tripleOf (h .bytes))
   unfolding entryIn
   entry-third = rw (eq-eqb (fieldsIn s .count) 3 three) (ap (λ (b : Bytes). idFrom (tripleOf b)) (sym third))
 

@@ -1,15 +1,18 @@
 // What is tested of the filled tables of an RNDF: every entry is declared (refusal 12). The answer is a row. (13, that no checkpoint number stands twice, is tested by `marks`; its law
 // over given rows is here.)
 // The entry of an exit has three numbers, for which its row has no room: while the tables are filled the row's second word holds where the exit's line
-// starts in the text. Here that line is cut again, and the row of the point that its entry names takes the place.
+// starts in the text. Here the entry is read of that line again, where it stands if the line is plain, else cut out, and the row of the point that the entry names takes the place.
 //
-// specs/: the same, executable, over the words of the tables. proofs/: Entries, the entry is the one that `text` reads of the line; Exits and Repeats,
+// specs/: the same, executable, over the words of the tables. proofs/: Entries, the entry is the one that `text` reads of the line; Plain, a plain line is not
+// read otherwise than one that is cut (specs/Plain: what is said of it); Exits and Repeats,
 // over the tables of given rows the answers are those of `fill`'s specs/FirstFaults.
 //
-// Rests on `marks` (which row is the first), `room` (a row's number in a word), `rows`, `read_rows`, `line`, `number`, `scan`, `statement`, `fill`, for its laws on `text`, and on what these rest on.
+// Rests on `marks` (which row is the first), `room` (a row's number in a word), `rows`, `read_rows`, `line`, `number`, `scan`, `statement`, `fill`, `plain_parts`, for its laws on `text` and
+// `plain_fields`, and on what these rest on.
 //
 // Settled: every contract here gives the answer by an executable function, and what a lent table holds by another, also where the answer is a row at fault: no second answer and no
 // second memory satisfies it. Contracts that give the answer by what it stands for (`found r`, `told r ..`) are settled by proofs/Settled.
+// Three are one-sided, `exit_word`, `entry_behind` and `plain_entry`: they say what an answer means, not when there is one. `entry_at`, which asks them, is settled.
 use line::Form;
 use line::fields_of;
 use line::form_of;
@@ -17,6 +20,11 @@ use line::trimmed;
 use marks::FirstRow;
 use number::Triple;
 use number::triple_of;
+use plain_parts::Reached;
+use plain_parts::TripleAt;
+use plain_parts::end_at;
+use plain_parts::gap_at;
+use plain_parts::triple_at;
 use read_rows::exit_at;
 use read_rows::lane_at;
 use read_rows::segment_at;
@@ -25,6 +33,7 @@ use room::in_word;
 use rows::ExitRow;
 use rows::store_exit;
 use scan::far_byte_from;
+use scan::not_separator_from;
 use statement::Id;
 ghost use mathlib.Core.Path.{_≡_};
 ghost use mathlib.Core.List.{[]};
@@ -33,6 +42,7 @@ ghost use Rattle.rows.specs.Read.{exitAt};
 ghost use Rattle.statement.specs.Meaning.{point-of};
 ghost use Rattle.fill.specs.Resolve as Resolve;
 ghost use Rattle.references.specs.Entry.{lineAt, idFrom, entryIn, entryWithin, entryOf};
+ghost use Rattle.references.specs.Plain.{WordStands, EntryStands, PlainEntry};
 ghost use Rattle.references.specs.Finding.{found, lookIn};
 ghost use Rattle.references.specs.Exits.{namedAt, done, tried, onward, withFound, told, resolvedFrom, leftFrom};
 
@@ -94,6 +104,80 @@ pub fn entry_of(line: &[u8]) -> Id
 {
     let e = trimmed(line);
     entry_within(&line[..e])
+}
+
+// ## The entry of a plain line
+// The entry of a plain line, as most are, is read where it stands in the text, which is quicker than to cut the line. `No` says nothing, and such a line is cut.
+// An entry, and where its line ends.
+enum EntryAt {
+    Is(Id, usize),
+    No,
+}
+
+// The word `exit` stands there.
+fn exit_word(s: &[u8], at: usize) -> bool
+    ensures { λ r. ⌜ WordStands (now (s .entry)) at r ⌝ }
+{
+    if at < s.len() {
+        if 4 <= s.len() - at {
+            if s[at] == b'e' {
+                if s[at + 1] == b'x' {
+                    if s[at + 2] == b'i' {
+                        return s[at + 3] == b't';
+                    }
+                }
+            }
+        }
+    }
+    false
+}
+
+// An exit's point and entry, then the line's end.
+fn entry_behind(s: &[u8], from: usize) -> EntryAt
+    ensures { λ r. ⌜ EntryStands (now (s .entry)) from r ⌝ }
+{
+    let TripleAt::Is(_, _, _, i) = triple_at(s, from) else {
+        return EntryAt::No;
+    };
+    let Reached::At(b) = gap_at(s, i) else {
+        return EntryAt::No;
+    };
+    let TripleAt::Is(x, y, z, e) = triple_at(s, b) else {
+        return EntryAt::No;
+    };
+    let Reached::At(stop) = end_at(s, e) else {
+        return EntryAt::No;
+    };
+    EntryAt::Is(Id { x, y, z }, stop)
+}
+
+// The entry of the exit whose line starts there.
+fn plain_entry(text: &[u8], start: usize) -> EntryAt
+    ensures { λ r. ⌜ PlainEntry (now (text .entry)) start r ⌝ }
+{
+    let at = not_separator_from(text, start);
+    if exit_word(text, at) {
+        let Reached::At(b) = gap_at(text, at + 4) else {
+            return EntryAt::No;
+        };
+        let EntryAt::Is(e, stop) = entry_behind(text, b) else {
+            return EntryAt::No;
+        };
+        if stop - start <= 512 {
+            return EntryAt::Is(e, stop);
+        }
+    }
+    EntryAt::No
+}
+
+// The entry that the line at a place names.
+fn entry_at(text: &[u8], start: usize) -> Id
+    ensures { λ r. ⌜ r ≡ entryOf (lineAt (now (text .entry)) start) ⌝ }
+{
+    match plain_entry(text, start) {
+        EntryAt::Is(e, _) => e,
+        EntryAt::No => entry_of(line_at(text, start)),
+    }
 }
 
 // ## The point that an entry names
@@ -176,7 +260,7 @@ fn named_at(
 ) -> Found
     ensures { λ r. ⌜ found r ≡ namedAt (now (text .entry)) (lookIn (now (segments .entry)) (now (lanes .entry)) (now (zones .entry))) «segment_count» start ⌝ }
 {
-    let e = entry_of(line_at(text, start));
+    let e = entry_at(text, start);
     resolve(segments, lanes, zones, segment_count, e)
 }
 
