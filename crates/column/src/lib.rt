@@ -1,20 +1,21 @@
-// The column of a refusal of an RNDF, found again once the text is refused: one more walk to the line, and then the field or byte at fault. A good text pays nothing.
-// What it finds is said, and shown to be the law's column, in `columns`.
+// The column of a refusal of an RNDF, found again once the text is refused: the place behind the lines before it, from the reading walk (`network`), and then the field or byte at fault.
+// A good text pays nothing, and no line is judged here. What it finds is said, and shown to be the law's column, in `columns`.
 //
-// proofs/Lines: one line of the walk.
+// specs/Before: the lines before the one that is wanted and the place behind them, executable. proofs/Lines: where that line starts; proofs/Places: the place there.
 //
-// Rests on `columns`, `column_parts`, `walk` and what they rest on.
+// Rests on `columns`, `column_parts`, `network` and what they rest on.
 use column_parts::bad_at;
 use column_parts::listed_at;
 use column_parts::start_of;
 use coordinate::Degrees;
 use coordinate::coordinate_of;
-use judge::Verdict;
-use judge::judge_line;
+use edition::Edition;
 use line::Fields;
 use line::fields_of;
 use line::trimmed;
 use made_out::fields_needed;
+use network::Walked;
+use network::walk_lines;
 use number::Triple;
 use number::triple_of;
 use place::Place;
@@ -25,14 +26,25 @@ use scan::two_from;
 use statement::Id;
 use statement::kinds;
 ghost use mathlib.Core.Path.{_≡_};
-ghost use Prim.Native.Nat.{_<_};
+ghost use Prim.Native.Nat.{_<_, _≤_};
 ghost use lib.IntN.{pos};
+ghost use lib.ListN.{length, take, drop};
+ghost use Rattle.grammar.specs.PlaceTable.{rndf-table};
+ghost use Rattle.line.specs.Lines.{linesOf};
 ghost use Rattle.line.specs.Forms.{fieldsIn, part};
 ghost use Rattle.statement.specs.declared.Statement.the-variants as st;
 ghost use Rattle.place.specs.Step.{permitsOf};
 ghost use Rattle.judge.specs.RndfLine.{rndfKind, judging};
 ghost use Rattle.columns.specs.Locating.{triedOf, knownField};
 ghost use Rattle.columns.specs.RndfColumns.{low-id, checkpointWrong, exitWrong, latitudeWrong, pointWrong, rndfWrong, rndfKindField, rndfFieldOf, rndfFieldsColumn, rndfContentColumn, rndfLineColumn, rndfColumnIn};
+ghost use Rattle.refusal.specs.Size.{most};
+ghost use Rattle.column.specs.Before.{bytesBefore, placeBehind, columnBehind};
+
+// A place of the grammar; none behind a line that is refused.
+enum Standing {
+    At(Place),
+    No,
+}
 
 // For 8 spellings alone count; for 9 the values that are permitted here.
 fn tried(number: u8, permitted: bool) -> bool
@@ -41,7 +53,7 @@ fn tried(number: u8, permitted: bool) -> bool
     if number == 8 { true } else { permitted }
 }
 
-// The tests of `place::permits`, one by one: were `Place::step` asked here too, the compiler would no longer do it inside the judge, and every line of a good text would pay for it.
+// The tests of `Place::tested`, one by one: were it asked here too, the compiler would no longer do it inside the reading walk, and every line of a good text would pay for it.
 // A checkpoint on this waypoint, with a number that is always permitted.
 fn marks(p: Place, i: Id) -> bool
     ensures { λ r. ⌜ r ≡ permitsOf p (st.Checkpoint i 1) ⌝ }
@@ -238,6 +250,70 @@ fn line_column(table: &[[u8; 30]; 27], s: &[u8], p: Place, number: u8) -> usize
     content_column(table, &s[..e], p, number)
 }
 
+// ## The line in the text
+
+// Where line `wanted` starts; behind the text where there is no such line.
+fn start_of_line(text: &[u8], wanted: u32) -> usize
+    requires { ⌜ length (now text) ≤ most ⌝ }
+    ensures { λ r. ⌜ r ≡ bytesBefore 1 wanted (linesOf (now (text .entry))) ⌝ }
+{
+    let mut from: usize = 0;
+    let mut line: u32 = 1;
+    while from < text.len() {
+        if line == wanted {
+            return from;
+        }
+        from = far_byte_from(text, from, 10) + 1;
+        line += 1;
+    }
+    from
+}
+
+// The place behind all lines of a text: the reading walk, with no room for a row. The table is `place_table::rndf_table()`.
+fn place_behind(table: &[[u8; 30]; 27], text: &[u8]) -> Standing
+    requires { ⌜ now table ≡ rndf-table ⌝ }
+    ensures { λ r. ⌜ r ≡ placeBehind (now (text .entry)) ⌝ }
+{
+    let mut segments: [u32; 0] = [0; 0];
+    let mut lanes: [u32; 0] = [0; 0];
+    let mut zones: [u32; 0] = [0; 0];
+    let mut spots: [u32; 0] = [0; 0];
+    let mut points: [i32; 0] = [0; 0];
+    let mut checkpoints: [u32; 0] = [0; 0];
+    let mut stops: [u32; 0] = [0; 0];
+    let mut exits: [u32; 0] = [0; 0];
+    let walked = walk_lines(
+        Edition::March2007,
+        table,
+        text,
+        &mut segments,
+        &mut lanes,
+        &mut zones,
+        &mut spots,
+        &mut points,
+        &mut checkpoints,
+        &mut stops,
+        &mut exits,
+    );
+    match walked {
+        Walked::Fault(_) => Standing::No,
+        Walked::Ended(place, _, _) => Standing::At(place),
+    }
+}
+
+// The column of the line that starts here.
+fn column_at(text: &[u8], from: usize, number: u8) -> usize
+    requires { ⌜ from < length (now text) ⌝ }
+    ensures { λ r. ⌜ r ≡ columnBehind number (placeBehind (take from (now (text .entry)))) (linesOf (drop from (now (text .entry)))) ⌝ }
+{
+    let table = rndf_table();
+    let Standing::At(place) = place_behind(&table, &text[..from]) else {
+        return 0;
+    };
+    let e = far_byte_from(text, from, 10);
+    line_column(&table, &text[from..e], place, number)
+}
+
 // The column of a line of an RNDF that is refused with this number; 0 where there is no such line, or the text is too long.
 pub fn rndf_column(text: &[u8], wanted: u32, number: u8) -> u32
     ensures { λ r. ⌜ r ≡ rndfColumnIn (now (text .entry)) wanted number ⌝ }
@@ -245,28 +321,10 @@ pub fn rndf_column(text: &[u8], wanted: u32, number: u8) -> u32
     if LONGEST_TEXT < text.len() {
         return 0;
     }
-    let table = rndf_table();
-    let mut place = Place::start();
-    let mut from: usize = 0;
-    let mut line: u32 = 1;
-    while from < text.len() {
-        let e = far_byte_from(text, from, 10);
-        if line == wanted {
-            let column = line_column(&table, &text[from..e], place, number);
-            return column as u32;
-        }
-        let v = judge_line(&table, &text[from..e], from, place);
-        match v {
-            Verdict::Blank => {}
-            Verdict::Said(_, q) => {
-                place = q;
-            }
-            Verdict::Bad(_) => {
-                return 0;
-            }
-        }
-        from = e + 1;
-        line += 1;
+    let from = start_of_line(text, wanted);
+    if from < text.len() {
+        column_at(text, from, number) as u32
+    } else {
+        0
     }
-    0
 }

@@ -1,4 +1,4 @@
--- What the older edition has: every statement but a boundary and a number of spots, whatever it says; and what a statement gets by whether an edition has it. Assumes nothing.
+-- What the older edition has: every statement but a boundary and a number of spots, whatever it says. Assumes nothing.
 use mathlib.Core.Path.{_≡_, refl, sym, ap, _∙_}
 use mathlib.Core.List.{List, [], _∷_}
 use mathlib.Core.Bool.{Bool, true, false}
@@ -15,10 +15,8 @@ use Rattle.statement.specs.declared.Statement.{Statement}
 use Rattle.statement.specs.declared.Statement.the-variants as st
 use Rattle.statement.specs.Meaning.{Stretch, boundary, meant}
 use Rattle.statement.proofs.Statement.{the-type}
-use Rattle.place.specs.declared.Place.{Place}
-use Rattle.judge.specs.declared.Verdict.the-variants as Verdict
 use Rattle.editions.specs.Bars.{too-few, bars}
-use Rattle.edition_judge.specs.EditionLine.{sideBars, spotsBar, barsOf, verdictIn}
+use Rattle.edition_judge.specs.EditionLine.{sideBars, spotsBar, barsOf}
 
 -- ## The arm `_`
 abbrev free-keys : List ℕ
@@ -76,13 +74,3 @@ pub spots-so : (n : ℕ) → spotsBar n ≡ too-few n
 unfolding spotsBar
 spots-so zero = refl
 spots-so (suc n) = rw (ne-eqb (suc n) 0 (λ q. omega arith)) refl
-
--- ## A statement that the present edition takes, in this one
-module _ (e : Edition) (s : Statement) (q : Place) where
-  pub kept : (n : ℕ) → n ≡ barsOf e s → n ≡ 0 → verdictIn e (Verdict.Said s q) ≡ Verdict.Said s q
-  unfolding verdictIn
-  kept n h z = rw (sym h ∙ z) refl
-
-  pub refused : (n : ℕ) → n ≡ barsOf e s → (n ≡ 0 → ⊥) → verdictIn e (Verdict.Said s q) ≡ Verdict.Bad n
-  unfolding verdictIn
-  refused n h z = rw (sym h, ne-eqb n 0 z) refl

@@ -13,8 +13,6 @@ use Rattle.place.specs.declared.Place.{Place}
 use Rattle.place.specs.Step.{cellOf, refusesBy, byCell}
 use Rattle.place.specs.Abstract.{seen}
 use Rattle.judge.specs.Judging.{Judging}
-use Rattle.judge.specs.declared.Verdict as DV
-use Rattle.judge.specs.declared.Verdict.the-variants as Verdict
 use Rattle.judge.specs.RndfLine.{rndfKind}
 use Rattle.editions.specs.Bars.{bars}
 
@@ -37,9 +35,3 @@ onlyHad e s (refuse n) = refuse n
 -- the judge of an edition
 abbrev pub judging-in : Edition → Judging
 judging-in e = record { St = Statement; Pl = Place; kinds = 30; kindOf = λ p w. rndfKind w; cell = cellOf rndf-table; refuses = λ p c. refusesBy (p .given) c; needs = λ k. needs-of (getD shapes k 0); made = λ s base f k. made-from (madeOf s base f k); steps = λ p c s. onlyHad e s (seen (byCell p s c)) }
-
--- what a line gets that gets this in the present edition
-unfoldable pub verdictIn : Edition → DV.Verdict → DV.Verdict
-verdictIn e (Verdict.Bad n) = Verdict.Bad n
-verdictIn e Verdict.Blank = Verdict.Blank
-verdictIn e (Verdict.Said s q) = pick (eqb (barsOf e s) 0) (Verdict.Said s q) (Verdict.Bad (barsOf e s))

@@ -1,7 +1,7 @@
 -- Executable: what a line of an RNDF gets, over the program's types. Assumes nothing.
 use mathlib.Core.List.{List}
-use Prim.Native.Nat.{ℕ, _+_}
-use lib.ListN.{length, getD}
+use Prim.Native.Nat.{ℕ}
+use lib.ListN.{getD}
 use lib.Dec.{ltb}
 use Rattle.terms.specs.Ascii.{Bytes}
 use Rattle.terms.specs.Words.{pick}
@@ -15,9 +15,7 @@ use Rattle.made_out.specs.Made.{shapes, needs-of, madeOf, made-from}
 use Rattle.place.specs.declared.Place.{Place}
 use Rattle.place.specs.Step.{cellOf, refusesBy, byCell}
 use Rattle.place.specs.Abstract.{seen}
-use Rattle.judge.specs.Judging.{Got, bad, blank, said, Judging, line}
-use Rattle.judge.specs.declared.Verdict.{Verdict}
-use Rattle.judge.specs.declared.Verdict.the-variants as Verdict
+use Rattle.judge.specs.Judging.{Judging}
 
 -- a point's line begins with a digit; 30 for a word that is no keyword
 unfoldable pub rndfKind : Bytes → ℕ
@@ -30,13 +28,3 @@ judging table = record { St = Statement; Pl = Place; kinds = 30; kindOf = λ p w
 -- with the table of an RNDF
 abbrev pub rndf-judging : Judging
 rndf-judging = judging rndf-table
-
--- as the program answers
-abbrev pub verdict : Got Statement Place → Verdict
-verdict (bad n) = Verdict.Bad n
-verdict blank = Verdict.Blank
-verdict (said s q) = Verdict.Said s q
-
--- a line that ends behind what 32 bits count gets 1, as a text that is too long does: no text that is walked has one
-unfoldable pub lineBy : List (List ℕ) → Bytes → ℕ → Place → Verdict
-lineBy table s base p = pick (ltb (base + length s) 4294967296) (verdict (line (judging table) s base p)) (Verdict.Bad 1)

@@ -1,4 +1,5 @@
 -- For the functions: a part that comes back in its place, one statement of the walk.
+pub mod Onward
 pub mod PartBack
 pub mod Steps
 -- A point stored in a part of its table.

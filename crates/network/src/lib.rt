@@ -1,14 +1,16 @@
 // A text of an RNDF read by an edition into lent tables in one walk over its lines: 1 where it is too long, the first fault of 2 to 10 with its line, or every row stored where there is
 // room for it, and how many there are of each table. Entries of exits are not looked up yet: where the exit's line starts stands for them (the crate `references`).
 //
-// specs/Storing: a row stored in the tables, executable. specs/Reading: the walk.
+// The walk keeps one place and one count of rows, and changes both where they stand: what a line says (`said_line`), whether its place takes it and where it leads (`place`) and what it
+// gives (`progress`) come one by one, for an answer that held a place would be copied whole for every line. It is the only walk by places that there is, since the compiler does in the loop what
+// is called from nowhere else: `column` has its place from here too, over no tables.
+//
+// specs/Storing: a row stored in the tables, executable. specs/Reading: the walk; specs/Reaching: up to where it stands at the end.
 // proofs/: the walk finds what `text` answers, and stores what `fill` gives (Gathered); of a text that spells a network, the words of its tables (Spelled).
 //
-// Rests on `refusal`, `walk`, `judge`, `edition_judge`, `progress`, `rows`, `fill` and what they rest on.
+// Rests on `refusal`, `walk`, `edition_judge`, `said_line`, `place`, `progress`, `rows`, `fill` and what they rest on.
 use edition::Edition;
 use edition_judge::barred;
-use judge::Verdict;
-use judge::judge_line;
 use place::Place;
 use place_table::rndf_table;
 use progress::Progress;
@@ -25,16 +27,26 @@ use rows::store_segment;
 use rows::store_spot;
 use rows::store_stop;
 use rows::store_zone;
-use scan::far_byte_from;
+use said_line::Line;
+use said_line::line_said;
+use statement::Statement;
 ghost use mathlib.Core.Path.{_≡_};
+ghost use Rattle.grammar.specs.PlaceTable.{rndf-table};
 ghost use Rattle.edition.specs.Editions.{inner};
 ghost use Rattle.progress.specs.After.{noProgress};
 ghost use Rattle.network.specs.Storing.{Memory, memory, storePart, stored};
 ghost use Rattle.network.specs.Reading.{told, filledIn};
+ghost use Rattle.network.specs.Reaching.{refusalOf, stood, reachedIn};
 
 pub enum Filled {
     Fault(Fault),
     Rows(Progress),
+}
+
+// The first fault; or the place behind all lines, what there is behind them, and the number of the line behind them.
+pub enum Walked {
+    Fault(Fault),
+    Ended(Place, Progress, u32),
 }
 
 // A point of the part whose first point is row `first`: the table from there on is lent to the point's writer, so that no row before it is touched.
@@ -75,7 +87,81 @@ fn store(
     }
 }
 
-// One walk over the lines of a text.
+// The number that a statement with the cell of its kind is refused with at a place by an edition, or 0.
+fn refused(edition: Edition, p: Place, cell: u8, s: Statement) -> u8
+    ensures { λ r. ⌜ r ≡ refusalOf (inner edition) p cell s ⌝ }
+{
+    let by_kind = p.refuses(cell);
+    if by_kind != 0 {
+        return by_kind;
+    }
+    let by_value = p.tested(cell, s);
+    if by_value != 0 {
+        return by_value;
+    }
+    barred(edition, s)
+}
+
+// One walk over the lines of a text. The table is `place_table::rndf_table()`, lent so that it does not lie on the stack below the walk.
+pub fn walk_lines(
+    edition: Edition,
+    table: &[[u8; 30]; 27],
+    text: &[u8],
+    segments: &mut [u32],
+    lanes: &mut [u32],
+    zones: &mut [u32],
+    spots: &mut [u32],
+    points: &mut [i32],
+    checkpoints: &mut [u32],
+    stops: &mut [u32],
+    exits: &mut [u32],
+) -> Walked
+    ensures { λ r. ⌜ (now (table .entry) ≡ rndf-table → stood r (λ p. memory p (now (segments .exit)) (now (lanes .exit)) (now (zones .exit)) (now (spots .exit)) (now (points .exit)) (now (checkpoints .exit)) (now (stops .exit)) (now (exits .exit))) ≡ reachedIn (inner edition) (now (text .entry)) (memory noProgress (now (segments .entry)) (now (lanes .entry)) (now (zones .entry)) (now (spots .entry)) (now (points .entry)) (now (checkpoints .entry)) (now (stops .entry)) (now (exits .entry)))) ⌝ }
+{
+    if LONGEST_TEXT < text.len() {
+        return Walked::Fault(Fault { line: 0, number: 1 });
+    }
+    let mut place = Place::start();
+    let mut gained = Progress::none();
+    let mut from: usize = 0;
+    let mut line: u32 = 1;
+    while from < text.len() {
+        match line_said(table, text, from, place) {
+            Line::Blank(e) => {
+                from = e + 1;
+            }
+            Line::Said(kind, s, e) => {
+                let cell = place.cell(table, kind);
+                let n = refused(edition, place, cell, s);
+                if n != 0 {
+                    return Walked::Fault(Fault { line, number: n });
+                }
+                place = place.moved(cell, s);
+                store(
+                    segments,
+                    lanes,
+                    zones,
+                    spots,
+                    points,
+                    checkpoints,
+                    stops,
+                    exits,
+                    gained,
+                    gained.row(s, from as u32),
+                );
+                gained = gained.after(s);
+                from = e + 1;
+            }
+            Line::Bad(n) => {
+                return Walked::Fault(Fault { line, number: n });
+            }
+        }
+        line += 1;
+    }
+    Walked::Ended(place, gained, line)
+}
+
+// The whole text: 10 where it ends before `end_file`.
 pub fn fill_lines(
     edition: Edition,
     text: &[u8],
@@ -90,49 +176,28 @@ pub fn fill_lines(
 ) -> Filled
     ensures { λ r. ⌜ told r (λ p. memory p (now (segments .exit)) (now (lanes .exit)) (now (zones .exit)) (now (spots .exit)) (now (points .exit)) (now (checkpoints .exit)) (now (stops .exit)) (now (exits .exit))) ≡ filledIn (inner edition) (now (text .entry)) (memory noProgress (now (segments .entry)) (now (lanes .entry)) (now (zones .entry)) (now (spots .entry)) (now (points .entry)) (now (checkpoints .entry)) (now (stops .entry)) (now (exits .entry))) ⌝ }
 {
-    if LONGEST_TEXT < text.len() {
-        return Filled::Fault(Fault { line: 0, number: 1 });
-    }
     let table = rndf_table();
-    let mut place = Place::start();
-    let mut gained = Progress::none();
-    let mut from: usize = 0;
-    let mut line: u32 = 1;
-    while from < text.len() {
-        let e = far_byte_from(text, from, 10);
-        let v = judge_line(&table, &text[from..e], from, place);
-        match v {
-            Verdict::Blank => {}
-            Verdict::Said(s, q) => {
-                let n = barred(edition, s);
-                if n != 0 {
-                    return Filled::Fault(Fault { line, number: n });
-                }
-                store(
-                    segments,
-                    lanes,
-                    zones,
-                    spots,
-                    points,
-                    checkpoints,
-                    stops,
-                    exits,
-                    gained,
-                    gained.row(s, from as u32),
-                );
-                place = q;
-                gained = gained.after(s);
-            }
-            Verdict::Bad(n) => {
-                return Filled::Fault(Fault { line, number: n });
+    let walked = walk_lines(
+        edition,
+        &table,
+        text,
+        segments,
+        lanes,
+        zones,
+        spots,
+        points,
+        checkpoints,
+        stops,
+        exits,
+    );
+    match walked {
+        Walked::Fault(fault) => Filled::Fault(fault),
+        Walked::Ended(place, gained, line) => {
+            if place.is_over() {
+                Filled::Rows(gained)
+            } else {
+                Filled::Fault(Fault { line, number: 10 })
             }
         }
-        from = e + 1;
-        line += 1;
-    }
-    if place.is_over() {
-        Filled::Rows(gained)
-    } else {
-        Filled::Fault(Fault { line, number: 10 })
     }
 }

@@ -205,6 +205,15 @@ byCell p s c = pick (ltb c 128) (dueOf p s c) (pick (ltb c 255) (optionOf p s (c
 unfoldable pub stepOf : Place → Statement → Outcome
 stepOf p s = byCell p s (cell rndf-table (indexOf p) (kindOf s))
 
+-- ## The same in two parts, of a statement whose kind may stand: what refuses it, and the place behind it
+-- 01: 9 "value not permitted here", behind it L8: 25; 0 where the statement is taken
+unfoldable pub testedOf : Place → Statement → (cell : ℕ) → ℕ
+testedOf p s c = pick (permitsOf p s) (pick (ltb c 128) (pick (readyOf p) 0 25) 0) 9
+
+-- by the cell the due statement, or an option
+unfoldable pub movedOf : Place → Statement → (cell : ℕ) → Place
+movedOf p s c = pick (ltb c 128) (afterOf p s c) (optedOf p (c - 128))
+
 -- by the kind alone: 5, 6, or 0 where it may stand
 unfoldable pub refusesBy : Given → ℕ → ℕ
 refusesBy g c = pick (ltb c 128) 0 (pick (ltb c 255) (pick (hasOf g (c - 128)) 6 0) 5)

@@ -1,13 +1,16 @@
 // Where a reader of an RNDF stands: the open part with its identifiers, what is due and what is still owed, and one step, from a statement to the next place or a refusal.
 // Which statement may stand where is one table of places by statements, which is lent: `cell` looks a kind up in it, once for a line. By that cell `refuses` tells
-// 5 and 6, before a field is read, and `step` tells 5, 6, 9 and 25. Every number of a statement is handled, whatever its size, and every place, also one that no run reaches: nothing here requires anything.
+// 5 and 6, before a field is read, `tested` then 9 and 25, and `moved` gives the next place. Every number of a statement is handled, whatever its size, and every place, also one that no run reaches: nothing here requires anything.
 //
-// specs/Step: the same, executable, which the contracts cite. proofs/: it is the grammar's machine, step by step (Theorems).
+// Two methods, not one that answers a place or a number: the walk keeps one place and moves it where it stands, while an answer that holds a place would be copied whole for every line.
+// Both are asked in one place of the program (`network`), so that the compiler does them there.
+//
+// specs/Step: the same, executable, which the contracts cite. proofs/: both together are the step (Stepped), and it is the grammar's machine, step by step (Theorems).
 //
 // Rests on `terms`, `grammar`, `statement`, `permitted` and `place_table`.
 ghost use mathlib.Core.Path.{_≡_};
 ghost use Rattle.permitted.specs.Owed.{owing};
-ghost use Rattle.place.specs.Step.{majorOf, minorOf, firstMarkedOf, aroundOf, exitsOf, permitsOf, placed, firstPlace, openedOf, passedOf, leftOf, afterOf, indexOf, hasOf, markedOf, optedOf, dueOf, optionOf, cellOf, byCell, refusesBy, overOf, readyOf};
+ghost use Rattle.place.specs.Step.{majorOf, minorOf, firstMarkedOf, aroundOf, exitsOf, permitsOf, placed, firstPlace, openedOf, passedOf, leftOf, afterOf, indexOf, hasOf, markedOf, optedOf, cellOf, refusesBy, overOf, readyOf, testedOf, movedOf};
 ghost use Rattle.place_table.specs.RndfRows.{segment-due, zone-due, end-file-due};
 use permitted;
 use place_table;
@@ -45,6 +48,7 @@ pub struct Place {
     pub given: Given,
 }
 
+// What a step comes to, in one for the definitions (specs/Step); `tested` and `moved` tell it in two.
 pub enum Outcome {
     Next(Place),
     Refused(u8),
@@ -359,15 +363,13 @@ impl Place {
         }
     }
 
+    // Was the option of this slot given? Not by a `match`: the compiler would keep the three in memory, to look one up.
     fn has(self, slot: u8) -> bool
         ensures { λ r. ⌜ r ≡ hasOf (self .given) slot ⌝ }
     {
-        match slot {
-            1 => self.given.first,
-            2 => self.given.second,
-            3 => self.given.third,
-            _ => false,
-        }
+        ((slot == 1) & self.given.first)
+            | ((slot == 2) & self.given.second)
+            | ((slot == 3) & self.given.third)
     }
 
     fn opted(self, slot: u8) -> Place
@@ -398,35 +400,6 @@ impl Place {
         }
     }
 
-    fn due_step(self, s: Statement, row: u8, fine: bool) -> Outcome
-        requires { ⌜ fine ≡ permitsOf self s ⌝ }
-        ensures { λ r. ⌜ r ≡ dueOf self s row ⌝ }
-    {
-        if fine {
-            if self.ready() {
-                Outcome::Next(self.after(s, row))
-            } else {
-                Outcome::Refused(25)
-            }
-        } else {
-            Outcome::Refused(9)
-        }
-    }
-
-    fn option_step(self, s: Statement, slot: u8, fine: bool) -> Outcome
-        requires { ⌜ fine ≡ permitsOf self s ⌝ }
-        ensures { λ r. ⌜ r ≡ optionOf self s slot ⌝ }
-    {
-        if self.has(slot) {
-            return Outcome::Refused(6);
-        }
-        if fine {
-            Outcome::Next(self.opted(slot))
-        } else {
-            Outcome::Refused(9)
-        }
-    }
-
     // The cell of a kind in the table that is lent; refused where there is no such kind.
     pub fn cell(self, table: &[[u8; 30]; 27], kind: u8) -> u8
         ensures { λ r. ⌜ r ≡ cellOf (now (table .entry)) self kind ⌝ }
@@ -452,19 +425,29 @@ impl Place {
         }
     }
 
-    // The place after a statement with the cell of its kind, or the refusal's number: 5, 6, 9 or 25. The values are tested in one place, so that the compiler
-    // can do it here.
-    pub fn step(self, cell: u8, s: Statement) -> Outcome
-        ensures { λ r. ⌜ r ≡ byCell self s cell ⌝ }
+    // 9 where a value is not permitted here, 25 where an option is still owed, else 0; of a statement whose kind may stand here.
+    pub fn tested(self, cell: u8, s: Statement) -> u8
+        ensures { λ r. ⌜ r ≡ testedOf self s cell ⌝ }
     {
-        let fine = self.permits(s);
-        if cell < place_table::OFTEN {
-            return self.due_step(s, cell, fine);
-        }
-        if cell < place_table::REFUSED {
-            self.option_step(s, cell - place_table::OFTEN, fine)
+        if self.permits(s) {
+            if cell < place_table::OFTEN {
+                if self.ready() { 0 } else { 25 }
+            } else {
+                0
+            }
         } else {
-            Outcome::Refused(5)
+            9
+        }
+    }
+
+    // The place behind a statement that is taken: the due one, or an option.
+    pub fn moved(self, cell: u8, s: Statement) -> Place
+        ensures { λ r. ⌜ r ≡ movedOf self s cell ⌝ }
+    {
+        if cell < place_table::OFTEN {
+            self.after(s, cell)
+        } else {
+            self.opted(cell - place_table::OFTEN)
         }
     }
 }

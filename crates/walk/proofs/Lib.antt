@@ -2,7 +2,6 @@ pub mod Speaking
 pub mod Walked
 pub mod Cutting
 pub mod SeenLaws
-pub mod RndfSteps
 pub mod MdfSteps
 pub mod RndfWalk
 pub mod MdfWalk

@@ -63,6 +63,3 @@ pub one-more : (b : Bool) (row line : ℕ) (c : Seen) → seenMore b row line c 
 unfolding seenMore
 one-more true row line c = omega arith
 one-more false row line c = omega arith
-
-pub grows : (b : Bool) (row line : ℕ) (c d : Seen) (n : ℕ) → d ≡ seenMore b row line c → c .count ≤ n → d .count ≤ n + 1
-grows b row line c d n e h = rw e (omega (arith, one-more b row line c))

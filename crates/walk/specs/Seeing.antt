@@ -5,7 +5,6 @@ use lib.Dec.{eqb}
 use Rattle.terms.specs.Words.{pick}
 use Rattle.walk.specs.declared.Seen.{Seen}
 use Rattle.walk.specs.Standing.{Where}
-use Rattle.walk.specs.Walking.{Found, fault, gathered}
 
 abbrev pub noneSeen : Seen
 noneSeen = record { count = 0; line = 0 }
@@ -20,8 +19,3 @@ moreSeen of-kind row line c = pick (eqb (c .count) 4294967295) c (seenMore of-ki
 -- a statement of a kind given by its column
 abbrev pub see : {St : Type 0} → (St → ℕ) → (kind row : ℕ) → Where → St → Seen → Seen
 see kind-of kind row w s c = seenMore (eqb (kind-of s) kind) row (w .line) c
-
--- 0 where the text has a fault
-abbrev pub line-seen : Found Seen → ℕ
-line-seen (fault i n) = 0
-line-seen (gathered c) = c .line

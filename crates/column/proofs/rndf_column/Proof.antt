@@ -1,167 +1,41 @@
 -- `column::rndf_column` meets its contract. Assumes nothing.
-use mathlib.Core.Path.{_≡_, refl, sym, ap, _∙_}
-use mathlib.Core.Logic.{⊎-elim}
-use Prim.Native.Nat.{ℕ, _+_, _-_, _≤_, _<_}
-use native.Mathlib.Omega.{arith}
-use lib.ListN.{length}
+use mathlib.Core.Path.{sym, _∙_}
+use lib.ListN.{take}
 use borrow.Author.Needs.{needs}
-use Rattle.scan.proofs.Reach.{reach-le}
-use Rattle.scan.specs.declared.Until.the-variants.{Byte}
-use Rattle.scan.specs.Reach.{reach, stopsBy}
-use Rattle.refusal.specs.Size.{most}
-use Rattle.refusal.proofs.Sized.{too-long, not-too-long}
+use Rattle.refusal.proofs.Sized.{too-long}
 use Rattle.columns.specs.RndfColumns.{rndfColumnIn}
-use Rattle.column.proofs.Lines.{rest, at-end, this-line, other-line, small}
+use Rattle.column.specs.Before.{placeBehind}
+use Rattle.column.proofs.Places.{column-there, no-line, small}
 use Rattle.column.proofs.rndf_column.Statement.{statement}
 use Rattle.column.proofs.rndf_column.Tie as tie
 
-abbrev Inv-loop : tie.InvT-loop
-Inv-loop text wanted number table place₀ from₀ line₀ place from line = (from ≤ length text + 1) × (line ≤ from + 1) × (rest text place from line wanted number ≡ rndfColumnIn text wanted number) × (length text ≤ most)
-
-abbrev μ-loop : tie.MeasureT-loop
-μ-loop text wanted number table place₀ from₀ line₀ place from line = length text + 1 - from
-
-returns : tie.Need-returns Inv-loop μ-loop
+returns : tie.Need-returns
 unfolding rndfColumnIn
 returns c = sym (too-long (c .before .before .args .text .now) _ _ (c .if1 .taken))
 
-rndf-table-requires : tie.Need-rndf-table-requires Inv-loop μ-loop
-rndf-table-requires c κs = search needs
+start-of-line-requires : tie.Need-start-of-line-requires
+start-of-line-requires c κs = search needs
 
-start-requires : tie.Need-start-requires Inv-loop μ-loop
-start-requires c κs = search needs
+column-at-requires : tie.Need-column-at-requires
+column-at-requires c κs = search needs
 
-loop-holds : tie.Need-loop-holds Inv-loop μ-loop
-unfolding rndfColumnIn
-loop-holds c = (omega arith, omega arith, rw (c .start .ensures) (sym (not-too-long (c .before .before .before .before .args .text .now) _ _ (omega arith))), omega arith)
-
-far-byte-from-requires : tie.Need-far-byte-from-requires Inv-loop μ-loop
-far-byte-from-requires c κs = search needs
-
-sub-line-column : tie.Need-sub-line-column Inv-loop μ-loop
-sub-line-column c = search needs
-
-part-line-column-start : tie.Need-part-line-column-start Inv-loop μ-loop
-part-line-column-start c = search needs
-
-part-line-column-end : tie.Need-part-line-column-end Inv-loop μ-loop
-part-line-column-end c =
-    let f = c .before .before in
-    let l = f .before .before in
-    let s = l .before .before .before .before .before .args .text .now in
-    omega (arith, f .far-byte-from .ensures, reach-le (stopsBy (Byte 10)) s (l .loop .from) (omega arith))
-
-line-column-requires : tie.Need-line-column-requires Inv-loop μ-loop
-line-column-requires c κs = search needs
-
-cast-result : tie.Need-cast-result Inv-loop μ-loop
+cast-result : tie.Need-cast-result
 cast-result c =
-    let f = c .before .before .before .before in
-    let l = f .before .before in
-    let A = l .before .before .before .before .before .args in
-    let h = small (l .before .before .rndf-table .result) (A .text .now) (l .loop .from) (f .far-byte-from .result) (omega arith) (f .far-byte-from .ensures) (l .loop .place) (A .number) (l .loop .inv .3) in
-    search (needs, c .line-column .ensures, h)
+    let A = c .before .before .before .before .before .args in
+    let from = c .before .before .start-of-line .result in
+    search (needs, c .column-at .ensures, small (A .text .now) from (c .before .if2 .taken) (c .before .before .before .if1 .left) (A .number) (placeBehind (take from (A .text .now))))
 
-returns-2 : tie.Need-returns-2 Inv-loop μ-loop
+returns-2 : tie.Need-returns-2
 returns-2 c =
-    let f = c .before .before .before .before in
-    let l = f .before .before in
-    let A = l .before .before .before .before .before .args in
-    let t = l .before .before .rndf-table in
-    c .line-column .ensures ∙ sym (this-line (t .result) (t .ensures) (A .text .now) (l .loop .from) (f .far-byte-from .result) (omega arith) (f .far-byte-from .ensures) (l .loop .place) (l .loop .line) (A .wanted) (A .number) (c .before .before .before .if2 .taken)) ∙ l .loop .inv .2
+    let A = c .before .before .before .before .before .args in
+    let f = c .before .before .start-of-line in
+    c .column-at .ensures ∙ column-there (A .text .now) (A .wanted) (A .number) (f .result) (c .before .before .before .if1 .left) (f .ensures)
 
-sub-judge-line : tie.Need-sub-judge-line Inv-loop μ-loop
-sub-judge-line c = search needs
-
-part-judge-line-start : tie.Need-part-judge-line-start Inv-loop μ-loop
-part-judge-line-start c = search needs
-
-part-judge-line-end : tie.Need-part-judge-line-end Inv-loop μ-loop
-part-judge-line-end c =
-    let f = c .before .before in
-    let l = f .before .before in
-    let s = l .before .before .before .before .before .args .text .now in
-    omega (arith, f .far-byte-from .ensures, reach-le (stopsBy (Byte 10)) s (l .loop .from) (omega arith))
-
-judge-line-requires : tie.Need-judge-line-requires Inv-loop μ-loop
-judge-line-requires c κs = search needs
-
-enum-told : tie.Need-enum-told Inv-loop μ-loop
-enum-told c = search needs
-
-enum-known-v : tie.Need-enum-known-v Inv-loop μ-loop
-enum-known-v c = search needs
-
-enum-told-2 : tie.Need-enum-told-2 Inv-loop μ-loop
-enum-told-2 c = search needs
-
-returns-3 : tie.Need-returns-3 Inv-loop μ-loop
+returns-3 : tie.Need-returns-3
 returns-3 c =
-    let j = c .before .before in
-    let f = j .before .before .before .before in
-    let l = f .before .before in
-    let A = l .before .before .before .before .before .args in
-    let t = l .before .before .rndf-table in
-    sym (rw (c .enum-told2 .given .1) at (other-line (t .result) (t .ensures) (A .text .now) (l .loop .from) (f .far-byte-from .result) (omega arith) (f .far-byte-from .ensures) (l .loop .place) (l .loop .line) (A .wanted) (A .number) (omega (arith, l .loop .inv .3)) (j .before .before .before .if2 .left) (j .judge-line .result) (j .judge-line .ensures))) ∙ l .loop .inv .2
-
-add-from : tie.Need-add-from Inv-loop μ-loop
-add-from c =
-    let f = c .before .before .before .before .before in
-    let l = f .before .before in
-    let s = l .before .before .before .before .before .args .text .now in
-    omega (arith, f .far-byte-from .ensures, reach-le (stopsBy (Byte 10)) s (l .loop .from) (omega arith))
-
-add-line : tie.Need-add-line Inv-loop μ-loop
-add-line c = search needs
-
-loop-less : tie.Need-loop-less Inv-loop μ-loop
-loop-less c = search needs
-
-loop-again : tie.Need-loop-again Inv-loop μ-loop
-loop-again c =
-    let j = c .before in
-    let f = j .before .before .before .before in
-    let l = f .before .before in
-    let A = l .before .before .before .before .before .args in
-    let t = l .before .before .rndf-table in
-    let k = reach-le (stopsBy (Byte 10)) (A .text .now) (l .loop .from) (omega arith) in
-    let e = f .far-byte-from .ensures in
-    let o = other-line (t .result) (t .ensures) (A .text .now) (l .loop .from) (f .far-byte-from .result) (omega arith) e (l .loop .place) (l .loop .line) (A .wanted) (A .number) (omega (arith, l .loop .inv .3)) (j .before .before .before .if2 .left) (j .judge-line .result) (j .judge-line .ensures) in
-    ⊎-elim (λ w. (omega arith, omega arith, rw (w .2) (sym (rw (w .1 .given .1) at o) ∙ l .loop .inv .2), l .loop .inv .3)) (λ w. (omega arith, omega arith, rw (w .3) (sym (rw (w .1 .given .1) at o) ∙ l .loop .inv .2), l .loop .inv .3)) (c .match .came)
-
-returns-4 : tie.Need-returns-4 Inv-loop μ-loop
-returns-4 c =
-    let l = c .before in
-    let A = l .before .before .before .before .before .args in
-    sym (at-end (A .text .now) (l .loop .from) (omega arith) (l .loop .place) (l .loop .line) (A .wanted) (A .number)) ∙ l .loop .inv .2
+    let A = c .before .before .before .before .args in
+    let f = c .before .start-of-line in
+    no-line (A .text .now) (A .wanted) (A .number) (f .result) (c .before .before .if1 .left) (f .ensures) (c .if2 .left)
 
 pub rndf-column-spec : {M : Type 1} → statement M
-rndf-column-spec =
-    tie.close
-    (tie.spec
-    Inv-loop
-    μ-loop
-    returns
-    rndf-table-requires
-    start-requires
-    loop-holds
-    far-byte-from-requires
-    sub-line-column
-    part-line-column-start
-    part-line-column-end
-    line-column-requires
-    cast-result
-    returns-2
-    sub-judge-line
-    part-judge-line-start
-    part-judge-line-end
-    judge-line-requires
-    enum-told
-    enum-known-v
-    enum-told-2
-    returns-3
-    add-from
-    add-line
-    loop-less
-    loop-again
-    returns-4)
+rndf-column-spec = tie.close (tie.spec returns start-of-line-requires column-at-requires cast-result returns-2 returns-3)

@@ -1,16 +1,11 @@
-use Rattle.judge.specs.RndfLine.{rndfKind, verdict, lineBy}
-use Rattle.judge.specs.Judging.{Got, taken, valued, ofKind, known, told, formed, content, line}
+use Rattle.judge.specs.RndfLine.{rndfKind}
 use borrow.Author.Tests.{eq-eqb, ne-eqb, lt-ltb, le-ltb}
-use lib.Seq.{length-take-le}
-use lib.ListN.{length, take, drop}
 use native.Mathlib.Omega.{arith}
 use Prim.Native.Nat.{ℕ, _+_, _-_, _≤_, _<_}
 use mathlib.Core.Path.{_≡_, refl, sym, ap, _∙_}
 use borrow.Author.Needs.{needs}
 use Rattle.judge.proofs.kind_of.Statement.{statement}
 use Rattle.judge.proofs.kind_of.Tie as tie
-use Rattle.judge.proofs.kind_of.Reads as reads
-use Rattle.judge.proofs.kind_of.Lts as lts
 use Rattle.word.proofs.begins_with_digit.Reads as begins-with-digit-reads
 use Rattle.word.proofs.rndf_keyword.Reads as rndf-keyword-reads
 

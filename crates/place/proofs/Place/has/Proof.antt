@@ -1,19 +1,10 @@
 -- `place::Place::has` meets its contract. Assumes nothing.
-use borrow.Author.Tests.{ne-eqb}
+use Rattle.place.proofs.Has.{slots}
 use Rattle.place.proofs.Place.has.Statement.{statement}
 use Rattle.place.proofs.Place.has.Tie as tie
 
 returns : tie.Need-returns
-returns c = rw (c .match .keys1)
-
-returns-2 : tie.Need-returns-2
-returns-2 c = rw (c .match .keys2)
-
-returns-3 : tie.Need-returns-3
-returns-3 c = rw (c .match .keys3)
-
-returns-4 : tie.Need-returns-4
-returns-4 c = rw (ne-eqb _ 1 (c .match .rest .0 .0 .1), ne-eqb _ 2 (c .match .rest .0 .1), ne-eqb _ 3 (c .match .rest .1))
+returns c = slots (c .before .before .before .args .slot) (c .before .before .before .args .self .given)
 
 pub has-spec : {M : Type 1} → statement M
-has-spec = tie.close (tie.spec returns returns-2 returns-3 returns-4)
+has-spec = tie.close (tie.spec returns)

@@ -1,0 +1,149 @@
+-- One line of the walk, as the program tells it, and the walk's end. Assumes nothing.
+use mathlib.Core.Path.{_≡_, refl, sym, ap, _∙_}
+use mathlib.Core.List.{List, [], _∷_}
+use mathlib.Core.Bool.{Bool, true, false}
+use Prim.Native.Nat.{ℕ, zero, suc, _+_, _-_, _≤_, _<_}
+use native.Mathlib.Omega.{arith}
+use mir.Syntax.{w32, w64}
+use mir.Val.{Fits}
+use lib.ListN.{length, drop}
+use lib.Dec.{eqb, ltb}
+use borrow.Author.Tests.{ne-eqb}
+use Rattle.terms.specs.Ascii.{Bytes}
+use Rattle.terms.specs.Words.{pick}
+use Rattle.scan.specs.Reach.{reach, stopsBy}
+use Rattle.scan.specs.declared.Until.the-variants.{Byte}
+use Rattle.scan.proofs.Reach.{reach-le, reach-from}
+use Rattle.line.specs.Lines.{linesOf}
+use Rattle.line.proofs.Cuts.{lines-at, next-start, lines-end}
+use Rattle.grammar.specs.Editions.{Edition}
+use Rattle.grammar.specs.PlaceTable.{rndf-table}
+use Rattle.statement.specs.declared.Statement.{Statement}
+use Rattle.place.specs.declared.Place.{Place}
+use Rattle.place.specs.declared.Outcome as DO
+use Rattle.place.specs.Abstract.{seen}
+use Rattle.place.specs.Step.{firstPlace, overOf, cellOf, refusesBy, byCell, testedOf, movedOf}
+use Rattle.place.proofs.Stepped.{outcome, stepped}
+use Rattle.judge.specs.Judging.{Got, bad, blank, said, taken, line}
+use Rattle.judge.specs.RndfLine.{judging}
+use Rattle.plain_parts.specs.Stands.{stretch}
+use Rattle.plain_fields.specs.LineStands.{stated}
+use Rattle.walk.specs.Standing.{place}
+use Rattle.walk.specs.Walking.{fault, onward, walked}
+use Rattle.refusal.specs.Size.{most}
+use Rattle.edition_judge.specs.EditionLine.{barsOf, judging-in}
+use Rattle.edition_judge.proofs.Lines.{barGot, line-so}
+use Rattle.network.specs.Storing.{Memory}
+use Rattle.network.specs.Reading.{put, filledOf, filledIn}
+use Rattle.network.specs.Reaching.{first-of, refusalOf, Reached, stopped, reached, goes, reaching, reachedIn, ending}
+
+-- ## What an edition makes of a statement
+module _ (table : List (List ℕ)) (e : Edition) (s : Statement) where
+  -- r by the kind, t by the values, b by the edition
+  by-three : (r t b : ℕ) (o : DO.Outcome) (q : Place) → (r ≡ 0 → o ≡ outcome t q) → barsOf e s ≡ b
+      → barGot e (pick (eqb r 0) (taken (judging table) s (seen o)) (bad r)) ≡ pick (eqb (first-of r (first-of t b)) 0) (said s q) (bad (first-of r (first-of t b)))
+  by-three zero zero b o q f g = rw (f refl, g) refl
+  by-three zero (suc t) b o q f g = let z : eqb (suc t) 0 ≡ false = ne-eqb (suc t) 0 (λ h. omega arith) in rw (f refl, z, z) refl
+  by-three (suc r) t b o q f g = let z : eqb (suc r) 0 ≡ false = ne-eqb (suc r) 0 (λ h. omega arith) in rw (z, z) refl
+
+  module _ (p : Place) (k c n : ℕ) (cell : c ≡ cellOf table p k) (told : n ≡ refusalOf e p c s) where
+    whole : barGot e (stated (judging table) k s p) ≡ pick (eqb n 0) (said s (movedOf p s c)) (bad n)
+    unfolding stated refusalOf
+    whole = rw (← cell, told) (by-three (refusesBy (p .given) c) (testedOf p s c) (barsOf e s) (byCell p s c) (movedOf p s c) (stepped p s c) refl)
+
+    pub refused-by : (n ≡ 0 → ⊥) → barGot e (stated (judging table) k s p) ≡ bad n
+    refused-by z = whole ∙ rw (ne-eqb n 0 z) refl
+
+    pub moved-by : n ≡ 0 → barGot e (stated (judging table) k s p) ≡ said s (movedOf p s c)
+    moved-by z = whole ∙ rw z refl
+
+-- ## A line
+-- what the judge gives a line, by a table
+abbrev pub judged : List (List ℕ) → Bytes → ℕ → Place → Got Statement Place
+judged table = line (judging table)
+
+-- the lines from a place of the text on
+abbrev pub onwards : Edition → Bytes → Place → Memory → (from i : ℕ) → Reached
+onwards e s p m from i = reaching e p m from i (linesOf (drop from s))
+
+module _ (e : Edition) (table : List (List ℕ)) (right : table ≡ rndf-table) (s : Bytes) (from to : ℕ) (h : from < length s) (ends : to ≡ reach (stopsBy (Byte 10)) s from) (p : Place) (m : Memory) (i : ℕ) where
+  abbrev rest : Place → Memory → Reached
+  rest q d = onwards e s q d (to + 1) (i + 1)
+
+  one-line : onwards e s p m from i ≡ goes (place from i) p m (barGot e (line (judging table) (stretch s from to) from p)) rest
+  unfolding reaching
+  one-line =
+      let n : suc i ≡ i + 1 = omega arith in
+      let cut : onwards e s p m from i ≡ goes (place from i) p m (line (judging-in e) (stretch s from to) from p) rest = rw (lines-at s from to h ends, next-start s from to h ends, n) refl in
+      cut ∙ ap (λ (g : Got Statement Place). goes (place from i) p m g rest) (line-so e (stretch s from to) from p ∙ ap (λ (t : List (List ℕ)). barGot e (line (judging t) (stretch s from to) from p)) (sym right))
+
+  module _ (g : Got Statement Place) (says : line (judging table) (stretch s from to) from p ≡ g) where
+    gets : onwards e s p m from i ≡ goes (place from i) p m (barGot e g) rest
+    gets = one-line ∙ ap (λ (x : Got Statement Place). goes (place from i) p m (barGot e x) rest) says
+
+  pub blank-line : line (judging table) (stretch s from to) from p ≡ blank → onwards e s p m from i ≡ rest p m
+  blank-line says = gets blank says
+
+  pub bad-line : (n : ℕ) → line (judging table) (stretch s from to) from p ≡ bad n → onwards e s p m from i ≡ stopped i n
+  bad-line n says = gets (bad n) says
+
+  module _ (k c n : ℕ) (st : Statement) (says : line (judging table) (stretch s from to) from p ≡ stated (judging table) k st p) (cell : c ≡ cellOf table p k) (told : n ≡ refusalOf e p c st) where
+    pub refused-line : (n ≡ 0 → ⊥) → onwards e s p m from i ≡ stopped i n
+    refused-line z = gets _ says ∙ ap (λ (x : Got Statement Place). goes (place from i) p m x rest) (refused-by table e st p k c n cell told z)
+
+    pub moved-line : n ≡ 0 → (q : Place) → q ≡ movedOf p st c → onwards e s p m from i ≡ rest q (put (place from i) st m)
+    moved-line z q move = gets _ says ∙ ap (λ (x : Got Statement Place). goes (place from i) p m x rest) (moved-by table e st p k c n cell told z) ∙ ap (λ (x : Place). rest x (put (place from i) st m)) (sym move)
+
+-- ## The end
+pub at-end : (e : Edition) (s : Bytes) (p : Place) (m : Memory) (from i : ℕ) → length s ≤ from → onwards e s p m from i ≡ reached p m i
+unfolding reaching
+at-end e s p m from i h = rw (lines-end s from h) refl
+
+pub ends-so : (e : Edition) (ls : List Bytes) (p : Place) (m : Memory) (start i : ℕ) → walked (judging-in e) put overOf p m start i ls ≡ ending (reaching e p m start i ls)
+unfolding walked reaching
+ends-so e [] p m start i = refl
+ends-so e (l ∷ ls) p m start i = go (line (judging-in e) l start p) (λ q d. ends-so e ls q d (start + suc (length l)) (suc i))
+  where
+    go : (g : Got Statement Place) → ((q : Place) (d : Memory) → walked (judging-in e) put overOf q d (start + suc (length l)) (suc i) ls ≡ ending (reaching e q d (start + suc (length l)) (suc i) ls))
+        → onward (judging-in e) put overOf (place start i) p m g (λ q d. walked (judging-in e) put overOf q d (start + suc (length l)) (suc i) ls) ≡ ending (goes (place start i) p m g (λ q d. reaching e q d (start + suc (length l)) (suc i) ls))
+    go (bad n) f = refl
+    go blank f = f p m
+    go (said s q) f = f q (put (place start i) s m)
+
+pub filled-so : (e : Edition) (text : Bytes) (m : Memory) → ending (reachedIn e text m) ≡ filledIn e text m
+unfolding reachedIn filledIn filledOf
+filled-so e text m = go (ltb most (length text))
+  where
+    go : (b : Bool) → ending (pick b (stopped 0 1) (reaching e firstPlace m 0 1 (linesOf text))) ≡ pick b (fault 0 1) (walked (judging-in e) put overOf firstPlace m 0 1 (linesOf text))
+    go true = refl
+    go false = sym (ends-so e (linesOf text) firstPlace m 0 1)
+
+-- the walk goes on from there
+pub goes-on : (e : Edition) (s : Bytes) (p q : Place) (m d : Memory) (at to i : ℕ) → p ≡ q → m ≡ d → at ≡ to + 1 → onwards e s p m at (i + 1) ≡ onwards e s q d (to + 1) (i + 1)
+goes-on e s p q m d at to i a b c = λ j. onwards e s (a j) (b j) (c j) (i + 1)
+
+-- ## Numbers of the walk
+-- a line ends behind its start, and within the text
+pub within : (s : Bytes) (from e : ℕ) → from < length s → e ≡ reach (stopsBy (Byte 10)) s from → (from ≤ e) × (e ≤ length s)
+within s from e h q = (omega (arith, q, reach-from (stopsBy (Byte 10)) s from), omega (arith, q, reach-le (stopsBy (Byte 10)) s from (omega arith)))
+
+pub next-within : (n from e line at : ℕ) → at ≡ e + 1 → (from ≤ e) × (e ≤ n) → line ≤ from + 1 → (at ≤ n + 1) × (line + 1 ≤ at + 1)
+next-within n from e line at a h k = (omega (arith, a, h .0, h .1), omega (arith, a, h .0, h .1))
+
+pub next-less : (n from e at : ℕ) → at ≡ e + 1 → (from ≤ e) × (e ≤ n) → n + 1 - at < n + 1 - from
+next-less n from e at a h = omega (arith, a, h .0, h .1)
+
+pub place-fits : (n from e : ℕ) → n ≤ 16777215 → (from ≤ e) × (e ≤ n) → Fits w64 (e + 1)
+place-fits n from e k h = record { fits = omega (arith, h .0, h .1) }
+
+pub line-fits : (n from line : ℕ) → n ≤ 16777215 → from < n → line ≤ from + 1 → Fits w32 (line + 1)
+line-fits n from line k h l = record { fits = omega arith }
+
+pub few-bytes : (n : ℕ) → n ≤ 16777215 → n < 4294967296
+few-bytes n h = omega arith
+
+pub few-rows : (n from line rows : ℕ) → n ≤ 16777215 → from < n → line ≤ from + 1 → rows ≤ line → rows < 4294967295
+few-rows n from line rows h k l m = omega arith
+
+pub no-more : (rows line : ℕ) → rows ≤ line → rows ≤ line + 1
+no-more rows line h = omega arith

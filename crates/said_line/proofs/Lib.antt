@@ -1,0 +1,2 @@
+-- Laws of what a line says.
+pub mod Said

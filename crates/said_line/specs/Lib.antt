@@ -1,0 +1,2 @@
+-- What a line of an RNDF says.
+pub mod Saying

@@ -1,0 +1,35 @@
+-- What an answer stands for at a place: what the judge gives the line there. Assumes nothing.
+use mathlib.Core.Path.{_≡_}
+use mathlib.Core.List.{List}
+use mathlib.Core.Option.{Option, none, some}
+use Prim.Native.Nat.{ℕ}
+use Rattle.terms.specs.Ascii.{Bytes}
+use Rattle.scan.specs.Reach.{reach, stopsBy}
+use Rattle.scan.specs.declared.Until.the-variants.{Byte}
+use Rattle.statement.specs.declared.Statement.{Statement}
+use Rattle.place.specs.declared.Place.{Place}
+use Rattle.judge.specs.Judging.{Got, bad, blank, line}
+use Rattle.judge.specs.RndfLine.{judging}
+use Rattle.plain_parts.specs.Stands.{stretch}
+use Rattle.plain_fields.specs.LineStands.{stated}
+use Rattle.said_line.specs.declared.Cut as DC
+use Rattle.said_line.specs.declared.Cut.the-variants as Cut
+use Rattle.said_line.specs.declared.Line as DL
+use Rattle.said_line.specs.declared.Line.the-variants as Line
+
+-- 01: 8 "field not of its kind"
+abbrev pub made-cut : (kind : ℕ) → Option Statement → DC.Cut
+made-cut k (some s) = Cut.Said k s
+made-cut k none = Cut.Bad 8
+
+-- what comes of an answer at a place
+abbrev pub gotOf : List (List ℕ) → Place → DC.Cut → Got Statement Place
+gotOf table p Cut.Blank = blank
+gotOf table p (Cut.Said k s) = stated (judging table) k s p
+gotOf table p (Cut.Bad n) = bad n
+
+-- the line that starts there gets this at the place, and ends where it is said to
+abbrev pub LineSays : List (List ℕ) → Bytes → ℕ → Place → DL.Line → Type 0
+LineSays table s from p (Line.Blank e) = (e ≡ reach (stopsBy (Byte 10)) s from) × (line (judging table) (stretch s from e) from p ≡ blank)
+LineSays table s from p (Line.Said k st e) = (e ≡ reach (stopsBy (Byte 10)) s from) × (line (judging table) (stretch s from e) from p ≡ stated (judging table) k st p)
+LineSays table s from p (Line.Bad n) = line (judging table) (stretch s from (reach (stopsBy (Byte 10)) s from)) from p ≡ bad n

@@ -1,0 +1,142 @@
+// What a line of an RNDF says, before its place is asked for its values: nothing, or a statement of a kind; or the number that refuses it: 2, 3 and 4 by its form, 5 and 6 by its kind, 7
+// and 8 by its fields. A plain line is read in one pass where it stands (`plain_line`); any other is cut into its fields first, as it always was.
+//
+// specs/Saying: what an answer stands for: at the place it comes to what the judge gives the line. Of a plain line 5 and 6 are not told here, since its kind is not asked for: `stated`
+// tells them.
+//
+// Rests on `plain_line`, `judge` and what they rest on.
+use judge::kind_of;
+use line::Fields;
+use line::Form;
+use line::fields_of;
+use line::form_of;
+use line::trimmed;
+use made_out::Made;
+use made_out::fields_needed;
+use made_out::made_out;
+use place::Place;
+use plain_line::Plain;
+use plain_line::plain_line;
+use scan::far_byte_from;
+use statement::Statement;
+use statement::kinds;
+ghost use mathlib.Core.Path.{_≡_};
+ghost use Prim.Native.Nat.{_≤_, _<_, _+_};
+ghost use lib.ListN.{length};
+ghost use Rattle.made_out.specs.Made.{made-from};
+ghost use Rattle.judge.specs.Judging.{ofKind, told, content, line};
+ghost use Rattle.judge.specs.RndfLine.{judging};
+ghost use Rattle.said_line.specs.Saying.{made-cut, gotOf, LineSays};
+
+const LF: u8 = 10;
+
+// What a line says that is cut into its fields.
+enum Cut {
+    Blank,
+    Said(u8, Statement),
+    Bad(u8),
+}
+
+// What a line says: a statement with its kind, and the line's end; nothing, and the end; or what refuses it.
+pub enum Line {
+    Blank(usize),
+    Said(u8, Statement, usize),
+    Bad(u8),
+}
+
+// 8, or the statement of a kind.
+fn made_told(kind: u8, m: Made) -> Cut
+    ensures { λ r. ⌜ r ≡ made-cut kind (made-from m) ⌝ }
+{
+    let Made::Is(s) = m else {
+        return Cut::Bad(8);
+    };
+    Cut::Said(kind, s)
+}
+
+// 5 or 6 by the kind alone, then 7.
+fn kind_cut(table: &[[u8; 30]; 27], s: &[u8], base: usize, f: Fields, p: Place, kind: u8) -> Cut
+    requires { ⌜ (base + length (now s) < 4294967296) × (kind < 30) ⌝ }
+    ensures { λ r. ⌜ gotOf (now (table .entry)) p r ≡ ofKind (judging (now (table .entry))) (now (s .entry)) base f p kind ⌝ }
+{
+    let cell = p.cell(table, kind);
+    let c = p.refuses(cell);
+    if c != 0 {
+        return Cut::Bad(c);
+    }
+    if f.count == fields_needed(kind) {
+        made_told(kind, made_out(s, base, f, kind))
+    } else {
+        Cut::Bad(7)
+    }
+}
+
+// The fields, cut once: none, or those of a kind.
+fn fields_cut(table: &[[u8; 30]; 27], s: &[u8], base: usize, p: Place) -> Cut
+    requires { ⌜ base + length (now s) < 4294967296 ⌝ }
+    ensures { λ r. ⌜ gotOf (now (table .entry)) p r ≡ told (judging (now (table .entry))) (now (s .entry)) base p ⌝ }
+{
+    let f = fields_of(s);
+    if f.count == 0 {
+        return Cut::Blank;
+    }
+    let first = f.a;
+    let a = first.start;
+    let e = first.stop;
+    let kind = kind_of(&s[a..e]);
+    if kind < kinds::COUNT {
+        kind_cut(table, s, base, f, p, kind)
+    } else {
+        Cut::Bad(5)
+    }
+}
+
+// 2, 3, 4, or the fields before a comment.
+fn content_cut(table: &[[u8; 30]; 27], s: &[u8], base: usize, p: Place) -> Cut
+    requires { ⌜ base + length (now s) < 4294967296 ⌝ }
+    ensures { λ r. ⌜ gotOf (now (table .entry)) p r ≡ content (judging (now (table .entry))) (now (s .entry)) base p ⌝ }
+{
+    match form_of(s) {
+        Form::Bad(n) => Cut::Bad(n),
+        Form::Body(e) => fields_cut(table, &s[..e], base, p),
+    }
+}
+
+// A line without its LF, which starts at `base` in the text.
+fn line_cut(table: &[[u8; 30]; 27], s: &[u8], base: usize, p: Place) -> Cut
+    requires { ⌜ base + length (now s) < 4294967296 ⌝ }
+    ensures { λ r. ⌜ gotOf (now (table .entry)) p r ≡ line (judging (now (table .entry))) (now (s .entry)) base p ⌝ }
+{
+    let e = trimmed(s);
+    content_cut(table, &s[..e], base, p)
+}
+
+// The line that starts there, cut into its fields.
+fn cut_at(table: &[[u8; 30]; 27], text: &[u8], from: usize, p: Place) -> Line
+    requires { ⌜ (from < length (now text)) × (length (now text) < 4294967296) ⌝ }
+    ensures { λ r. ⌜ LineSays (now (table .entry)) (now (text .entry)) from p r ⌝ }
+{
+    let e = far_byte_from(text, from, LF);
+    match line_cut(table, &text[from..e], from, p) {
+        Cut::Blank => Line::Blank(e),
+        Cut::Said(kind, s) => Line::Said(kind, s, e),
+        Cut::Bad(n) => Line::Bad(n),
+    }
+}
+
+// The line that starts there, in one pass where it is plain. 1 where no line starts there, or behind what 32 bits count: no text that is walked has such a line.
+pub fn line_said(table: &[[u8; 30]; 27], text: &[u8], from: usize, p: Place) -> Line
+    ensures { λ r. ⌜ (from < length (now (text .entry)) → length (now (text .entry)) < 4294967296 → LineSays (now (table .entry)) (now (text .entry)) from p r) ⌝ }
+{
+    if text.len() <= from {
+        return Line::Bad(1);
+    }
+    if 4294967295 < text.len() {
+        return Line::Bad(1);
+    }
+    match plain_line(text, from) {
+        Plain::Said(kind, s, e) => Line::Said(kind, s, e),
+        Plain::Blank(e) => Line::Blank(e),
+        Plain::No => cut_at(table, text, from, p),
+    }
+}
