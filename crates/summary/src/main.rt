@@ -75,9 +75,9 @@ fn load_open(fd: i32, text: &mut [u8]) -> Loaded {
     }
 }
 
-// An open file, or -1. It is opened where this is called, at two places: `os::open_read` called here alone would be compiled into this function, with two copies of the path of
-// 4,096 bytes each.
-fn load(fd: i32, text: &mut [u8]) -> Loaded {
+// Called at two places, and so not compiled into `main`: what it needs of the stack, for a path and for what is read, is given back before the tables lie there.
+fn load(path: &[u8], text: &mut [u8]) -> Loaded {
+    let fd = os::open_read(path);
     if fd < 0 {
         return Loaded::NoFile;
     }
@@ -121,9 +121,16 @@ fn summarise(rndf: &[u8], mdf: &[u8]) {
 
 fn with_network(rndf: &[u8]) {
     let mut mission = [0u8; MOST_BYTES];
-    let loaded = load(os::open_read(b"mission.mdf"), &mut mission);
+    let loaded = load(b"mission.mdf", &mut mission);
     match loaded {
-        Loaded::Bytes(n) => summarise(rndf, first(&mission, n)),
+        // Called at two places too: else it would be compiled into `main`, and its tables and marks would lie on the stack while a file is loaded.
+        Loaded::Bytes(n) => {
+            if n < MOST_BYTES {
+                summarise(rndf, first(&mission, n))
+            } else {
+                summarise(rndf, &mission)
+            }
+        }
         Loaded::TooBig => put(b"file too big\n"),
         Loaded::NoFile => put(b"no file\n"),
     }
@@ -131,7 +138,7 @@ fn with_network(rndf: &[u8]) {
 
 fn main() {
     let mut network = [0u8; MOST_BYTES];
-    let loaded = load(os::open_read(b"network.rndf"), &mut network);
+    let loaded = load(b"network.rndf", &mut network);
     match loaded {
         Loaded::Bytes(n) => with_network(first(&network, n)),
         Loaded::TooBig => put(b"file too big\n"),
