@@ -1,0 +1,2 @@
+-- What stands behind the last of them.
+pub mod LastField
