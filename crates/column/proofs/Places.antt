@@ -26,13 +26,13 @@ use Rattle.walk.specs.Standing.{place}
 use Rattle.network.specs.Storing.{Memory}
 use Rattle.network.specs.Reading.{put}
 use Rattle.network.specs.Reaching as R
-use Rattle.network.specs.Reaching.{Reached, stopped, reached, reaching, reachedIn}
+use Rattle.network.specs.Reaching.{WalkEnd, stopped, reached, reaching, reachedIn}
 use Rattle.refusal.specs.Size.{most}
 use Rattle.refusal.proofs.Sized.{not-too-long}
 use Rattle.columns.specs.Locating.{onward, lineColumns}
 use Rattle.columns.specs.RndfColumns.{rndfWrong, rndfLineColumn, rndfColumnIn}
 use Rattle.columns.proofs.Bounds.{column-small}
-use Rattle.column.specs.Before.{linesBefore, linesFrom, bytesBefore, goes, placeAfter, placeBehind, columnBehind}
+use Rattle.column.specs.Before.{linesBefore, linesFrom, bytesBefore, place-on, placeAfter, placeBehind, columnBehind}
 use Rattle.column.specs.declared.Standing as DS
 use Rattle.column.specs.declared.Standing.the-variants as Standing
 use Rattle.column.proofs.Lines.{lines-before, lines-from}
@@ -49,7 +49,7 @@ same-line : (l : Bytes) (start : ℕ) (p : Place) → line (judging-in march) l 
 same-line l start p = line-so march l start p ∙ all-had (line rndf-judging l start p)
 
 -- what is gathered is forgotten
-abbrev pub standing : Reached → DS.Standing
+abbrev pub standing : WalkEnd → DS.Standing
 standing (stopped i n) = Standing.No
 standing (reached p m i) = Standing.At p
 
@@ -59,10 +59,10 @@ after-so [] p m start i = refl
 after-so (l ∷ ls) p m start i = rw (same-line l start p) (go (line rndf-judging l start p) (λ q d. after-so ls q d (start + suc (length l)) (suc i)))
   where
     go : (g : Got Statement Place) → ((q : Place) (d : Memory) → standing (reaching march q d (start + suc (length l)) (suc i) ls) ≡ placeAfter q (start + suc (length l)) ls)
-        → standing (R.goes (place start i) p m g (λ q d. reaching march q d (start + suc (length l)) (suc i) ls)) ≡ goes p g (λ q. placeAfter q (start + suc (length l)) ls)
+        → standing (R.goes (place start i l) p m g (λ q d. reaching march q d (start + suc (length l)) (suc i) ls)) ≡ place-on p g (λ q. placeAfter q (start + suc (length l)) ls)
     go (bad n) f = refl
     go blank f = f p m
-    go (said s q) f = f q (put (place start i) s m)
+    go (said s q) f = f q (put (place start i l) s m)
 
 pub behind-so : (text : Bytes) (m : Memory) → standing (reachedIn march text m) ≡ placeBehind text
 unfolding reachedIn placeBehind
@@ -82,7 +82,7 @@ columns-so (l ∷ ls) p start j i n = go (eqb j i) (λ q. columns-so ls q (start
     Later = (q : Place) → lineColumns rndf-judging rndfWrong q (start + suc (length l)) (suc j) i n ls ≡ columnBehind n (placeAfter q (start + suc (length l)) (linesBefore (suc j) i ls)) (linesFrom (suc j) i ls)
 
     by : (g : Got Statement Place) → Later
-        → onward rndf-judging rndfWrong p g (λ q. lineColumns rndf-judging rndfWrong q (start + suc (length l)) (suc j) i n ls) ≡ columnBehind n (goes p g (λ q. placeAfter q (start + suc (length l)) (linesBefore (suc j) i ls))) (linesFrom (suc j) i ls)
+        → onward rndf-judging rndfWrong p g (λ q. lineColumns rndf-judging rndfWrong q (start + suc (length l)) (suc j) i n ls) ≡ columnBehind n (place-on p g (λ q. placeAfter q (start + suc (length l)) (linesBefore (suc j) i ls))) (linesFrom (suc j) i ls)
     by (bad k) f = refl
     by blank f = f p
     by (said s q) f = f q

@@ -32,14 +32,14 @@ bytesBefore j i [] = 0
 bytesBefore j i (l ∷ ls) = pick (eqb j i) 0 (suc (length l) + bytesBefore (suc j) i ls)
 
 -- ## The place behind lines, the first of which starts at `start`; none behind a bad one
-abbrev pub goes : Place → Got Statement Place → (Place → DS.Standing) → DS.Standing
-goes p (bad n) k = Standing.No
-goes p blank k = k p
-goes p (said s q) k = k q
+abbrev pub place-on : Place → Got Statement Place → (Place → DS.Standing) → DS.Standing
+place-on p (bad n) k = Standing.No
+place-on p blank k = k p
+place-on p (said s q) k = k q
 
 unfoldable pub placeAfter : Place → (start : ℕ) → List Bytes → DS.Standing
 placeAfter p start [] = Standing.At p
-placeAfter p start (l ∷ ls) = goes p (line rndf-judging l start p) (λ q. placeAfter q (start + suc (length l)) ls)
+placeAfter p start (l ∷ ls) = place-on p (line rndf-judging l start p) (λ q. placeAfter q (start + suc (length l)) ls)
 
 -- behind a text
 unfoldable pub placeBehind : Bytes → DS.Standing

@@ -69,12 +69,12 @@ module _ (e : Edition) {T : Type 0} (put : Where → Statement → T → T) wher
       on : Edition → Place → T → Found T
       on x q y = walked (judging-in x) put overOf q y (start + suc (length l)) (suc i) ls
 
-      go : (g : Got Statement Place) → onward (judging-in e) put overOf (place start i) p c (barGot e g) (on e) ≡ gathered d → ((q : Place) (x : T) → on e q x ≡ gathered d → on march q x ≡ gathered d)
-          → onward (judging-in march) put overOf (place start i) p c (barGot march g) (on march) ≡ gathered d
+      go : (g : Got Statement Place) → onward (judging-in e) put overOf (place start i l) p c (barGot e g) (on e) ≡ gathered d → ((q : Place) (x : T) → on e q x ≡ gathered d → on march q x ≡ gathered d)
+          → onward (judging-in march) put overOf (place start i l) p c (barGot march g) (on march) ≡ gathered d
       go (bad n) h k = never h
       go blank h k = k p c h
       go (said s q) h k = by (eqb (barsOf e s) 0) h
         where
-          by : (b : Bool) → onward (judging-in e) put overOf (place start i) p c (pick b (said s q) (bad (barsOf e s))) (on e) ≡ gathered d → on march q (put (place start i) s c) ≡ gathered d
-          by true h = k q (put (place start i) s c) h
+          by : (b : Bool) → onward (judging-in e) put overOf (place start i l) p c (pick b (said s q) (bad (barsOf e s))) (on e) ≡ gathered d → on march q (put (place start i l) s c) ≡ gathered d
+          by true h = k q (put (place start i l) s c) h
           by false h = never h

@@ -9,11 +9,10 @@ use Rattle.terms.specs.Ascii.{Bytes}
 use Rattle.terms.proofs.Tests.{clash}
 use Rattle.line.specs.Text.{Ended}
 use Rattle.line.specs.Content.{Field, Content}
-use Rattle.line.specs.Forms.{formOf}
-use Rattle.line.proofs.Ends.{ended-is, ended-one}
+use Rattle.line.proofs.Ends.{ended-one}
 use Rattle.line.proofs.Contents.{content-one}
-use Rattle.line.proofs.Faults.{content-form, content-body}
 use Rattle.word.specs.Number.{digit-first}
+use Rattle.line_fields.proofs.LastField.{fields-of-line}
 use Rattle.grammar.specs.Language.{Lang, S, say}
 use Rattle.grammar.specs.Machine.{Machine}
 use Rattle.text.specs.Said.{Said, SpellFields}
@@ -21,7 +20,7 @@ use Rattle.text.specs.Spelling.{SpellsLine, blank, says}
 use Rattle.text.specs.Judge.{Lexis}
 use Rattle.text.proofs.FieldReading.{said, all-only}
 use Rattle.text.proofs.Telling.{Lawful, in-front, Says, line-is}
-use Rattle.walk.specs.Standing.{some-field, in-form, speaks}
+use Rattle.walk.specs.Standing.{some-field, speaks}
 use Rattle.walk.proofs.Speaking.{is-some}
 
 -- what the proofs need of a file's lines
@@ -93,8 +92,7 @@ module _ {L : Lang} (A : Machine L) (X : Lexis L) (line-of : (k : L .Kind) → L
   -- ## A line
   fields-speak : {start : ℕ} {line content : Bytes} {fs : List Field} → Ended line content → Content start content fs → speaks start line ≡ some-field fs
   unfolding speaks
-  fields-speak {start} {line} {content} {fs} e h = ap (λ (c : Bytes). in-form start c (formOf c)) (ended-is e) ∙ ap (in-form start content) (content-form content h)
-      ∙ ap some-field (content-body content h (length (h .outer)) (content-form content h))
+  fields-speak e h = ap some-field (fields-of-line e h)
 
   pub clear : Clear L line-of
   clear = record { line-one = one; speaking = speaking }

@@ -19,7 +19,7 @@ not-before start i (l ∷ ls) j h = go (speaks start l) j h (not-before (start +
     ws : List Where
     ws = standing (start + suc (length l)) (suc i) ls
 
-    go : (b : Bool) (j : ℕ) → j < length (if-speaking b (place start i) ws) → ((j : ℕ) → j < length ws → suc i ≤ line-at ws j) → i ≤ line-at (if-speaking b (place start i) ws) j
+    go : (b : Bool) (j : ℕ) → j < length (if-speaking b (place start i l) ws) → ((j : ℕ) → j < length ws → suc i ≤ line-at ws j) → i ≤ line-at (if-speaking b (place start i l) ws) j
     go true zero h ih = omega arith
     go true (suc j) h ih = let x = ih j (omega arith) in omega arith
     go false j h ih = let x = ih j h in omega arith
@@ -32,8 +32,8 @@ grow start i (l ∷ ls) j k e h = go (speaks start l) j k e h (not-before (start
     ws : List Where
     ws = standing (start + suc (length l)) (suc i) ls
 
-    go : (b : Bool) (j k : ℕ) → j < k → k < length (if-speaking b (place start i) ws) → ((j : ℕ) → j < length ws → suc i ≤ line-at ws j) → ((j k : ℕ) → j < k → k < length ws → line-at ws j < line-at ws k)
-        → line-at (if-speaking b (place start i) ws) j < line-at (if-speaking b (place start i) ws) k
+    go : (b : Bool) (j k : ℕ) → j < k → k < length (if-speaking b (place start i l) ws) → ((j : ℕ) → j < length ws → suc i ≤ line-at ws j) → ((j k : ℕ) → j < k → k < length ws → line-at ws j < line-at ws k)
+        → line-at (if-speaking b (place start i l) ws) j < line-at (if-speaking b (place start i l) ws) k
     go true zero zero e h low ih = absurd (omega arith)
     go true zero (suc k) e h low ih = let x = low k (omega arith) in omega arith
     go true (suc j) zero e h low ih = absurd (omega arith)

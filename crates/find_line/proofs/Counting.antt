@@ -76,7 +76,7 @@ module _ (J : Judging) (ended : J .Pl → Bool) (stated : J .St → ℕ) (kind-o
       end false e = absurd (let z : _≡_ {A = ℕ} 0 1 = ap walk-kind e in omega arith)
   as-walked (l ∷ ls) p c start i d e = go (line J l start p) (has l start p) e (λ q x y. as-walked ls q x (start + suc (length l)) (suc i) d y)
     where
-      go : (g : Got (J .St) (J .Pl)) → HasKind J stated (kind-of l) g → onward J (see stated kind row) ended (place start i) p c g (λ q x. walked J (see stated kind row) ended q x (start + suc (length l)) (suc i) ls) ≡ gathered d
+      go : (g : Got (J .St) (J .Pl)) → HasKind J stated (kind-of l) g → onward J (see stated kind row) ended (place start i l) p c g (λ q x. walked J (see stated kind row) ended q x (start + suc (length l)) (suc i) ls) ≡ gathered d
           → ((q : J .Pl) (x : Seen) → walked J (see stated kind row) ended q x (start + suc (length l)) (suc i) ls ≡ gathered d → counted kind-of kind row x (suc i) ls ≡ d)
           → counted kind-of kind row (seenMore (eqb (kind-of l) kind) row i c) (suc i) ls ≡ d
       go (bad n) h e f = absurd (let z : _≡_ {A = ℕ} 0 1 = ap walk-kind e in omega arith)

@@ -28,7 +28,7 @@ use Rattle.network.specs.Reading.{with-progress, put, filledOf}
 -- what is put goes by what a statement means
 pub by-meaning : (w : Where) (s : Statement) (m : Memory) → put w s m ≡ put w (written (meant s)) m
 unfolding put
-by-meaning w s m = ap₂ (λ (p : Progress) (a : Row). with-progress p (stored a m)) (after-by-meaning s (m .so-far)) (row-by-meaning s (w .start) (m .so-far))
+by-meaning w s m = ap₂ (λ (p : Progress) (a : Row). with-progress p (stored a m)) (after-by-meaning s (m .so-far)) (row-by-meaning s (w .last) (m .so-far))
 
 pub filled-faulty : (ε : Edition) (text : Bytes) (m : Memory) (i n : ℕ) → read-rndf-in ε text ≡ faulty i n → filledOf ε text m ≡ fault i n
 unfolding filledOf

@@ -1,4 +1,4 @@
--- Where the lines of the exits start, and the rows that stand for the exits until their entries are looked up. Assumes nothing.
+-- Where the entries of the exits start, and the rows that stand for the exits until their entries are looked up. Assumes nothing.
 use mathlib.Core.List.{List, [], _∷_, _++_}
 use mathlib.Core.Option.{Option, none, some}
 use Prim.Native.Nat.{ℕ}
@@ -11,17 +11,17 @@ abbrev pub if-there : {A : Type 0} → Option A → ℕ → List ℕ
 if-there none start = []
 if-there (some a) start = start ∷ []
 
--- of statements that stand there, one on each place: where the line of each exit starts, in file order
+-- of statements that stand there, one on each place: where the last field of each exit starts, in file order
 unfoldable pub exit-starts : {N : Type 0} → List Where → List (Statement N) → List ℕ
 exit-starts [] [] = []
 exit-starts [] (t ∷ ts) = []
 exit-starts (w ∷ ws) [] = []
-exit-starts {N} (w ∷ ws) (t ∷ ts) = if-there (asKind (lines N) exit t) (w .start) ++ exit-starts ws ts
+exit-starts {N} (w ∷ ws) (t ∷ ts) = if-there (asKind (lines N) exit t) (w .last) ++ exit-starts ws ts
 
 abbrev pub exit-at : (point start : ℕ) → ExitRow
 exit-at point start = record { point = point; entry = start }
 
--- each exit's point, and the start of its line in place of its entry
+-- each exit's point, and the start of its entry in place of the entry's point
 unfoldable pub exits-at : (points starts : List ℕ) → List ExitRow
 exits-at [] [] = []
 exits-at [] (s ∷ starts) = []

@@ -1,4 +1,4 @@
--- The starts of the exits' lines: as many as exits, each where its exit stands. Assumes nothing.
+-- The starts of the exits' entries: as many as exits, each where its exit stands. Assumes nothing.
 use mathlib.Core.Path.{_≡_, refl, sym, ap, _∙_}
 use mathlib.Core.List.{List, [], _∷_, _++_}
 use mathlib.Core.Option.{Option, none, some}
@@ -16,14 +16,14 @@ use Rattle.fill.specs.Counts.{Counts}
 use Rattle.fill.specs.FirstLines.{here-or-behind, place-of}
 use Rattle.fill.proofs.ReferenceLaws.{tables-declared}
 use Rattle.text.specs.Spelling.{SpellsRndf}
-use Rattle.walk.specs.Standing.{Where, place, places-in}
+use Rattle.walk.specs.Standing.{Where, places-in}
 use Rattle.walk.proofs.RndfWalk as R
 use Rattle.network.proofs.ExitLines.{if-there, exit-starts}
 use Rattle.network.proofs.Spelled.{exit-line-starts, statements-read}
 
--- where the i-th line starts
+-- where the last field of the i-th line starts
 abbrev pub start-at : List Where → ℕ → ℕ
-start-at ws i = getD ws i (place 0 0) .start
+start-at ws i = getD ws i (record { last = 0; line = 0 }) .last
 
 module _ {N : Type 0} where
   pub as-many-starts : (ws : List Where) (ts : List (Statement N)) → length ws ≡ length ts → length (exit-starts ws ts) ≡ length (ofKind exit ts)
@@ -33,7 +33,7 @@ module _ {N : Type 0} where
   as-many-starts (w ∷ ws) [] n = absurd (omega arith)
   as-many-starts (w ∷ ws) (t ∷ ts) n = go (asKind (lines N) exit t) refl (as-many-starts ws ts (omega arith))
     where
-      go : (o : Option ExitLine) → asKind (lines N) exit t ≡ o → length (exit-starts ws ts) ≡ length (ofKind exit ts) → length (if-there o (w .start) ++ exit-starts ws ts) ≡ length (ofKind exit (t ∷ ts))
+      go : (o : Option ExitLine) → asKind (lines N) exit t ≡ o → length (exit-starts ws ts) ≡ length (ofKind exit ts) → length (if-there o (w .last) ++ exit-starts ws ts) ≡ length (ofKind exit (t ∷ ts))
       go none e h = h ∙ ap (λ (l : List ExitLine). length l) (sym (all-none (lines N) exit t ts e))
       go (some v) e h = ap suc h ∙ ap (λ (l : List ExitLine). length l) (sym (all-some (lines N) exit t ts v e))
 
@@ -45,7 +45,7 @@ module _ {N : Type 0} where
   start-of-exit (w ∷ ws) (t ∷ ts) n i h = go (asKind (lines N) exit t) refl i h (start-of-exit ws ts (omega arith))
     where
       go : (o : Option ExitLine) → asKind (lines N) exit t ≡ o → (i : ℕ) → i < length (ofKind exit (t ∷ ts)) → ((j : ℕ) → j < length (ofKind exit ts) → getD (exit-starts ws ts) j 0 ≡ start-at ws (place-of (lines N) exit ts j))
-          → getD (if-there o (w .start) ++ exit-starts ws ts) i 0 ≡ start-at (w ∷ ws) (here-or-behind (lines N) o i (place-of (lines N) exit ts))
+          → getD (if-there o (w .last) ++ exit-starts ws ts) i 0 ≡ start-at (w ∷ ws) (here-or-behind (lines N) o i (place-of (lines N) exit ts))
       go none e i h f = f i (let k = ap (λ (l : List ExitLine). length l) (all-none (lines N) exit t ts e) in omega arith)
       go (some v) e zero h f = refl
       go (some v) e (suc j) h f = f j (let k = ap (λ (l : List ExitLine). length l) (all-some (lines N) exit t ts v e) in omega arith)

@@ -34,7 +34,7 @@ pub record CountsNetwork (n : Network Field) (p : Progress) : Type 0 where
   pub exits : p .exits ≡ sizes (tables n) .exits
   pub file : p .file ≡ network-file n
 
--- the exits of the network: each point, and where the line starts in place of the entry
+-- the exits of the network: each point, and where the entry starts in place of its point
 abbrev pub exits-by-line : Network Field → (starts : List ℕ) → List ExitRow
 exits-by-line n starts = exits-at (map (λ r. r .point) (tables n .exits)) starts
 

@@ -16,6 +16,8 @@ use Rattle.scan.specs.declared.Until.the-variants.{Byte}
 use Rattle.scan.proofs.Reach.{reach-le, reach-from}
 use Rattle.line.specs.Lines.{linesOf}
 use Rattle.line.proofs.Cuts.{lines-at, next-start, lines-end}
+use Rattle.line_fields.specs.LineFields.{lineFields, lastStart}
+use Rattle.line_fields.proofs.LastField.{last-within}
 use Rattle.grammar.specs.Editions.{Edition}
 use Rattle.grammar.specs.PlaceTable.{rndf-table}
 use Rattle.statement.specs.declared.Statement.{Statement}
@@ -27,6 +29,7 @@ use Rattle.place.proofs.Stepped.{outcome, stepped}
 use Rattle.judge.specs.Judging.{Got, bad, blank, said, taken, line}
 use Rattle.judge.specs.RndfLine.{judging}
 use Rattle.plain_parts.specs.Stands.{stretch}
+use Rattle.plain_parts.proofs.Stretches.{stretch-long}
 use Rattle.plain_fields.specs.LineStands.{stated}
 use Rattle.walk.specs.Standing.{place}
 use Rattle.walk.specs.Walking.{fault, onward, walked}
@@ -35,7 +38,7 @@ use Rattle.edition_judge.specs.EditionLine.{barsOf, judging-in}
 use Rattle.edition_judge.proofs.Lines.{barGot, line-so}
 use Rattle.network.specs.Storing.{Memory}
 use Rattle.network.specs.Reading.{put, filledOf, filledIn}
-use Rattle.network.specs.Reaching.{first-of, refusalOf, Reached, stopped, reached, goes, reaching, reachedIn, ending}
+use Rattle.network.specs.Reaching.{first-of, refusalOf, WalkEnd, stopped, reached, goes, reaching, reachedIn, ending}
 
 -- ## What an edition makes of a statement
 module _ (table : List (List ℕ)) (e : Edition) (s : Statement) where
@@ -63,23 +66,23 @@ abbrev pub judged : List (List ℕ) → Bytes → ℕ → Place → Got Statemen
 judged table = line (judging table)
 
 -- the lines from a place of the text on
-abbrev pub onwards : Edition → Bytes → Place → Memory → (from i : ℕ) → Reached
+abbrev pub onwards : Edition → Bytes → Place → Memory → (from i : ℕ) → WalkEnd
 onwards e s p m from i = reaching e p m from i (linesOf (drop from s))
 
 module _ (e : Edition) (table : List (List ℕ)) (right : table ≡ rndf-table) (s : Bytes) (from to : ℕ) (h : from < length s) (ends : to ≡ reach (stopsBy (Byte 10)) s from) (p : Place) (m : Memory) (i : ℕ) where
-  abbrev rest : Place → Memory → Reached
+  abbrev rest : Place → Memory → WalkEnd
   rest q d = onwards e s q d (to + 1) (i + 1)
 
-  one-line : onwards e s p m from i ≡ goes (place from i) p m (barGot e (line (judging table) (stretch s from to) from p)) rest
+  one-line : onwards e s p m from i ≡ goes (place from i (stretch s from to)) p m (barGot e (line (judging table) (stretch s from to) from p)) rest
   unfolding reaching
   one-line =
       let n : suc i ≡ i + 1 = omega arith in
-      let cut : onwards e s p m from i ≡ goes (place from i) p m (line (judging-in e) (stretch s from to) from p) rest = rw (lines-at s from to h ends, next-start s from to h ends, n) refl in
-      cut ∙ ap (λ (g : Got Statement Place). goes (place from i) p m g rest) (line-so e (stretch s from to) from p ∙ ap (λ (t : List (List ℕ)). barGot e (line (judging t) (stretch s from to) from p)) (sym right))
+      let cut : onwards e s p m from i ≡ goes (place from i (stretch s from to)) p m (line (judging-in e) (stretch s from to) from p) rest = rw (lines-at s from to h ends, next-start s from to h ends, n) refl in
+      cut ∙ ap (λ (g : Got Statement Place). goes (place from i (stretch s from to)) p m g rest) (line-so e (stretch s from to) from p ∙ ap (λ (t : List (List ℕ)). barGot e (line (judging t) (stretch s from to) from p)) (sym right))
 
   module _ (g : Got Statement Place) (says : line (judging table) (stretch s from to) from p ≡ g) where
-    gets : onwards e s p m from i ≡ goes (place from i) p m (barGot e g) rest
-    gets = one-line ∙ ap (λ (x : Got Statement Place). goes (place from i) p m (barGot e x) rest) says
+    gets : onwards e s p m from i ≡ goes (place from i (stretch s from to)) p m (barGot e g) rest
+    gets = one-line ∙ ap (λ (x : Got Statement Place). goes (place from i (stretch s from to)) p m (barGot e x) rest) says
 
   pub blank-line : line (judging table) (stretch s from to) from p ≡ blank → onwards e s p m from i ≡ rest p m
   blank-line says = gets blank says
@@ -89,10 +92,10 @@ module _ (e : Edition) (table : List (List ℕ)) (right : table ≡ rndf-table) 
 
   module _ (k c n : ℕ) (st : Statement) (says : line (judging table) (stretch s from to) from p ≡ stated (judging table) k st p) (cell : c ≡ cellOf table p k) (told : n ≡ refusalOf e p c st) where
     pub refused-line : (n ≡ 0 → ⊥) → onwards e s p m from i ≡ stopped i n
-    refused-line z = gets _ says ∙ ap (λ (x : Got Statement Place). goes (place from i) p m x rest) (refused-by table e st p k c n cell told z)
+    refused-line z = gets _ says ∙ ap (λ (x : Got Statement Place). goes (place from i (stretch s from to)) p m x rest) (refused-by table e st p k c n cell told z)
 
-    pub moved-line : n ≡ 0 → (q : Place) → q ≡ movedOf p st c → onwards e s p m from i ≡ rest q (put (place from i) st m)
-    moved-line z q move = gets _ says ∙ ap (λ (x : Got Statement Place). goes (place from i) p m x rest) (moved-by table e st p k c n cell told z) ∙ ap (λ (x : Place). rest x (put (place from i) st m)) (sym move)
+    pub moved-line : n ≡ 0 → (q : Place) → q ≡ movedOf p st c → onwards e s p m from i ≡ rest q (put (place from i (stretch s from to)) st m)
+    moved-line z q move = gets _ says ∙ ap (λ (x : Got Statement Place). goes (place from i (stretch s from to)) p m x rest) (moved-by table e st p k c n cell told z) ∙ ap (λ (x : Place). rest x (put (place from i (stretch s from to)) st m)) (sym move)
 
 -- ## The end
 pub at-end : (e : Edition) (s : Bytes) (p : Place) (m : Memory) (from i : ℕ) → length s ≤ from → onwards e s p m from i ≡ reached p m i
@@ -105,10 +108,10 @@ ends-so e [] p m start i = refl
 ends-so e (l ∷ ls) p m start i = go (line (judging-in e) l start p) (λ q d. ends-so e ls q d (start + suc (length l)) (suc i))
   where
     go : (g : Got Statement Place) → ((q : Place) (d : Memory) → walked (judging-in e) put overOf q d (start + suc (length l)) (suc i) ls ≡ ending (reaching e q d (start + suc (length l)) (suc i) ls))
-        → onward (judging-in e) put overOf (place start i) p m g (λ q d. walked (judging-in e) put overOf q d (start + suc (length l)) (suc i) ls) ≡ ending (goes (place start i) p m g (λ q d. reaching e q d (start + suc (length l)) (suc i) ls))
+        → onward (judging-in e) put overOf (place start i l) p m g (λ q d. walked (judging-in e) put overOf q d (start + suc (length l)) (suc i) ls) ≡ ending (goes (place start i l) p m g (λ q d. reaching e q d (start + suc (length l)) (suc i) ls))
     go (bad n) f = refl
     go blank f = f p m
-    go (said s q) f = f q (put (place start i) s m)
+    go (said s q) f = f q (put (place start i l) s m)
 
 pub filled-so : (e : Edition) (text : Bytes) (m : Memory) → ending (reachedIn e text m) ≡ filledIn e text m
 unfolding reachedIn filledIn filledOf
@@ -135,6 +138,12 @@ next-less n from e at a h = omega (arith, a, h .0, h .1)
 
 pub place-fits : (n from e : ℕ) → n ≤ 16777215 → (from ≤ e) × (e ≤ n) → Fits w64 (e + 1)
 place-fits n from e k h = record { fits = omega (arith, h .0, h .1) }
+
+pub last-fits : (s : Bytes) (from e last : ℕ) → length s ≤ 16777215 → from < length s → e ≡ reach (stopsBy (Byte 10)) s from → last ≡ lastStart (lineFields from (stretch s from e)) → Fits w32 last
+last-fits s from e last k h q is =
+    let inside = within s from e h q in
+    let long = stretch-long s from e (inside .1) in
+    record { fits = omega (arith, is, last-within from (stretch s from e), long, inside .0, inside .1, k) }
 
 pub line-fits : (n from line : ℕ) → n ≤ 16777215 → from < n → line ≤ from + 1 → Fits w32 (line + 1)
 line-fits n from line k h l = record { fits = omega arith }

@@ -21,7 +21,7 @@ use Rattle.progress.specs.declared.Row.the-variants as Row
 use Rattle.progress.specs.After.{total, afterOf}
 use Rattle.progress.specs.Given.{rowOf}
 use Rattle.progress.proofs.Shown.{grows}
-use Rattle.walk.specs.Standing.{Where, place}
+use Rattle.walk.specs.Standing.{Where}
 use Rattle.network.specs.Storing.{Memory, memory, storePart, stored}
 use Rattle.network.specs.Reading.{with-progress, put}
 
@@ -75,12 +75,12 @@ stored-long (Row.Exit a) m = rw (length-put 2 (m .exits) (m .so-far .exits) (exi
 
 pub put-long : (w : Where) (s : Statement) (m : Memory) → lengths (put w s m) ≡ lengths m
 unfolding put
-put-long w s m = stored-long (rowOf s (w .start) (m .so-far)) m
+put-long w s m = stored-long (rowOf s (w .last) (m .so-far)) m
 
 -- what the program leaves behind a statement: its row stored, then counted
-pub stepped : (s : Statement) (row : Row) (start i : ℕ) (p : Progress) (m n : Memory) → n ≡ stored row m → row ≡ rowOf s start (m .so-far) → p ≡ afterOf s (m .so-far) → with-progress p n ≡ put (place start i) s m
+pub stepped : (s : Statement) (row : Row) (w : Where) (p : Progress) (m n : Memory) → n ≡ stored row m → row ≡ rowOf s (w .last) (m .so-far) → p ≡ afterOf s (m .so-far) → with-progress p n ≡ put w s m
 unfolding put
-stepped s row start i p m n e r a = ap₂ with-progress a (e ∙ ap (λ (x : Row). stored x m) r)
+stepped s row w p m n e r a = ap₂ with-progress a (e ∙ ap (λ (x : Row). stored x m) r)
 
 pub grown : (s : Statement) (p d : Progress) (n : ℕ) → d ≡ afterOf s p → total p ≤ n → total d ≤ n + 1
 grown s p d n e h = rw e (omega (arith, grows s p))

@@ -154,12 +154,12 @@ agree-one u s c h = ends-agree (u ∷ []) s c h
 
 statement-put : (place : Where) (u : Statement Stretch) (s : State Stretch) (c : Counts) (f w : ℕ) → f + w ≡ s .points → Agree s c → (m : Memory)
     → put place (ofKind (u .kind) (u .val)) (with-progress (shown s c f w) m)
-    ≡ rows-put (shown (next (u .kind) (u .val) s) (tally (u .kind) c) (first-after (u .kind) f w) (within-after (u .kind) w)) c (in-tables (gives (u .kind) (u .val) s)) (exit-of (place .start) (gives (u .kind) (u .val) s)) m
+    ≡ rows-put (shown (next (u .kind) (u .val) s) (tally (u .kind) c) (first-after (u .kind) f w) (within-after (u .kind) w)) c (in-tables (gives (u .kind) (u .val) s)) (exit-of (place .last) (gives (u .kind) (u .val) s)) m
 unfolding put
 statement-put place u s c f w e h m =
     let q : f + w ≡ c .points = e ∙ h .2 in
-    ap₂ (λ (p : Progress) (r : DR.Row). with-progress p (stored r (with-progress (shown s c f w) m))) (after-shown (u .kind) (u .val) s c f w e (h .0) (h .1)) (row-shown (u .kind) (u .val) s c f w (place .start) e)
-    ∙ row-put (gives (u .kind) (u .val) s) (place .start) s c f w q (shown (next (u .kind) (u .val) s) (tally (u .kind) c) (first-after (u .kind) f w) (within-after (u .kind) w)) m
+    ap₂ (λ (p : Progress) (r : DR.Row). with-progress p (stored r (with-progress (shown s c f w) m))) (after-shown (u .kind) (u .val) s c f w e (h .0) (h .1)) (row-shown (u .kind) (u .val) s c f w (place .last) e)
+    ∙ row-put (gives (u .kind) (u .val) s) (place .last) s c f w q (shown (next (u .kind) (u .val) s) (tally (u .kind) c) (first-after (u .kind) f w) (within-after (u .kind) w)) m
 
 -- ## Statements, each where it stands
 -- where the points of the last part begin behind statements, and how many there are
@@ -181,7 +181,7 @@ unfoldable exit-rows : List Where → List (Statement Stretch) → State Stretch
 exit-rows [] [] s = []
 exit-rows [] (u ∷ us) s = []
 exit-rows (w ∷ ws) [] s = []
-exit-rows (w ∷ ws) (u ∷ us) s = exit-of (w .start) (gives (u .kind) (u .val) s) ++ exit-rows ws us (next (u .kind) (u .val) s)
+exit-rows (w ∷ ws) (u ∷ us) s = exit-of (w .last) (gives (u .kind) (u .val) s) ++ exit-rows ws us (next (u .kind) (u .val) s)
 
 abbrev pub told : List (Statement Field) → List (Statement Stretch)
 told = map (statement-named stretch-of)
@@ -201,12 +201,12 @@ all-put (v ∷ ws) (t ∷ ts) n s c f w e h m =
     let w′ = within-after (u .kind) w in
     let r = gives (u .kind) (u .val) s in
     let p′ = shown s′ c′ f′ w′ in
-    let m′ = rows-put p′ c (in-tables r) (exit-of (v .start) r) m in
+    let m′ = rows-put p′ c (in-tables r) (exit-of (v .last) r) m in
     ap (λ (x : Memory). over (λ w t. put w (told-as t)) ws ts x) (statement-put v u s c f w e h m)
     ∙ all-put ws ts (omega arith) s′ c′ f′ w′ (points-kept (u .kind) (u .val) s f w e) (agree-one u s c h) m′
-    ∙ rows-put-twice p′ (shown (ends (told ts) s′) (tallied (told ts) c′) (first-behind (told ts) f′ w′) (within-behind (told ts) w′)) c c′ (in-tables r) (rows (told ts) s′) (exit-of (v .start) r) (exit-rows ws (told ts) s′) m (counted-one u s c) (one-exit (v .start) r)
+    ∙ rows-put-twice p′ (shown (ends (told ts) s′) (tallied (told ts) c′) (first-behind (told ts) f′ w′) (within-behind (told ts) w′)) c c′ (in-tables r) (rows (told ts) s′) (exit-of (v .last) r) (exit-rows ws (told ts) s′) m (counted-one u s c) (one-exit (v .last) r)
 
--- ## The exits: each exit's point with the start of its line
+-- ## The exits: each exit's point with the start of its entry
 exit-here : (k : Kind) (v : Says Field k) (s : State Stretch) (start : ℕ) (rest : List (T.ExitRow PointId)) (starts : List ℕ)
     → exits-at (map exit-point (in-tables (gives k (says-named stretch-of k v) s) .exits ++ rest)) (if-there (asKind (lines Field) exit (say k v)) start ++ starts) ≡ exit-of start (gives k (says-named stretch-of k v) s) ++ exits-at (map exit-point rest) starts
 unfolding exits-at
@@ -249,8 +249,8 @@ exit-rows-are (w ∷ ws) [] n s = absurd (omega arith)
 exit-rows-are (w ∷ ws) (t ∷ ts) n s =
     let u : Statement Stretch = statement-named stretch-of t in
     let s′ = next (u .kind) (u .val) s in
-    ap (λ (es : List ExitRow). exit-of (w .start) (gives (u .kind) (u .val) s) ++ es) (exit-rows-are ws ts (omega arith) s′)
-    ∙ sym (exit-here (t .kind) (t .val) s (w .start) (rows (told ts) s′ .exits) (exit-starts ws ts))
+    ap (λ (es : List ExitRow). exit-of (w .last) (gives (u .kind) (u .val) s) ++ es) (exit-rows-are ws ts (omega arith) s′)
+    ∙ sym (exit-here (t .kind) (t .val) s (w .last) (rows (told ts) s′ .exits) (exit-starts ws ts))
 
 -- THE LAW
 pub statements-put : (ws : List Where) (ts : List (Statement Field)) → length ws ≡ length ts → (s : State Stretch) (c : Counts) (f w : ℕ) → f + w ≡ s .points → Agree s c → (m : Memory)

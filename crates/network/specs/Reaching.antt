@@ -31,30 +31,30 @@ unfoldable pub refusalOf : Edition → Place → (cell : ℕ) → Statement → 
 refusalOf e p c s = first-of (refusesBy (p .given) c) (first-of (testedOf p s c) (barsOf e s))
 
 -- ## All lines
-pub data Reached : Type 0 where
-  stopped : (line number : ℕ) → Reached
-  reached : Place → Memory → (line : ℕ) → Reached
+pub data WalkEnd : Type 0 where
+  stopped : (line number : ℕ) → WalkEnd
+  reached : Place → Memory → (line : ℕ) → WalkEnd
 
-abbrev pub goes : Where → Place → Memory → Got Statement Place → (Place → Memory → Reached) → Reached
+abbrev pub goes : Where → Place → Memory → Got Statement Place → (Place → Memory → WalkEnd) → WalkEnd
 goes w p m (bad n) k = stopped (w .line) n
 goes w p m blank k = k p m
 goes w p m (said s q) k = k q (put w s m)
 
 -- lines from a place on, the first of which starts at `start` and has the number i
-unfoldable pub reaching : Edition → Place → Memory → (start i : ℕ) → List Bytes → Reached
+unfoldable pub reaching : Edition → Place → Memory → (start i : ℕ) → List Bytes → WalkEnd
 reaching e p m start i [] = reached p m i
-reaching e p m start i (l ∷ ls) = goes (place start i) p m (line (judging-in e) l start p) (λ q d. reaching e q d (start + suc (length l)) (suc i) ls)
+reaching e p m start i (l ∷ ls) = goes (place start i l) p m (line (judging-in e) l start p) (λ q d. reaching e q d (start + suc (length l)) (suc i) ls)
 
 -- 1 of a text that is too long; else the walk
-unfoldable pub reachedIn : Edition → Bytes → Memory → Reached
+unfoldable pub reachedIn : Edition → Bytes → Memory → WalkEnd
 reachedIn e text m = if-too-long text (stopped 0 1) (reaching e firstPlace m 0 1 (linesOf text))
 
 -- what was answered, and what the tables then hold, where there is no fault
-abbrev pub stood : DW.Walked → (Progress → Memory) → Reached
+abbrev pub stood : DW.Walked → (Progress → Memory) → WalkEnd
 stood (Walked.Fault f) tables = stopped (f .line) (f .number)
 stood (Walked.Ended p g i) tables = reached p (tables g) i
 
 -- 10 where the text ends before `end_file`
-abbrev pub ending : Reached → Found Memory
+abbrev pub ending : WalkEnd → Found Memory
 ending (stopped i n) = fault i n
 ending (reached p m i) = pick (overOf p) (gathered m) (fault i 10)

@@ -22,7 +22,7 @@ with-progress p m = memory p (m .segments) (m .lanes) (m .zones) (m .spots) (m .
 
 -- a statement on a line: its row is stored, and counted
 unfoldable pub put : Where → Statement → Memory → Memory
-put w s m = with-progress (afterOf s (m .so-far)) (stored (rowOf s (w .start) (m .so-far)) m)
+put w s m = with-progress (afterOf s (m .so-far)) (stored (rowOf s (w .last) (m .so-far)) m)
 
 -- what was answered, and what the tables then hold, where there is no fault
 abbrev pub told : DF.Filled → (Progress → Memory) → Found Memory

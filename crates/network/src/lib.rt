@@ -1,5 +1,5 @@
 // A text of an RNDF read by an edition into lent tables in one walk over its lines: 1 where it is too long, the first fault of 2 to 10 with its line, or every row stored where there is
-// room for it, and how many there are of each table. Entries of exits are not looked up yet: where the exit's line starts stands for them (the crate `references`).
+// room for it, and how many there are of each table. Entries of exits are not looked up yet: where they start in the text stands for them (the crate `references`).
 //
 // The walk keeps one place and one count of rows, and changes both where they stand: what a line says (`said_line`), whether its place takes it and where it leads (`place`) and what it
 // gives (`progress`) come one by one, for an answer that held a place would be copied whole for every line. It is the only walk by places that there is, since the compiler does in the loop what
@@ -130,7 +130,7 @@ pub fn walk_lines(
             Line::Blank(e) => {
                 from = e + 1;
             }
-            Line::Said(kind, s, e) => {
+            Line::Said(kind, s, e, last) => {
                 let cell = place.cell(table, kind);
                 let n = refused(edition, place, cell, s);
                 if n != 0 {
@@ -147,7 +147,7 @@ pub fn walk_lines(
                     stops,
                     exits,
                     gained,
-                    gained.row(s, from as u32),
+                    gained.row(s, last as u32),
                 );
                 gained = gained.after(s);
                 from = e + 1;

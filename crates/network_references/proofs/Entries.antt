@@ -1,4 +1,4 @@
--- THE LAW of the entries: cut again, the lines at which exits stand name the entries of these exits. For every text without a fault of 2 to 10. Assumes nothing.
+-- THE LAW of the entries: at the last fields of the lines at which exits stand, the entries of these exits stand. For every text without a fault of 2 to 10. Assumes nothing.
 use mathlib.Core.Path.{_≡_, refl, sym, ap, ap₂, _∙_}
 use mathlib.Core.List.{List, [], _∷_, _++_, map, head-eq-of-cons-eq, tail-eq-of-cons-eq, nil≢cons}
 use mathlib.Core.Option.{Option, none, some}
@@ -28,7 +28,7 @@ use Rattle.text.proofs.Theorems.{read-rndf}
 use Rattle.statement.specs.Meaning.{point-of}
 use Rattle.walk.specs.Standing.{Where, place, speaks, if-speaking, standing, places-in}
 use Rattle.walk.proofs.Speaking.{is-some, speaks-is}
-use Rattle.references.specs.Entry.{lineAt, entryOf}
+use Rattle.references.specs.Entry.{entryAt}
 use Rattle.references.proofs.Entries.{entry-told}
 use Rattle.network.proofs.ExitLines.{if-there, exit-starts}
 
@@ -54,8 +54,7 @@ module _ (text : Bytes) (from : ℕ) (l : Bytes) (ls : List Bytes) (are : linesO
   cut-here = sym (lines-at text from stop inside refl) ∙ are
 
   -- it is the line that is cut there
-  pub line-there : lineAt text from ≡ l
-  unfolding lineAt
+  pub line-there : take (upTo (stopsBy (Byte 10)) (drop from text)) (drop from text) ≡ l
   line-there =
       let k : upTo (stopsBy (Byte 10)) (drop from text) ≡ stop - from = omega arith in
       ap (λ (k : ℕ). take k (drop from text)) k ∙ head-eq-of-cons-eq cut-here
@@ -67,25 +66,25 @@ module _ (text : Bytes) (from : ℕ) (l : Bytes) (ls : List Bytes) (are : linesO
       ap (λ (k : ℕ). linesOf (drop k text)) k ∙ tail-eq-of-cons-eq cut-here
 
 module _ (text : Bytes) where
-  -- the entry that the line at a place names
+  -- the entry at a place
   abbrev pub entry-at : ℕ → PointId
-  entry-at start = point-of (entryOf (lineAt text start))
+  entry-at at = point-of (entryAt text at)
 
   abbrev Told : List Where → List (Statement Field) → Type 0
   Told ws ts = map entry-at (exit-starts ws ts) ≡ map (λ v. v .entry) (ofKind exit ts)
 
   -- ## One statement
-  one-told : (w : Where) (ws : List Where) (t : Statement Field) (ts : List (Statement Field)) → ((v : ExitLine) → asKind (lines Field) exit t ≡ some v → entry-at (w .start) ≡ v .entry) → Told ws ts → Told (w ∷ ws) (t ∷ ts)
+  one-told : (w : Where) (ws : List Where) (t : Statement Field) (ts : List (Statement Field)) → ((v : ExitLine) → asKind (lines Field) exit t ≡ some v → entry-at (w .last) ≡ v .entry) → Told ws ts → Told (w ∷ ws) (t ∷ ts)
   unfolding exit-starts
   one-told w ws t ts here h = go (asKind (lines Field) exit t) refl
     where
-      go : (o : Option ExitLine) → asKind (lines Field) exit t ≡ o → map entry-at (if-there o (w .start) ++ exit-starts ws ts) ≡ map (λ v. v .entry) (ofKind exit (t ∷ ts))
+      go : (o : Option ExitLine) → asKind (lines Field) exit t ≡ o → map entry-at (if-there o (w .last) ++ exit-starts ws ts) ≡ map (λ v. v .entry) (ofKind exit (t ∷ ts))
       go none q = h ∙ ap (map (λ (v : ExitLine). v .entry)) (sym (all-none (lines Field) exit t ts q))
       go (some v) q = ap₂ (λ (e : PointId) (es : List PointId). e ∷ es) (here v q) h ∙ ap (map (λ (v : ExitLine). v .entry)) (sym (all-some (lines Field) exit t ts v q))
 
   -- a line that says a statement, or none
   line-told : (b : Bool) (o : Option (Statement Field)) (w : Where) (ws : List Where) (ts : List (Statement Field)) → b ≡ is-some o
-      → ((t : Statement Field) → o ≡ some t → (v : ExitLine) → asKind (lines Field) exit t ≡ some v → entry-at (w .start) ≡ v .entry) → Told ws ts → Told (if-speaking b w ws) (listed o ++ ts)
+      → ((t : Statement Field) → o ≡ some t → (v : ExitLine) → asKind (lines Field) exit t ≡ some v → entry-at (w .last) ≡ v .entry) → Told ws ts → Told (if-speaking b w ws) (listed o ++ ts)
   line-told b none w ws ts e here h = rw e h
   line-told b (some t) w ws ts e here h = rw e (one-told w ws t ts (here t refl) h)
 
@@ -106,20 +105,20 @@ module _ (text : Bytes) where
       next : ℕ
       next = start + suc (length l)
 
-      here : (o : Option (Statement Field)) (r : Place (rndf Field)) → judge (rndf Field) rndf-lexis p start l ≡ good o r → (t : Statement Field) → o ≡ some t → (v : ExitLine) → asKind (lines Field) exit t ≡ some v → entry-at start ≡ v .entry
+      here : (o : Option (Statement Field)) (r : Place (rndf Field)) → judge (rndf Field) rndf-lexis p start l ≡ good o r → (t : Statement Field) → o ≡ some t → (v : ExitLine) → asKind (lines Field) exit t ≡ some v → entry-at (place start i l .last) ≡ v .entry
       here o r j t is v x =
-          ap (λ (l : Bytes). point-of (entryOf l)) (line-there text start l ls are)
-          ∙ entry-told p start l t r (j ∙ ap (λ (o : Option (Statement Field)). good o r) is) v (as-inv (lines Field) exit t v x)
+          let before = inside text start l ls are in
+          entry-told text p start l (omega arith) (line-there text start l ls are) t r (j ∙ ap (λ (o : Option (Statement Field)). good o r) is) v (as-inv (lines Field) exit t v x)
 
       behind : (o : Option (Statement Field)) (r : Place (rndf Field)) (w : Walked) → judge (rndf Field) rndf-lexis p start l ≡ good o r → walk (rndf Field) rndf-lexis r next (suc i) ls ≡ w → A.put (rndf Field) rndf-lexis o w ≡ through ts q
           → ((s : Place (rndf Field)) (us : List (Statement Field)) → walk (rndf Field) rndf-lexis r next (suc i) ls ≡ through us s → Told (standing next (suc i) ls) us)
-          → Told (if-speaking (speaks start l) (place start i) (standing next (suc i) ls)) ts
+          → Told (if-speaking (speaks start l) (place start i l) (standing next (suc i) ls)) ts
       behind o r (stopped k n) j u f h = absurd (let z : _≡_ {A = ℕ} 0 1 = ap walk-kind f in omega arith)
-      behind o r (through us s) j u f h = rw (← (ap said-by f)) (line-told (speaks start l) o (place start i) (standing next (suc i) ls) us (speaks-is (rndf Field) rndf-lexis p r start l o j) (here o r j) (h s us u))
+      behind o r (through us s) j u f h = rw (← (ap said-by f)) (line-told (speaks start l) o (place start i l) (standing next (suc i) ls) us (speaks-is (rndf Field) rndf-lexis p r start l o j) (here o r j) (h s us u))
 
       go : (v : Got) → judge (rndf Field) rndf-lexis p start l ≡ v → A.onward (rndf Field) rndf-lexis i v (λ r. walk (rndf Field) rndf-lexis r next (suc i) ls) ≡ through ts q
           → ((r s : Place (rndf Field)) (us : List (Statement Field)) → walk (rndf Field) rndf-lexis r next (suc i) ls ≡ through us s → Told (standing next (suc i) ls) us)
-          → Told (if-speaking (speaks start l) (place start i) (standing next (suc i) ls)) ts
+          → Told (if-speaking (speaks start l) (place start i l) (standing next (suc i) ls)) ts
       go (fault n) j f h = absurd (let z : _≡_ {A = ℕ} 0 1 = ap walk-kind f in omega arith)
       go (good o r) j f h = behind o r (walk (rndf Field) rndf-lexis r next (suc i) ls) j refl f (λ s us. h r s us)
 

@@ -59,7 +59,7 @@ use Rattle.network_references.specs.ExitStarts.{at-starts, exit-rows, ex
 use Rattle.network_references.proofs.Entries.{entry-at, entries-told}
 use Rattle.network_references.proofs.Looks.{shown-fit, filled-looked}
 
--- ## Rows that hold the starts of their lines
+-- ## Rows that hold the starts of their entries
 module _ {E : Type 0} where
   pub rows-as-many : (exits : List (G.ExitRow E)) (starts : List ℕ) → length starts ≡ length exits → length (at-starts exits starts) ≡ length exits
   unfolding at-starts
@@ -117,7 +117,7 @@ module _ (n : Network Field) (text : Bytes) (spelled : SpellsRndf n text) (ts : 
   unfolding fill
   entries-said = sym (by-lines (spelled .said) (start (n .name)) .entries) ∙ ap (λ (t : Tables Field PointId). map (λ (a : G.ExitRow PointId). a .entry) (t .exits)) (network-fills (n .name) n (spelled .said) (spelled .net))
 
-  -- the line at the start that an exit's row holds names the exit's entry
+  -- at the start that an exit's row holds stands the exit's entry
   pub entries-at-starts : map (entry-at text) (exit-starts (places-in text) ts) ≡ map (λ a. a .entry) (tables-unresolved n .exits)
   entries-at-starts = entries-told text ts is ∙ ap (λ (l : List (Statement Field)). map (λ (v : ExitLine). v .entry) (ofKind exit l)) (sym said) ∙ entries-said
 

@@ -1,4 +1,4 @@
--- Executable: the exits' rows that hold where their lines start (`exit-starts`, of `network`); what is answered of them. Assumes nothing.
+-- Executable: the exits' rows that hold where their entries start (`exit-starts`, of `network`); what is answered of them. Assumes nothing.
 use mathlib.Core.List.{List, [], _∷_}
 use mathlib.Core.Option.{Option, none, some}
 use Prim.Native.Nat.{ℕ}
@@ -14,7 +14,7 @@ use Rattle.walk.specs.Standing.{places-in}
 use Rattle.network.proofs.ExitLines.{exit-starts}
 use Rattle.references.specs.Exits.{Outcome, done, at}
 
--- the rows that a walk leaves: an exit's own point, and the start of its line for its entry
+-- the rows that a walk leaves: an exit's own point, and the start of its entry in the text
 unfoldable pub at-starts : {E : Type 0} → List (G.ExitRow E) → List ℕ → List ExitRow
 at-starts [] [] = []
 at-starts [] (start ∷ starts) = []

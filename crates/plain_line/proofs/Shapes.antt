@@ -15,6 +15,7 @@ use Rattle.scan.specs.Reach.{other}
 use Rattle.scan.proofs.Bytes.{all-imp}
 use Rattle.line.specs.Content.{Field, at, IsField}
 use Rattle.line.specs.Forms.{fieldsAt, fieldsIn, part}
+use Rattle.line_fields.specs.LineFields.{lastOf}
 use Rattle.number.specs.Executable.{isNameLength}
 use Rattle.number.specs.House.{numberByte}
 use Rattle.number.specs.Spelling.{SpellsInteger, SpellsPair, SpellsTriple}
@@ -66,28 +67,30 @@ module _ (s : Bytes) (from stop k : ℕ) where
   abbrev f : Bytes
   f = stretch s from stop
 
-  pub number-made : (n : ℕ) → getD shapes k 0 ≡ 2 → Stands s from stop (λ w. SpellsInteger w n) → BehindIt s from stop k (numberedOf k n)
-  unfolding madeOf
+  pub number-made : (n : ℕ) → getD shapes k 0 ≡ 2 → Stands s from stop (λ w. SpellsInteger w n) → BehindIt s from stop k (numberedOf k n) from
+  unfolding madeOf lastOf
   number-made n q h = record {
     order = h .order;
     inside = h .inside;
     fields = at from f ∷ [];
     spelled = one-field s from stop (integer-is h);
     makes = λ c base w e. let p = two-parts base c w (at from f) e in makes c base k (numberedOf k n) 2 (p .0) (omega arith) (ap needs-of q) (rw (q, p .2, integer-only f n (h .spelled)) refl);
+    lastly = λ w. refl;
   }
 
-  pub pair-made : (m n : ℕ) → getD shapes k 0 ≡ 3 → Stands s from stop (λ w. SpellsPair w m n) → BehindIt s from stop k (pairedOf k m n)
-  unfolding madeOf
+  pub pair-made : (m n : ℕ) → getD shapes k 0 ≡ 3 → Stands s from stop (λ w. SpellsPair w m n) → BehindIt s from stop k (pairedOf k m n) from
+  unfolding madeOf lastOf
   pair-made m n q h = record {
     order = h .order;
     inside = h .inside;
     fields = at from f ∷ [];
     spelled = one-field s from stop (pair-is h);
     makes = λ c base w e. let p = two-parts base c w (at from f) e in makes c base k (pairedOf k m n) 2 (p .0) (omega arith) (ap needs-of q) (rw (q, p .2, pair-only f m n (h .spelled)) refl);
+    lastly = λ w. refl;
   }
 
-pub stop-made : (s : Bytes) (from stop x y z : ℕ) → Stands s from stop (λ w. SpellsTriple w x y z) → BehindIt s from stop 15 (st.Stop (record { x = x; y = y; z = z }))
-unfolding madeOf
+pub stop-made : (s : Bytes) (from stop x y z : ℕ) → Stands s from stop (λ w. SpellsTriple w x y z) → BehindIt s from stop 15 (st.Stop (record { x = x; y = y; z = z })) from
+unfolding madeOf lastOf
 stop-made s from stop x y z h =
     let f = stretch s from stop in
     record {
@@ -96,6 +99,7 @@ stop-made s from stop x y z h =
       fields = at from f ∷ [];
       spelled = one-field s from stop (triple-is h);
       makes = λ c base w e. let p = two-parts base c w (at from f) e in makes c base 15 (st.Stop (record { x = x; y = y; z = z })) 2 (p .0) (omega arith) refl (rw (p .2, triple-only f x y z (h .spelled)) refl);
+      lastly = λ w. refl;
     }
 
 -- ## Two fields behind a keyword
@@ -103,8 +107,8 @@ module _ (s : Bytes) (from i b stop x y z : ℕ) (first : Stands s from i (λ w.
   abbrev id : Id
   id = record { x = x; y = y; z = z }
 
-  pub checkpoint-made : (n : ℕ) → Stands s b stop (λ w. SpellsInteger w n) → BehindIt s from stop 14 (st.Checkpoint id n)
-  unfolding madeOf
+  pub checkpoint-made : (n : ℕ) → Stands s b stop (λ w. SpellsInteger w n) → BehindIt s from stop 14 (st.Checkpoint id n) b
+  unfolding madeOf lastOf
   checkpoint-made n h =
       let o = first .order in
       let g = gap .order in
@@ -115,10 +119,11 @@ module _ (s : Bytes) (from i b stop x y z : ℕ) (first : Stands s from i (λ w.
         fields = at from (stretch s from i) ∷ at b (stretch s b stop) ∷ [];
         spelled = more-fields s from i b stop (at b (stretch s b stop) ∷ []) (omega arith) g (omega arith) (gap .inside) (triple-is first) (gap .spelled) (one-field s b stop (integer-is h));
         makes = λ c base w e. let p = three-parts base c w (at from (stretch s from i)) (at b (stretch s b stop)) e in makes c base 14 (st.Checkpoint id n) 3 (p .0) (omega arith) refl (rw (p .2, p .3, triple-only (stretch s from i) x y z (first .spelled), integer-only (stretch s b stop) n (h .spelled)) refl);
+        lastly = λ w. refl;
       }
 
-  pub exit-made : (u v w : ℕ) → Stands s b stop (λ l. SpellsTriple l u v w) → BehindIt s from stop 16 (st.Exit id (record { x = u; y = v; z = w }))
-  unfolding madeOf
+  pub exit-made : (u v w : ℕ) → Stands s b stop (λ l. SpellsTriple l u v w) → BehindIt s from stop 16 (st.Exit id (record { x = u; y = v; z = w })) b
+  unfolding madeOf lastOf
   exit-made u v t h =
       let o = first .order in
       let g = gap .order in
@@ -129,11 +134,12 @@ module _ (s : Bytes) (from i b stop x y z : ℕ) (first : Stands s from i (λ w.
         fields = at from (stretch s from i) ∷ at b (stretch s b stop) ∷ [];
         spelled = more-fields s from i b stop (at b (stretch s b stop) ∷ []) (omega arith) g (omega arith) (gap .inside) (triple-is first) (gap .spelled) (one-field s b stop (triple-is h));
         makes = λ c base w e. let p = three-parts base c w (at from (stretch s from i)) (at b (stretch s b stop)) e in makes c base 16 (st.Exit id (record { x = u; y = v; z = t })) 3 (p .0) (omega arith) refl (rw (p .2, p .3, triple-only (stretch s from i) x y z (first .spelled), triple-only (stretch s b stop) u v t (h .spelled)) refl);
+        lastly = λ w. refl;
       }
 
   -- ## A point
-  pub point-made : (j c : ℕ) (a o : ℤ) → Stands s b j (λ w. SpellsCoordinate w a) → Stands s j c (λ w. all separates w ≡ true) → Stands s c stop (λ w. SpellsCoordinate w o) → Says s from stop 29 (st.Point id a o)
-  unfolding madeOf rndfKind
+  pub point-made : (j c : ℕ) (a o : ℤ) → Stands s b j (λ w. SpellsCoordinate w a) → Stands s j c (λ w. all separates w ≡ true) → Stands s c stop (λ w. SpellsCoordinate w o) → Says s from stop 29 (st.Point id a o) c
+  unfolding madeOf rndfKind lastOf
   point-made j c a o latitude gap2 longitude =
       let f1 = first .order in
       let g1 = gap .order in
@@ -149,11 +155,12 @@ module _ (s : Bytes) (from i b stop x y z : ℕ) (first : Stands s from i (λ w.
         spelled = more-fields s from i b stop (at b (stretch s b j) ∷ at c (stretch s c stop) ∷ []) (omega arith) g1 (omega arith) (gap .inside) (triple-is first) (gap .spelled) two;
         of-kind = λ l base e. let p = three-parts base l (at from (stretch s from i)) (at b (stretch s b j)) (at c (stretch s c stop)) e in rw (p .1, triple-first (stretch s from i) x y z (first .spelled)) refl;
         makes = λ l base e. let p = three-parts base l (at from (stretch s from i)) (at b (stretch s b j)) (at c (stretch s c stop)) e in makes l base 29 (st.Point id a o) 3 (p .0) (omega arith) refl (rw (p .1, p .2, p .3, triple-only (stretch s from i) x y z (first .spelled), coordinate-only (stretch s b j) a (latitude .spelled), coordinate-only (stretch s c stop) o (longitude .spelled)) refl);
+        lastly = refl;
       }
 
 -- ## Names
-pub name-made : (s : Bytes) (from stop k : ℕ) → getD shapes k 0 ≡ 1 → from ≤ length s → NameEnds s from stop → isNameLength (stop - from) ≡ true → BehindIt s from stop k (namedOf k from (stop - from))
-unfolding madeOf nameMade
+pub name-made : (s : Bytes) (from stop k : ℕ) → getD shapes k 0 ≡ 1 → from ≤ length s → NameEnds s from stop → isNameLength (stop - from) ≡ true → BehindIt s from stop k (namedOf k from (stop - from)) from
+unfolding madeOf nameMade lastOf
 name-made s from stop k q start name short =
     let f = stretch s from stop in
     let low = name-right (stop - from) short .low in
@@ -165,11 +172,12 @@ name-made s from stop k q start name short =
       fields = at from f ∷ [];
       spelled = one-field s from stop is;
       makes = λ c base w e. let p = two-parts base c w (at from f) e in makes c base k (namedOf k from (stop - from)) 2 (p .0) (omega arith) (ap needs-of q) (rw (q, p .2, size, short, second-start base c w (at from f) e) refl);
+      lastly = λ w. refl;
     }
 
 -- ## Boundary words
-pub side-made : (s : Bytes) (from stop k b : ℕ) → getD shapes k 0 ≡ 4 → BoundaryAt s from stop b → BehindIt s from stop k (sidedOf k b)
-unfolding madeOf sideMade
+pub side-made : (s : Bytes) (from stop k b : ℕ) → getD shapes k 0 ≡ 4 → BoundaryAt s from stop b → BehindIt s from stop k (sidedOf k b) from
+unfolding madeOf sideMade lastOf
 side-made s from stop k b q here =
     let f = stretch s from stop in
     let word = here .boundary in
@@ -182,6 +190,7 @@ side-made s from stop k b q here =
       fields = at from f ∷ [];
       spelled = one-field s from stop (record { some = h .some; allowed = h .allowed });
       makes = λ c base w l. let p = two-parts base c w (at from f) l in makes c base k (sidedOf k b) 2 (p .0) (omega arith) (ap needs-of q) (rw (q, p .2, boundary-number-here here, ne-eqb b 0 n) refl);
+      lastly = λ w. refl;
     }
 
 -- ## Keywords
@@ -200,8 +209,8 @@ module _ (s : Bytes) (from stop k : ℕ) (here : KeywordAt s from stop k) where
   keyword-kind w e = rw (e, rndf-no-digit (stretch s from stop) (omega (arith, is, below)), is, lt-ltb k 29 below) refl
 
   -- a keyword alone
-  pub bare-made : getD shapes k 0 ≡ 0 → Says s from stop k (bareOf k)
-  unfolding madeOf
+  pub bare-made : getD shapes k 0 ≡ 0 → Says s from stop k (bareOf k) from
+  unfolding madeOf lastOf
   bare-made q =
       let f = stretch s from stop in
       record {
@@ -212,11 +221,12 @@ module _ (s : Bytes) (from stop k : ℕ) (here : KeywordAt s from stop k) where
         spelled = one-field s from stop (record { some = word-is .some; allowed = word-is .allowed });
         of-kind = λ c base l. keyword-kind (part c (fieldsIn c .a)) (one-part base c (at from f) l .1);
         makes = λ c base l. let p = one-part base c (at from f) l in makes c base k (bareOf k) 1 (p .0) (omega arith) (ap needs-of q) (rw q refl);
+        lastly = refl;
       }
 
   -- a keyword, and the fields behind it
-  pub word-made : (b end : ℕ) (said : Statement) → Stands s stop b (λ w. all separates w ≡ true) → BehindIt s b end k said → Says s from end k said
-  word-made b end said gap behind =
+  pub word-made : (b end : ℕ) (said : Statement) (last : ℕ) → Stands s stop b (λ w. all separates w ≡ true) → BehindIt s b end k said last → Says s from end k said last
+  word-made b end said last gap behind =
       let f = stretch s from stop in
       let g = gap .order in
       let o = behind .order in
@@ -229,4 +239,5 @@ module _ (s : Bytes) (from stop k : ℕ) (here : KeywordAt s from stop k) where
         spelled = more-fields s from stop b end (behind .fields) (omega arith) g (omega arith) (gap .inside) (record { some = word-is .some; allowed = word-is .allowed }) (gap .spelled) (behind .spelled);
         of-kind = λ c base l. keyword-kind (part c (fieldsIn c .a)) (first-part base c (at from f) (behind .fields) l);
         makes = λ c base l. behind .makes c base (at from f) l;
+        lastly = behind .lastly (at from f);
       }

@@ -10,6 +10,7 @@ use Rattle.terms.specs.Ascii.{Bytes}
 use Rattle.scan.specs.Allowed.{separates, all}
 use Rattle.line.specs.Content.{Field, SpellsFields}
 use Rattle.line.specs.Forms.{fieldsAt, fieldsIn, part}
+use Rattle.line_fields.specs.LineFields.{lastOf, lastStart}
 use Rattle.statement.specs.declared.Statement.{Statement}
 use Rattle.made_out.specs.Made.{shapes, needs-of, madeOf}
 use Rattle.made_out.specs.declared.Made.the-variants.{Is}
@@ -31,19 +32,20 @@ pub record Makes (content : Bytes) (base k : ℕ) (st : Statement) : Type 0 wher
   pub made : madeOf content base (fieldsIn content) k ≡ Is st
 
 -- the fields behind a keyword
-pub record BehindIt (s : Bytes) (from stop k : ℕ) (st : Statement) : Type 0 where
+pub record BehindIt (s : Bytes) (from stop k : ℕ) (st : Statement) (last : ℕ) : Type 0 where
   pub order : from < stop
   pub inside : stop ≤ length s
   pub fields : List Field
   pub spelled : Spelt s from stop fields
   pub makes : (content : Bytes) (base : ℕ) (word : Field) → fieldsAt base content ≡ word ∷ fields → Makes content base k st
+  pub lastly : (word : Field) → lastOf word fields .start ≡ last
 
 abbrev pub BehindStands : Bytes → ℕ → ℕ → DB.Behind → Type 0
-BehindStands s from k (Behind.Is st stop) = BehindIt s from stop k st
+BehindStands s from k (Behind.Is st stop last) = BehindIt s from stop k st last
 BehindStands s from k Behind.No = Unit {0}
 
 -- all fields of a line
-pub record Says (s : Bytes) (from stop k : ℕ) (st : Statement) : Type 0 where
+pub record Says (s : Bytes) (from stop k : ℕ) (st : Statement) (last : ℕ) : Type 0 where
   pub order : from < stop
   pub inside : stop ≤ length s
   pub kind : k < 30
@@ -51,9 +53,10 @@ pub record Says (s : Bytes) (from stop k : ℕ) (st : Statement) : Type 0 where
   pub spelled : Spelt s from stop fields
   pub of-kind : (content : Bytes) (base : ℕ) → fieldsAt base content ≡ fields → rndfKind (part content (fieldsIn content .a)) ≡ k
   pub makes : (content : Bytes) (base : ℕ) → fieldsAt base content ≡ fields → Makes content base k st
+  pub lastly : lastStart fields ≡ last
 
 abbrev pub FieldsStand : Bytes → ℕ → DF.Fields → Type 0
-FieldsStand s from (Fields.Say k st stop) = Says s from stop k st
+FieldsStand s from (Fields.Say k st stop last) = Says s from stop k st last
 FieldsStand s from Fields.No = Unit {0}
 
 -- what stands behind the keyword of a kind, where it is told

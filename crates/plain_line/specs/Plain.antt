@@ -1,10 +1,11 @@
--- What a plain line says: its end is the line's, and the judge makes of the line what it makes of the statement alone. Assumes nothing.
+-- What a plain line says: its end is the line's, its last field starts where it is said to, and the judge makes of the line what it makes of the statement alone. Assumes nothing.
 use mathlib.Core.Path.{_≡_}
 use mathlib.Core.List.{List}
 use Prim.Native.Nat.{ℕ, _-_, _≤_}
 use Rattle.terms.specs.Ascii.{Bytes}
 use Rattle.scan.specs.Reach.{reach, stopsBy}
 use Rattle.scan.specs.declared.Until.the-variants.{Byte}
+use Rattle.line_fields.specs.LineFields.{lineFields, lastStart}
 use Rattle.statement.specs.declared.Statement.{Statement}
 use Rattle.place.specs.declared.Place.{Place}
 use Rattle.judge.specs.Judging.{Got, blank, line}
@@ -32,6 +33,6 @@ ShortEnd s from stop (Reached.At end) = EndsShort s from stop end
 ShortEnd s from stop Reached.No = Unit {0}
 
 abbrev pub PlainStands : Bytes → ℕ → DP.Plain → Type 0
-PlainStands s from (Plain.Said k st stop) = LineGets s from stop (λ table p. stated (judging table) k st p)
+PlainStands s from (Plain.Said k st stop last) = LineGets s from stop (λ table p. stated (judging table) k st p) × (last ≡ lastStart (lineFields from (stretch s from stop)))
 PlainStands s from (Plain.Blank stop) = LineGets s from stop (λ table p. blank)
 PlainStands s from Plain.No = Unit {0}

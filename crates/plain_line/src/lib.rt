@@ -1,8 +1,8 @@
-// A plain line of an RNDF read in one pass, straight from the text: its statement, and where it ends. Plain is a line whose fields are separated and spelled as in most
+// A plain line of an RNDF read in one pass, straight from the text: its statement, where it ends, and where its last field starts. Plain is a line whose fields are separated and spelled as in most
 // lines; of any other nothing is said, and it is cut into its fields as ever (`said_line`). No test is left out: of a plain line 2, 3, 4, 7 and 8 cannot come, and 5, 6, 9 and 25
 // follow for both by the same functions of `place`.
 //
-// specs/Plain: what is said of a line: where it ends, and that the judge makes of it what it makes of the statement alone. specs/Fields: the same of its fields.
+// specs/Plain: what is said of a line: where it ends, where its last field starts, and that the judge makes of it what it makes of the statement alone. specs/Fields: the same of its fields.
 // proofs/Spelt: its fields; proofs/Made: what they make; proofs/Whole: the line. That the judge looks at such a line's fields is a law of `plain_fields`.
 //
 // Rests on `plain_fields`, `plain_parts`, `plain_word`, `judge` and what they rest on.
@@ -39,21 +39,21 @@ ghost use Rattle.made_out.specs.Made.{shapes};
 ghost use Rattle.plain_line.specs.Fields.{BehindStands, FieldsStand, Shape};
 ghost use Rattle.plain_line.specs.Plain.{ShortEnd, PlainStands};
 
-// The fields of a line: a statement with its kind, and the place behind the last of them.
+// The fields of a line: a statement with its kind, the place behind the last of them, and where that one starts.
 enum Fields {
-    Say(u8, Statement, usize),
+    Say(u8, Statement, usize, usize),
     No,
 }
 
-// The fields behind a keyword: the statement that they make with it, and the place behind the last of them.
+// The fields behind a keyword: the statement that they make with it, the place behind the last of them, and where that one starts.
 enum Behind {
-    Is(Statement, usize),
+    Is(Statement, usize, usize),
     No,
 }
 
-// A line: a statement with its kind, and the line's end; or none, and the end.
+// A line: a statement with its kind, the line's end, and where its last field starts; or none, and the end.
 pub enum Plain {
-    Said(u8, Statement, usize),
+    Said(u8, Statement, usize, usize),
     Blank(usize),
     No,
 }
@@ -81,6 +81,7 @@ fn point_said(s: &[u8], from: usize) -> Fields
         kinds::POINT,
         Statement::Point(Id { x, y, z }, latitude, longitude),
         k,
+        c,
     )
 }
 
@@ -93,7 +94,7 @@ fn name_behind(s: &[u8], from: usize, kind: u8) -> Behind
     let n = e - from;
     if is_name_length(n) {
         if from < 4294967296 {
-            return Behind::Is(named(kind, from as u32, n as u32), e);
+            return Behind::Is(named(kind, from as u32, n as u32), e, from);
         }
     }
     Behind::No
@@ -107,7 +108,7 @@ fn number_behind(s: &[u8], from: usize, kind: u8) -> Behind
     let IntegerAt::Is(n, e) = integer_at(s, from) else {
         return Behind::No;
     };
-    Behind::Is(numbered(kind, n), e)
+    Behind::Is(numbered(kind, n), e, from)
 }
 
 // An identifier m.n.
@@ -118,7 +119,7 @@ fn pair_behind(s: &[u8], from: usize, kind: u8) -> Behind
     let PairAt::Is(m, n, e) = pair_at(s, from) else {
         return Behind::No;
     };
-    Behind::Is(paired(kind, m, n), e)
+    Behind::Is(paired(kind, m, n), e, from)
 }
 
 // A boundary word.
@@ -129,7 +130,7 @@ fn side_behind(s: &[u8], from: usize, kind: u8) -> Behind
     let WordAt::Is(b, e) = boundary_at(s, from) else {
         return Behind::No;
     };
-    Behind::Is(sided(kind, b), e)
+    Behind::Is(sided(kind, b), e, from)
 }
 
 // A checkpoint's point and number.
@@ -145,7 +146,7 @@ fn checkpoint_behind(s: &[u8], from: usize) -> Behind
     let IntegerAt::Is(n, e) = integer_at(s, b) else {
         return Behind::No;
     };
-    Behind::Is(Statement::Checkpoint(Id { x, y, z }, n), e)
+    Behind::Is(Statement::Checkpoint(Id { x, y, z }, n), e, b)
 }
 
 // A stop's point.
@@ -155,7 +156,7 @@ fn stop_behind(s: &[u8], from: usize) -> Behind
     let TripleAt::Is(x, y, z, e) = triple_at(s, from) else {
         return Behind::No;
     };
-    Behind::Is(Statement::Stop(Id { x, y, z }), e)
+    Behind::Is(Statement::Stop(Id { x, y, z }), e, from)
 }
 
 // An exit's point and entry.
@@ -181,6 +182,7 @@ fn exit_behind(s: &[u8], from: usize) -> Behind
             },
         ),
         e,
+        b,
     )
 }
 
@@ -254,15 +256,15 @@ fn word_said(s: &[u8], from: usize) -> Fields
     };
     let shape = shape_of(kind);
     if shape == 0 {
-        return Fields::Say(kind, bare(kind), w);
+        return Fields::Say(kind, bare(kind), w, from);
     }
     let Reached::At(b) = gap_at(s, w) else {
         return Fields::No;
     };
-    let Behind::Is(said, e) = shape_behind(s, b, kind, shape) else {
+    let Behind::Is(said, e, last) = shape_behind(s, b, kind, shape) else {
         return Fields::No;
     };
-    Fields::Say(kind, said, e)
+    Fields::Say(kind, said, e, last)
 }
 
 // The fields of a line, the first of which starts there.
@@ -309,11 +311,11 @@ pub fn plain_line(text: &[u8], from: usize) -> Plain
     let at = not_separator_from(text, from);
     if at < text.len() {
         match fields_said(text, at) {
-            Fields::Say(kind, said, stop) => {
+            Fields::Say(kind, said, stop, last) => {
                 let Reached::At(e) = end_of(text, from, stop) else {
                     return Plain::No;
                 };
-                Plain::Said(kind, said, e)
+                Plain::Said(kind, said, e, last)
             }
             Fields::No => blank_line(text, from),
         }

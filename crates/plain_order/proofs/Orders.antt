@@ -35,7 +35,7 @@ use Rattle.plain_parts.proofs.Ended.{blank-to}
 use Rattle.plain_fields.specs.LineStands.{LineStands, stated}
 use Rattle.plain_fields.proofs.Fields.{last-field, field-ahead, blank-ahead, line-stands}
 use Rattle.plain_fields.proofs.Judged.{plain-judged}
-use Rattle.plain_order.specs.Orders.{SpellsOrder, one, three, OrderStands, PlainStands}
+use Rattle.plain_order.specs.Orders.{SpellsOrder, one, three, OrderStands, OrderLine}
 use Rattle.plain_order.specs.declared.PlainOrder.the-variants as PlainOrder
 
 -- ## An integer is a field that begins with a digit
@@ -95,7 +95,7 @@ module _ (s : Bytes) (from at kind : ℕ) (there : at ≡ reach (stopsBy NotSepa
       let e = h .2 .ends .order in
       omega arith
 
-  pub order-line : stop - from ≤ 512 → PlainStands s from kind (PlainOrder.Is o stop)
+  pub order-line : stop - from ≤ 512 → OrderLine s from kind (PlainOrder.Is o stop)
   order-line short =
       let l = line-stands s from stop (h .0) (blank-ahead s stop from at (h .0) (omega arith) (rw there (blank-to s from)) (h .2)) short in
       record { ends = l .ends; gets = λ table p due. plain-is table p s from stop due (h .1) l }

@@ -31,10 +31,10 @@ OrderStands s from kind (PlainOrder.Is o stop) = (fields : List Field) × Spells
 OrderStands s from kind PlainOrder.No = Unit {0}
 
 -- the line that starts at a place ends at another; where a kind is due it gets what the order of that kind gets alone, with every table
-pub record LineGets (s : Bytes) (from stop kind : ℕ) (o : Order) : Type 0 where
+pub record OrderGets (s : Bytes) (from stop kind : ℕ) (o : Order) : Type 0 where
   pub ends : stop ≡ reach (stopsBy (Byte 10)) s from
   pub gets : (table : List (List ℕ)) (p : MissionPlace) → numberKindOf p ≡ kind → line (judging table) (stretch s from stop) from p ≡ stated (judging table) kind o p
 
-abbrev pub PlainStands : Bytes → ℕ → ℕ → DO.PlainOrder → Type 0
-PlainStands s from kind (PlainOrder.Is o stop) = LineGets s from stop kind o
-PlainStands s from kind PlainOrder.No = Unit {0}
+abbrev pub OrderLine : Bytes → ℕ → ℕ → DO.PlainOrder → Type 0
+OrderLine s from kind (PlainOrder.Is o stop) = OrderGets s from stop kind o
+OrderLine s from kind PlainOrder.No = Unit {0}

@@ -19,7 +19,7 @@ ghost use Rattle.plain_fields.specs.LineStands.{stated};
 ghost use Rattle.judge.specs.Judging.{taken};
 ghost use Rattle.mission_place.specs.Abstract.{seen};
 ghost use Rattle.mission_judge.specs.MdfLine.{judging};
-ghost use Rattle.plain_order.specs.Orders.{OrderStands, PlainStands};
+ghost use Rattle.plain_order.specs.Orders.{OrderStands, OrderLine};
 
 // An order, and where its line ends.
 pub enum PlainOrder {
@@ -77,7 +77,7 @@ fn order_at(text: &[u8], from: usize, kind: u8) -> PlainOrder
 
 // The line that starts at a place, where it is plain and a goal or a limit is due, as `kind` says.
 pub fn plain_order(text: &[u8], from: usize, kind: u8) -> PlainOrder
-    ensures { λ r. ⌜ PlainStands (now (text .entry)) from kind r ⌝ }
+    ensures { λ r. ⌜ OrderLine (now (text .entry)) from kind r ⌝ }
 {
     let at = not_separator_from(text, from);
     let PlainOrder::Is(o, stop) = order_at(text, at, kind) else {

@@ -13,7 +13,7 @@ use Rattle.progress.specs.After.{numberOf, next-point}
 abbrev pub pointOf : Progress → ℕ → ℕ
 pointOf p z = fitted (row-of (next-point p) z)
 
--- `start`: where the statement's line starts in the text; it stands for the entry of an exit, which is looked up later
+-- `start`: where the last field of the statement's line starts in the text: of an exit its entry, which is looked up later
 unfoldable pub rowOf : Statement → ℕ → Progress → Row
 rowOf (st.RndfName a l) start p = Row.Nothing
 rowOf (st.NumSegments n) start p = Row.Nothing

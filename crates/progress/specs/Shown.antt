@@ -127,7 +127,7 @@ within-after end-file w = w
 within-after point w = suc w
 
 -- ## A row
--- an exit whose line starts at `start`: the entry is looked up later
+-- an exit whose entry starts at `start`: it is looked up later
 abbrev pub shown-row : ℕ → NR.Row Stretch → Row
 shown-row start NR.nothing = Row.Nothing
 shown-row start (NR.a-segment a) = Row.Segment (shown-segment a)

@@ -54,7 +54,7 @@ pub struct Progress {
     pub spot: SpotRow,
 }
 
-// What a statement gives: nothing, or one row of one table. The entry of an exit is where its line starts in the text: it is looked up later.
+// What a statement gives: nothing, or one row of one table. The entry of an exit is where its field starts in the text: it is looked up later.
 pub enum Row {
     Nothing,
     Segment(SegmentRow),
@@ -543,7 +543,7 @@ impl Progress {
         self
     }
 
-    // The row that a statement gives, where the statement's line starts at `start`.
+    // The row that a statement gives, where the last field of its line starts at `start`.
     pub fn row(self, s: Statement, start: u32) -> Row
         ensures { λ r. ⌜ r ≡ rowOf s start self ⌝ }
     {

@@ -36,6 +36,7 @@ use Rattle.form_faults.proofs.FormFaults.{mdf-bad-line-right}
 use Rattle.fill.specs.FirstFaults.{fault, first-fault, is-among}
 use Rattle.fill.specs.FirstLines.{place-of}
 use Rattle.walk.specs.Standing as Standing
+use Rattle.line_fields.specs.LineFields as LineFields
 use Rattle.find_line.specs.FoundLines.{mdfLineOf}
 use Rattle.find_line.proofs.Theorems.{mdf-line-there}
 use Rattle.fault_lines.specs.FaultLines.{FirstMdfFault}
@@ -109,7 +110,7 @@ spelled edition = record { round = mdf-to-in (inner edition) mission round (spel
 
 -- ## What has a fault
 goal-on-5 : mdfLineOf goal-8 11 0 ≡ 5
-unfolding ascii place-of Standing.standing Standing.speaks Lines.linesOf Lines.dropCr Forms.formOf Forms.closes Forms.noteOf Forms.outerOf Forms.fieldsAt Content.parted-by Allowed.separates Allowed.all Reach.two Reach.sameBytes Reach.begins Reach.first Reach.upTo Reach.stopsBy
+unfolding ascii place-of Standing.standing Standing.speaks LineFields.lineFields Lines.linesOf Lines.dropCr Forms.formOf Forms.closes Forms.noteOf Forms.outerOf Forms.fieldsAt Content.parted-by Allowed.separates Allowed.all Reach.two Reach.sameBytes Reach.begins Reach.first Reach.upTo Reach.stopsBy
 goal-on-5 = mdf-line-there goal 0 goal-8 goal-8-lines (answered .goal-8) (lit< tt)
 
 wrong-goal : FirstMdfFault network goal-8 5 15

@@ -39,6 +39,7 @@ use Rattle.fill.specs.Resolve.{resolve}
 use Rattle.fill.specs.FirstFaults.{fault, first-fault, is-among}
 use Rattle.fill.specs.FirstLines.{place-of}
 use Rattle.walk.specs.Standing as Standing
+use Rattle.line_fields.specs.LineFields as LineFields
 use Rattle.find_line.proofs.Theorems.{rndf-line-there}
 use Rattle.fault_lines.specs.FaultLines.{FirstRndfFault}
 use Rattle.fault_lines.proofs.RndfFaults.{exit-line, checkpoint-line, only-undeclared, only-repeated}
@@ -145,7 +146,7 @@ pub open-ended : (edition : Edition) (text : Bytes) (line : ℕ) → read-rndf-i
 open-ended edition text line e = rndf-unended-to-in (inner edition) text line (rndf-unended-right-in (inner edition) text line e)
 
 exit-on-9 : exit-line entry-3 0 ≡ 9
-unfolding ascii place-of Standing.standing Standing.speaks Lines.linesOf Lines.dropCr Forms.formOf Forms.closes Forms.noteOf Forms.outerOf Forms.fieldsAt Content.parted-by Allowed.separates Allowed.all Reach.two Reach.sameBytes Reach.begins Reach.first Reach.upTo Reach.stopsBy
+unfolding ascii place-of Standing.standing Standing.speaks LineFields.lineFields Lines.linesOf Lines.dropCr Forms.formOf Forms.closes Forms.noteOf Forms.outerOf Forms.fieldsAt Content.parted-by Allowed.separates Allowed.all Reach.two Reach.sameBytes Reach.begins Reach.first Reach.upTo Reach.stopsBy
 exit-on-9 = rndf-line-there exit 0 entry-3 entry-3-lines (answered March2007 .entry-3) (lit< tt)
 
 wrong-entry : FirstRndfFault network-entry-3 entry-3 9 12
@@ -153,7 +154,7 @@ unfolding first-fault is-among resolve tables-with
 wrong-entry = subst (λ (i : ℕ). FirstRndfFault network-entry-3 entry-3 i 12) exit-on-9 (only-undeclared network-entry-3 entry-3 entry-3-read (fault 0 12) refl refl)
 
 checkpoint-on-9 : checkpoint-line line-8-twice 1 ≡ 9
-unfolding ascii place-of Standing.standing Standing.speaks Lines.linesOf Lines.dropCr Forms.formOf Forms.closes Forms.noteOf Forms.outerOf Forms.fieldsAt Content.parted-by Allowed.separates Allowed.all Reach.two Reach.sameBytes Reach.begins Reach.first Reach.upTo Reach.stopsBy
+unfolding ascii place-of Standing.standing Standing.speaks LineFields.lineFields Lines.linesOf Lines.dropCr Forms.formOf Forms.closes Forms.noteOf Forms.outerOf Forms.fieldsAt Content.parted-by Allowed.separates Allowed.all Reach.two Reach.sameBytes Reach.begins Reach.first Reach.upTo Reach.stopsBy
 checkpoint-on-9 = rndf-line-there checkpoint 1 line-8-twice twice-lines (answered March2007 .line-8-twice) (lit< tt)
 
 seven-twice : FirstRndfFault network-twice line-8-twice 9 13

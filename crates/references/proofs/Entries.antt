@@ -1,24 +1,33 @@
--- THE LAW of the entry: where `text` reads an exit of the line, the third field of the line says its entry. Assumes nothing.
+-- THE LAW of the entry: where `text` reads an exit of a line, its entry stands at the last field of the line. Assumes nothing.
 use mathlib.Core.Path.{_≡_, refl, sym, ap, subst, _∙_}
-use mathlib.Core.List.{List, [], _∷_}
+use mathlib.Core.List.{List, [], _∷_, _++_}
 use mathlib.Core.Option.{Option, none, some}
-use mathlib.Core.Bool.{Bool, true, false}
-use Prim.Native.Nat.{ℕ}
+use mathlib.Core.Bool.{Bool, true, false, _||_}
+use Prim.Native.Nat.{ℕ, _+_, _-_, _≤_, _<_}
 use native.Mathlib.Omega.{arith}
-use lib.ListN.{length, take}
-use lib.Dec.{eqb, leb}
-use borrow.Author.Tests.{eq-eqb, leb-true, leb-false}
+use lib.ListN.{length, take, drop, getD, take-append-drop, drop-of-length-le}
+use lib.Seq.{drop-cons, drop-drop, take-append-seam}
+use lib.Dec.{eqb}
+use borrow.Author.Tests.{eqb-true}
 use Rattle.terms.specs.Ascii.{Bytes}
+use Rattle.scan.specs.Allowed.{separates, all}
+use Rattle.scan.specs.Reach.{upTo, begins, fails, stopsBy}
+use Rattle.scan.specs.declared.Until.the-variants.{Byte}
+use Rattle.line.specs.Text.{lf}
 use Rattle.line.specs.Content.{Field}
 use Rattle.line.specs.Lines.{dropCr}
-use Rattle.line.specs.Forms.{formOf, fieldsAt, fieldsIn, fieldIn, listed, part}
+use Rattle.line.specs.Forms.{formOf, fieldsAt}
 use Rattle.line.specs.declared.Form as Form
 use Rattle.line.specs.declared.Form.the-variants.{Bad, Body}
-use Rattle.line.proofs.Ends.{trim-take}
-use Rattle.line.proofs.Spans.{fields-listed, count-le, count-exact, count-more}
+use Rattle.line_fields.specs.LineFields.{fieldsBy, lineFields, lastOf, lastStart}
+use Rattle.line_fields.proofs.LastField.{passed, Last, last-there, all-of-it}
 use Rattle.number.specs.Executable.{tripleOf}
+use Rattle.number.specs.House.{numberByte}
+use Rattle.number.specs.Spelling.{SpellsTriple}
 use Rattle.number.specs.declared.Triple as DT
 use Rattle.number.specs.declared.Triple.the-variants as Triple
+use Rattle.number.proofs.House.{triple-bytes}
+use Rattle.number.proofs.Identifiers.{triple-right, triple-only}
 use Rattle.grammar.specs.Language.{asKind}
 use Rattle.grammar.specs.Statements.{Kind, PointId, ExitLine, Statement, lines, say, exit}
 use Rattle.grammar.specs.Machine.{Out, next, refuse, Place, step}
@@ -28,7 +37,8 @@ use Rattle.grammar.proofs.LanguageLaws.{as-same}
 use Rattle.text.specs.Judge.{Vals, triple-from, read, both, readAll, Verdict, fault, good, check, kindAt, args, taken, valued, standing, ofKind, known, tell, told, formed, judge}
 use Rattle.text.specs.RndfWords.{rndf-lexis, rndf-sorts, rndf-make}
 use Rattle.statement.specs.Meaning.{point-of}
-use Rattle.references.specs.Entry.{idFrom, entryIn, entryFormed, entryOf}
+use Rattle.plain_parts.specs.Stands.{stretch, Stands}
+use Rattle.references.specs.Entry.{noEntry, idFrom, numberAt, entryAt}
 
 abbrev Got : Type 0
 Got = Verdict (Statement Field) (Place (rndf Field))
@@ -100,67 +110,96 @@ exit-fields p v q fs e = go (stands (rndf Field) p exit) (eqb (length fs) 2) (re
     go none true none r e = absurd (not-good 8 (some (say exit v)) q e)
     go none true (some w) r e = (w, r, said w (taken-is p (say exit v) q (say exit (rndf-make exit w)) (step (rndf Field) p (say exit (rndf-make exit w))) e))
 
--- ## The third field of the line
-module _ (start : ℕ) (s : Bytes) (f g h : Field) (are : fieldsAt start s ≡ f ∷ g ∷ h ∷ []) where
-  three : fieldsIn s .count ≡ 3
-  three = go (leb (fieldsIn s .count) 3) refl
-    where
-      many : length (fieldsAt start s) ≡ 3
-      many = ap (λ (l : List Field). length l) are
-
-      go : (b : Bool) → leb (fieldsIn s .count) 3 ≡ b → fieldsIn s .count ≡ 3
-      go true q = sym (count-exact start s (leb-true (fieldsIn s .count) 3 q)) ∙ many
-      go false q =
-          let a = leb-false (fieldsIn s .count) 3 q in
-          let b = count-le s in
-          let c : fieldsIn s .count ≡ 4 = omega arith in
-          let d = count-more start s c in
-          let m = many in
-          absurd (omega arith)
-
-  third : h .bytes ≡ part s (fieldsIn s .c)
-  third =
-      let e : f ∷ g ∷ h ∷ [] ≡ fieldIn start s (fieldsIn s .a) ∷ fieldIn start s (fieldsIn s .b) ∷ fieldIn start s (fieldsIn s .c) ∷ [] = sym are ∙ fields-listed start s ∙ ap (listed start s (fieldsIn s)) three in
-      let h-is : h ≡ fieldIn start s (fieldsIn s .c) = cc in
-      ap (λ (f : Field). f .bytes) h-is
-
-  pub entry-third : entryIn s ≡ idFrom (tripleOf (h .bytes))
-  unfolding entryIn
-  entry-third = rw (eq-eqb (fieldsIn s .count) 3 three) (ap (λ (b : Bytes). idFrom (tripleOf b)) (sym third))
-
 point-read : (t : DT.Triple) (e : PointId) → triple-from t ≡ some e → point-of (idFrom t) ≡ e
 point-read (Triple.Is i) e q = cc
 point-read Triple.No e q = absurd (none-some e q)
 
--- ## The line
+-- ## The fields of the line
+-- three, of which the last spells the entry
+pub record ExitFields (fields : List Field) (v : ExitLine) : Type 0 where
+  pub word : Field
+  pub point : Field
+  pub entry : Field
+  pub are : fields ≡ word ∷ point ∷ entry ∷ []
+  pub spelled : triple-from (tripleOf (entry .bytes)) ≡ some (v .entry)
+
 module _ (p : Place (rndf Field)) (start : ℕ) (t : Statement Field) (q : Place (rndf Field)) (v : ExitLine) (is : t ≡ say exit v) where
-  of-exit : (s : Bytes) (f : Field) (fs : List Field) → fieldsAt start s ≡ f ∷ fs → ofKind (rndf Field) rndf-lexis p exit fs ≡ good (some t) q → point-of (entryIn s) ≡ v .entry
+  of-exit : (f : Field) (fs : List Field) → ofKind (rndf Field) rndf-lexis p exit fs ≡ good (some t) q → ExitFields (f ∷ fs) v
   unfolding Two
-  of-exit s f fs are e =
+  of-exit f fs e =
       let x = exit-fields p v q fs (e ∙ ap (λ (t : Statement Field). good (some t) q) is) in
       let y = two-read (x .0) fs (x .1) in
-      ap point-of (entry-third start s f (y .0) (y .1) (are ∙ ap (λ (l : List Field). f ∷ l) (y .2))) ∙ point-read (tripleOf (y .1 .bytes)) (v .entry) (y .3 ∙ ap some (x .2))
+      record { word = f; point = y .0; entry = y .1; are = ap (λ (l : List Field). f ∷ l) (y .2); spelled = y .3 ∙ ap some (x .2) }
 
-  in-fields : (s : Bytes) → told (rndf Field) rndf-lexis p (fieldsAt start s) ≡ good (some t) q → point-of (entryIn s) ≡ v .entry
+  in-fields : (fs : List Field) → told (rndf Field) rndf-lexis p fs ≡ good (some t) q → ExitFields fs v
   unfolding tell
-  in-fields s e = go (fieldsAt start s) refl e
+  in-fields [] e = absurd (let z : _≡_ {A = ℕ} 0 1 = cc in omega arith)
+  in-fields (f ∷ fs) e = kinds (kindAt (rndf Field) rndf-lexis p f) e
     where
-      kinds : (f : Field) (fs : List Field) → fieldsAt start s ≡ f ∷ fs → (o : Option Kind) → known (rndf Field) rndf-lexis p o f fs ≡ good (some t) q → point-of (entryIn s) ≡ v .entry
-      kinds f fs are none e = absurd (not-good 5 (some t) q e)
-      kinds f fs are (some k) e =
+      kinds : (o : Option Kind) → known (rndf Field) rndf-lexis p o f fs ≡ good (some t) q → ExitFields (f ∷ fs) v
+      kinds none e = absurd (not-good 5 (some t) q e)
+      kinds (some k) e =
           let k-is : k ≡ exit = kind-kept p t q k (args (rndf Field) rndf-lexis (rndf-lexis .keyword k) f fs) e ∙ ap (λ (t : Statement Field). t .kind) is in
-          of-exit s f fs are (subst (λ (k : Kind). ofKind (rndf Field) rndf-lexis p k (args (rndf Field) rndf-lexis (rndf-lexis .keyword k) f fs) ≡ good (some t) q) k-is e)
+          of-exit f fs (subst (λ (k : Kind). ofKind (rndf Field) rndf-lexis p k (args (rndf Field) rndf-lexis (rndf-lexis .keyword k) f fs) ≡ good (some t) q) k-is e)
 
-      go : (fs : List Field) → fieldsAt start s ≡ fs → told (rndf Field) rndf-lexis p fs ≡ good (some t) q → point-of (entryIn s) ≡ v .entry
-      go [] are e = absurd (let z : _≡_ {A = ℕ} 0 1 = cc in omega arith)
-      go (f ∷ fs) are e = kinds f fs are (kindAt (rndf Field) rndf-lexis p f) e
+  exit-line : (line : Bytes) → judge (rndf Field) rndf-lexis p start line ≡ good (some t) q → ExitFields (lineFields start line) v
+  unfolding judge lineFields
+  exit-line line h = go (formOf (dropCr line)) h
+    where
+      go : (f : Form.Form) → formed (rndf Field) rndf-lexis p start (dropCr line) f ≡ good (some t) q → ExitFields (fieldsBy start (dropCr line) f) v
+      go (Bad n) h = absurd (not-good n (some t) q h)
+      go (Body e) h = in-fields (fieldsAt start (take e (dropCr line))) h
 
--- THE ENTRY of an exit that was read is what `entry_of` reads of its line again
-pub entry-told : (p : Place (rndf Field)) (start : ℕ) (line : Bytes) (t : Statement Field) (q : Place (rndf Field)) → judge (rndf Field) rndf-lexis p start line ≡ good (some t) q
-    → (v : ExitLine) → t ≡ say exit v → point-of (entryOf line) ≡ v .entry
-unfolding judge entryOf
-entry-told p start line t q h v is = rw (trim-take line) (go (formOf (dropCr line)) h)
+-- ## In the text
+-- no byte of a number separates fields, opens a comment or ends a line
+blank-ends : (b : ℕ) → separates b ≡ true → numberByte b ≡ false
+unfolding separates
+blank-ends b e = go (eqb b 9) (eqb b 32) refl refl e
   where
-    go : (f : Form.Form) → formed (rndf Field) rndf-lexis p start (dropCr line) f ≡ good (some t) q → point-of (entryFormed (dropCr line) f) ≡ v .entry
-    go (Bad n) h = absurd (not-good n (some t) q h)
-    go (Body e) h = in-fields p start t q v is (take e (dropCr line)) h
+    go : (x y : Bool) → eqb b 9 ≡ x → eqb b 32 ≡ y → (x || y) ≡ true → numberByte b ≡ false
+    go true y p q e = rw (eqb-true b 9 p) refl
+    go false true p q e = rw (eqb-true b 32 q) refl
+    go false false p q e = absurd (let z : _≡_ {A = ℕ} 0 1 = cc in omega arith)
+
+-- an identifier is all bytes of numbers
+spelled-bytes : (w : Bytes) (e : PointId) → triple-from (tripleOf w) ≡ some e → all numberByte w ≡ true
+spelled-bytes w e h = go (tripleOf w) refl h
+  where
+    go : (t : DT.Triple) → tripleOf w ≡ t → triple-from t ≡ some e → all numberByte w ≡ true
+    go (Triple.Is i) q h = triple-bytes w (i .x) (i .y) (i .z) (triple-right w i q)
+    go Triple.No q h = absurd (none-some e h)
+
+-- THE ENTRY of an exit that was read stands at the last field of its line
+pub entry-told : (text : Bytes) (p : Place (rndf Field)) (start : ℕ) (line : Bytes) → start ≤ length text → take (upTo (stopsBy (Byte lf)) (drop start text)) (drop start text) ≡ line
+    → (t : Statement Field) (q : Place (rndf Field)) → judge (rndf Field) rndf-lexis p start line ≡ good (some t) q → (v : ExitLine) → t ≡ say exit v → point-of (entryAt text (lastStart (lineFields start line))) ≡ v .entry
+unfolding entryAt numberAt lastOf
+entry-told text p start line inside here t q h v is =
+    let x = exit-line p start t q v is line h in
+    let there : Last numberByte blank-ends refl refl refl 0 text (x .entry) = last-there numberByte blank-ends refl refl refl text start inside (x .word) (x .point ∷ x .entry ∷ []) (ap (lineFields start) here ∙ x .are) in
+    rw (x .are) (ap (λ (w : Bytes). point-of (idFrom (tripleOf w))) (all-of-it numberByte blank-ends refl refl refl text (x .entry) there (spelled-bytes (x .entry .bytes) (v .entry) (x .spelled))) ∙ point-read (tripleOf (x .entry .bytes)) (v .entry) (x .spelled))
+
+-- ## An entry that is read where it stands
+pub entry-stands : (s : Bytes) (at e x y z : ℕ) → Stands s at e (λ w. SpellsTriple w x y z) → begins numberByte (drop e s) ≡ false → entryAt s at ≡ record { x = x; y = y; z = z }
+unfolding entryAt numberAt
+entry-stands s at e x y z h ends =
+    let w = stretch s at e in
+    let o = h .order in
+    let there : at + (e - at) ≡ e = omega arith in
+    let cut : drop at s ≡ w ++ drop e s = sym (take-append-drop (e - at) (drop at s)) ∙ ap (_++_ w) (drop-drop (e - at) at s ∙ ap (λ (i : ℕ). drop i s) there) in
+    let bytes = triple-bytes w x y z (h .spelled) in
+    let all-of : take (upTo (fails numberByte) (drop at s)) (drop at s) ≡ w = ap (λ (l : Bytes). take (upTo (fails numberByte) l) l) cut ∙ ap (λ (k : ℕ). take k (w ++ drop e s)) (passed numberByte w (drop e s) bytes ends) ∙ take-append-seam w (drop e s) in
+    ap (λ (w : Bytes). idFrom (tripleOf w)) all-of ∙ ap idFrom (triple-only w x y z (h .spelled))
+
+-- the next byte is of no number
+pub ends-by-byte : (s : Bytes) (e : ℕ) → e < length s → numberByte (getD s e 0) ≡ false → begins numberByte (drop e s) ≡ false
+unfolding begins
+ends-by-byte s e h q = rw (drop-cons s e 0 h) q
+
+pub ends-by-text : (s : Bytes) (e : ℕ) → length s ≤ e → begins numberByte (drop e s) ≡ false
+unfolding begins
+ends-by-text s e h = ap (begins numberByte) (drop-of-length-le s h)
+
+-- beyond the text there is none
+pub none-there : (s : Bytes) (at : ℕ) → length s ≤ at → entryAt s at ≡ noEntry
+unfolding entryAt numberAt upTo tripleOf
+none-there s at h = ap (λ (l : Bytes). idFrom (tripleOf (take (upTo (fails numberByte) l) l))) (drop-of-length-le s h)

@@ -1,10 +1,9 @@
--- Steps of the functions' proofs (Finds, ExitSteps, Stored) and the laws: the entry of a line (Entries), of a plain exit's line (Plain), what is read of tables of given rows (Looks), the exits
+-- Steps of the functions' proofs (Finds, ExitSteps, Stored) and the laws: the entry at a place (Entries), what is read of tables of given rows (Looks), the exits
 -- and the checkpoint numbers of given rows (Exits, Repeats), no second answer (Settled).
 pub mod Finds
 pub mod ExitSteps
 pub mod Stored
 pub mod Entries
-pub mod Plain
 pub mod Looks
 pub mod Exits
 pub mod Repeats

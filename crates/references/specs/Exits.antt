@@ -1,4 +1,4 @@
--- Executable: exits whose second word is where their line starts in the text get the row of the point that their entry names; or the first row whose entry names none. Assumes nothing.
+-- Executable: exits whose second word is where their entry starts in the text get the row of the point that their entry names; or the first row whose entry names none. Assumes nothing.
 use mathlib.Core.List.{List, map}
 use mathlib.Core.Option.{Option, none, some}
 use mathlib.Core.Bool.{Bool, true, false}
@@ -15,13 +15,13 @@ use Rattle.statement.specs.Meaning.{point-of}
 use Rattle.grammar.specs.Statements.{PointId}
 use Rattle.fill.specs.Resolve.{Look, resolve, or-zero}
 use Rattle.fill.specs.FirstFaults.{Fault, unless-found}
-use Rattle.references.specs.Entry.{lineAt, entryOf}
+use Rattle.references.specs.Entry.{entryAt}
 use Rattle.marks.specs.declared.FirstRow.{FirstRow}
 use Rattle.marks.specs.declared.FirstRow.the-variants as R
 
--- the point that the entry of the line at a place names; m: how many segments there are
-unfoldable pub namedAt : Bytes → Look → (m start : ℕ) → Option ℕ
-namedAt text look m start = resolve m look (point-of (entryOf (lineAt text start)))
+-- the point that the entry at a place names; m: how many segments there are
+unfoldable pub namedAt : Bytes → Look → (m at : ℕ) → Option ℕ
+namedAt text look m at = resolve m look (point-of (entryAt text at))
 
 abbrev pub withPoint : ExitRow → ℕ → ExitRow
 withPoint e i = record { point = e .point; entry = fitted i }
@@ -70,15 +70,15 @@ told (R.At row) t = at row
 told R.Nothing t = done t
 
 -- ## Over given rows
--- the entry that a row's line names
+-- the entry that a row stands for
 abbrev pub entryOfRow : Bytes → ExitRow → PointId
-entryOfRow text e = point-of (entryOf (lineAt text (e .entry)))
+entryOfRow text e = point-of (entryAt text (e .entry))
 
 -- 01, 12: "entry is no declared lane waypoint or perimeter point"
 abbrev pub entryFault : Look → ℕ → List PointId → PointId → Option ℕ
 entryFault look m front e = unless-found (resolve m look e)
 
--- a row with the point for where its line starts
+-- a row with the point for where its entry starts
 abbrev pub resolvedRow : Bytes → Look → ℕ → ExitRow → ExitRow
 resolvedRow text look m e = withPoint e (or-zero (resolve m look (entryOfRow text e)))
 

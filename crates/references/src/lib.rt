@@ -1,29 +1,20 @@
 // What is tested of the filled tables of an RNDF: every entry is declared (refusal 12). The answer is a row. (13, that no checkpoint number stands twice, is tested by `marks`; its law
 // over given rows is here.)
-// The entry of an exit has three numbers, for which its row has no room: while the tables are filled the row's second word holds where the exit's line
-// starts in the text. Here the entry is read of that line again, where it stands if the line is plain, else cut out, and the row of the point that the entry names takes the place.
+// The entry of an exit has three numbers, for which its row has no room: while the tables are filled the row's second word holds where the entry
+// starts in the text. Here it is read there, and the row of the point that it names takes the place.
 //
-// specs/: the same, executable, over the words of the tables. proofs/: Entries, the entry is the one that `text` reads of the line; Plain, a plain line is not
-// read otherwise than one that is cut (specs/Plain: what is said of it); Exits and Repeats,
+// specs/: the same, executable, over the words of the tables. proofs/: Entries, the entry at the last field of an exit's line is the one that `text` reads of the line; Exits and Repeats,
 // over the tables of given rows the answers are those of `fill`'s specs/FirstFaults.
 //
-// Rests on `marks` (which row is the first), `room` (a row's number in a word), `rows`, `read_rows`, `line`, `number`, `scan`, `statement`, `fill`, `plain_parts`, for its laws on `text` and
-// `plain_fields`, and on what these rest on.
+// Rests on `marks` (which row is the first), `room` (a row's number in a word), `rows`, `read_rows`, `number`, `scan`, `statement`, `fill`, `plain_parts`, for its laws on `text` and
+// `line_fields`, and on what these rest on.
 //
 // Settled: every contract here gives the answer by an executable function, and what a lent table holds by another, also where the answer is a row at fault: no second answer and no
 // second memory satisfies it. Contracts that give the answer by what it stands for (`found r`, `told r ..`) are settled by proofs/Settled.
-// Three are one-sided, `exit_word`, `entry_behind` and `plain_entry`: they say what an answer means, not when there is one. `entry_at`, which asks them, is settled.
-use line::Form;
-use line::fields_of;
-use line::form_of;
-use line::trimmed;
 use marks::FirstRow;
 use number::Triple;
 use number::triple_of;
-use plain_parts::Reached;
 use plain_parts::TripleAt;
-use plain_parts::end_at;
-use plain_parts::gap_at;
 use plain_parts::triple_at;
 use read_rows::exit_at;
 use read_rows::lane_at;
@@ -32,33 +23,21 @@ use read_rows::zone_at;
 use room::in_word;
 use rows::ExitRow;
 use rows::store_exit;
-use scan::far_byte_from;
-use scan::not_separator_from;
+use scan::is_digit;
 use statement::Id;
 ghost use mathlib.Core.Path.{_≡_};
 ghost use mathlib.Core.List.{[]};
 ghost use Prim.Native.Nat.{pred};
+ghost use Rattle.scan.specs.Reach.{reach, fails};
+ghost use Rattle.number.specs.House.{numberByte};
 ghost use Rattle.rows.specs.Read.{exitAt};
 ghost use Rattle.statement.specs.Meaning.{point-of};
 ghost use Rattle.fill.specs.Resolve as Resolve;
-ghost use Rattle.references.specs.Entry.{lineAt, idFrom, entryIn, entryWithin, entryOf};
-ghost use Rattle.references.specs.Plain.{WordStands, EntryStands, PlainEntry};
+ghost use Rattle.references.specs.Entry.{idFrom, entryAt};
 ghost use Rattle.references.specs.Finding.{found, lookIn};
 ghost use Rattle.references.specs.Exits.{namedAt, done, tried, onward, withFound, told, resolvedFrom, leftFrom};
 
-// ## The entry of a line
-// The line that starts at a place of the text, without its LF; an empty part where the place is beyond the text.
-pub fn line_at(text: &[u8], start: usize) -> &[u8]
-    ensures { λ r. ⌜ now r ≡ lineAt (now (text .entry)) start ⌝ }
-{
-    if start < text.len() {
-        let stop = far_byte_from(text, start, 10);
-        &text[start..stop]
-    } else {
-        &text[..0]
-    }
-}
-
+// ## The entry at a place
 // 0.0.0 where there is no identifier.
 fn id_from(t: Triple) -> Id
     ensures { λ r. ⌜ r ≡ idFrom t ⌝ }
@@ -73,111 +52,53 @@ fn id_from(t: Triple) -> Id
     }
 }
 
-// The third of three fields.
-fn entry_in(s: &[u8]) -> Id
-    ensures { λ r. ⌜ r ≡ entryIn (now (s .entry)) ⌝ }
+// A byte of a number or an identifier.
+fn is_number_byte(b: u8) -> bool
+    ensures { λ r. ⌜ r ≡ numberByte b ⌝ }
 {
-    let f = fields_of(s);
-    if f.count == 3 {
-        let third = f.c;
-        let a = third.start;
-        let e = third.stop;
-        id_from(triple_of(&s[a..e]))
+    is_digit(b) | ((b == b'.') | (b == b'-'))
+}
+
+// Where such bytes end, from a place on.
+fn number_end(s: &[u8], from: usize) -> usize
+    ensures { λ r. ⌜ r ≡ reach (fails numberByte) (now (s .entry)) from ⌝ }
+{
+    let mut i = from;
+    while i < s.len() {
+        if is_number_byte(s[i]) {
+            i += 1;
+        } else {
+            return i;
+        }
+    }
+    i
+}
+
+// The entry at a place of any text, cut out.
+fn entry_cut(text: &[u8], at: usize) -> Id
+    ensures { λ r. ⌜ r ≡ entryAt (now (text .entry)) at ⌝ }
+{
+    if at < text.len() {
+        let e = number_end(text, at);
+        id_from(triple_of(&text[at..e]))
     } else {
         Id { x: 0, y: 0, z: 0 }
     }
 }
 
-// The fields end before a comment.
-fn entry_within(s: &[u8]) -> Id
-    ensures { λ r. ⌜ r ≡ entryWithin (now (s .entry)) ⌝ }
+// The entry at a place, read where it stands, as every exit's is; what is read in no such way is cut out.
+fn entry_at(text: &[u8], at: usize) -> Id
+    ensures { λ r. ⌜ r ≡ entryAt (now (text .entry)) at ⌝ }
 {
-    match form_of(s) {
-        Form::Bad(_) => Id { x: 0, y: 0, z: 0 },
-        Form::Body(e) => entry_in(&s[..e]),
-    }
-}
-
-// The entry that an exit's line names: its third field.
-pub fn entry_of(line: &[u8]) -> Id
-    ensures { λ r. ⌜ r ≡ entryOf (now (line .entry)) ⌝ }
-{
-    let e = trimmed(line);
-    entry_within(&line[..e])
-}
-
-// ## The entry of a plain line
-// The entry of a plain line, as most are, is read where it stands in the text, which is quicker than to cut the line. `No` says nothing, and such a line is cut.
-// An entry, and where its line ends.
-enum EntryAt {
-    Is(Id, usize),
-    No,
-}
-
-// The word `exit` stands there.
-fn exit_word(s: &[u8], at: usize) -> bool
-    ensures { λ r. ⌜ WordStands (now (s .entry)) at r ⌝ }
-{
-    if at < s.len() {
-        if 4 <= s.len() - at {
-            if s[at] == b'e' {
-                if s[at + 1] == b'x' {
-                    if s[at + 2] == b'i' {
-                        return s[at + 3] == b't';
-                    }
-                }
-            }
+    let TripleAt::Is(x, y, z, e) = triple_at(text, at) else {
+        return entry_cut(text, at);
+    };
+    if e < text.len() {
+        if is_number_byte(text[e]) {
+            return entry_cut(text, at);
         }
     }
-    false
-}
-
-// An exit's point and entry, then the line's end.
-fn entry_behind(s: &[u8], from: usize) -> EntryAt
-    ensures { λ r. ⌜ EntryStands (now (s .entry)) from r ⌝ }
-{
-    let TripleAt::Is(_, _, _, i) = triple_at(s, from) else {
-        return EntryAt::No;
-    };
-    let Reached::At(b) = gap_at(s, i) else {
-        return EntryAt::No;
-    };
-    let TripleAt::Is(x, y, z, e) = triple_at(s, b) else {
-        return EntryAt::No;
-    };
-    let Reached::At(stop) = end_at(s, e) else {
-        return EntryAt::No;
-    };
-    EntryAt::Is(Id { x, y, z }, stop)
-}
-
-// The entry of the exit whose line starts there.
-fn plain_entry(text: &[u8], start: usize) -> EntryAt
-    ensures { λ r. ⌜ PlainEntry (now (text .entry)) start r ⌝ }
-{
-    let at = not_separator_from(text, start);
-    if exit_word(text, at) {
-        let Reached::At(b) = gap_at(text, at + 4) else {
-            return EntryAt::No;
-        };
-        let EntryAt::Is(e, stop) = entry_behind(text, b) else {
-            return EntryAt::No;
-        };
-        if stop - start <= 512 {
-            return EntryAt::Is(e, stop);
-        }
-    }
-    EntryAt::No
-}
-
-// The entry that the line at a place names.
-fn entry_at(text: &[u8], start: usize) -> Id
-    ensures { λ r. ⌜ r ≡ entryOf (lineAt (now (text .entry)) start) ⌝ }
-{
-    match plain_entry(text, start) {
-        EntryAt::Is(e, _) => e,
-        EntryAt::No => entry_of(line_at(text, start)),
-    }
+    Id { x, y, z }
 }
 
 // ## The point that an entry names
@@ -249,18 +170,18 @@ pub fn resolve(segments: &[u32], lanes: &[u32], zones: &[u32], segment_count: u3
 }
 
 // ## Every exit
-// The point that the entry of the line at a place names.
+// The point that the entry at a place names.
 fn named_at(
     text: &[u8],
     segments: &[u32],
     lanes: &[u32],
     zones: &[u32],
     segment_count: u32,
-    start: usize,
+    at: usize,
 ) -> Found
-    ensures { λ r. ⌜ found r ≡ namedAt (now (text .entry)) (lookIn (now (segments .entry)) (now (lanes .entry)) (now (zones .entry))) «segment_count» start ⌝ }
+    ensures { λ r. ⌜ found r ≡ namedAt (now (text .entry)) (lookIn (now (segments .entry)) (now (lanes .entry)) (now (zones .entry))) «segment_count» at ⌝ }
 {
-    let e = entry_at(text, start);
+    let e = entry_at(text, at);
     resolve(segments, lanes, zones, segment_count, e)
 }
 

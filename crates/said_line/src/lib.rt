@@ -1,7 +1,7 @@
 // What a line of an RNDF says, before its place is asked for its values: nothing, or a statement of a kind; or the number that refuses it: 2, 3 and 4 by its form, 5 and 6 by its kind, 7
 // and 8 by its fields. A plain line is read in one pass where it stands (`plain_line`); any other is cut into its fields first, as it always was.
 //
-// specs/Saying: what an answer stands for: at the place it comes to what the judge gives the line. Of a plain line 5 and 6 are not told here, since its kind is not asked for: `stated`
+// specs/Saying: what an answer stands for: at the place it comes to what the judge gives the line; and where the line's last field starts, for its row. Of a plain line 5 and 6 are not told here, since its kind is not asked for: `stated`
 // tells them.
 //
 // Rests on `plain_line`, `judge` and what they rest on.
@@ -23,41 +23,67 @@ use statement::kinds;
 ghost use mathlib.Core.Path.{_≡_};
 ghost use Prim.Native.Nat.{_≤_, _<_, _+_};
 ghost use lib.ListN.{length};
+ghost use Rattle.line.specs.Forms.{formOf, fieldsAt};
+ghost use Rattle.line_fields.specs.LineFields.{fieldsBy, lineFields, lastStart};
 ghost use Rattle.made_out.specs.Made.{made-from};
 ghost use Rattle.judge.specs.Judging.{ofKind, told, content, line};
 ghost use Rattle.judge.specs.RndfLine.{judging};
-ghost use Rattle.said_line.specs.Saying.{made-cut, gotOf, LineSays};
+ghost use Rattle.said_line.specs.Saying.{lastIn, made-cut, gotOf, LastOfFew, LastTold, LineSays};
 
 const LF: u8 = 10;
 
-// What a line says that is cut into its fields.
+// What a line says that is cut into its fields; with a statement, where the last field starts.
 enum Cut {
     Blank,
-    Said(u8, Statement),
-    Bad(u8),
-}
-
-// What a line says: a statement with its kind, and the line's end; nothing, and the end; or what refuses it.
-pub enum Line {
-    Blank(usize),
     Said(u8, Statement, usize),
     Bad(u8),
 }
 
+// What a line says: a statement with its kind, the line's end, and where its last field starts; nothing, and the end; or what refuses it.
+pub enum Line {
+    Blank(usize),
+    Said(u8, Statement, usize, usize),
+    Bad(u8),
+}
+
+// Where the last of at most three fields starts.
+fn last_start(f: Fields) -> usize
+    ensures { λ r. ⌜ r ≡ lastIn f ⌝ }
+{
+    let first = f.a;
+    let second = f.b;
+    let third = f.c;
+    if f.count == 1 {
+        return first.start;
+    }
+    if f.count == 2 {
+        return second.start;
+    }
+    third.start
+}
+
 // 8, or the statement of a kind.
-fn made_told(kind: u8, m: Made) -> Cut
-    ensures { λ r. ⌜ r ≡ made-cut kind (made-from m) ⌝ }
+fn made_told(kind: u8, m: Made, last: usize) -> Cut
+    ensures { λ r. ⌜ r ≡ made-cut kind last (made-from m) ⌝ }
 {
     let Made::Is(s) = m else {
         return Cut::Bad(8);
     };
-    Cut::Said(kind, s)
+    Cut::Said(kind, s, last)
 }
 
 // 5 or 6 by the kind alone, then 7.
-fn kind_cut(table: &[[u8; 30]; 27], s: &[u8], base: usize, f: Fields, p: Place, kind: u8) -> Cut
+fn kind_cut(
+    table: &[[u8; 30]; 27],
+    s: &[u8],
+    base: usize,
+    f: Fields,
+    p: Place,
+    kind: u8,
+    last: usize,
+) -> Cut
     requires { ⌜ (base + length (now s) < 4294967296) × (kind < 30) ⌝ }
-    ensures { λ r. ⌜ gotOf (now (table .entry)) p r ≡ ofKind (judging (now (table .entry))) (now (s .entry)) base f p kind ⌝ }
+    ensures { λ r. ⌜ (gotOf (now (table .entry)) p r ≡ ofKind (judging (now (table .entry))) (now (s .entry)) base f p kind) × LastOfFew (f .count) last r ⌝ }
 {
     let cell = p.cell(table, kind);
     let c = p.refuses(cell);
@@ -65,7 +91,7 @@ fn kind_cut(table: &[[u8; 30]; 27], s: &[u8], base: usize, f: Fields, p: Place, 
         return Cut::Bad(c);
     }
     if f.count == fields_needed(kind) {
-        made_told(kind, made_out(s, base, f, kind))
+        made_told(kind, made_out(s, base, f, kind), last)
     } else {
         Cut::Bad(7)
     }
@@ -74,7 +100,7 @@ fn kind_cut(table: &[[u8; 30]; 27], s: &[u8], base: usize, f: Fields, p: Place, 
 // The fields, cut once: none, or those of a kind.
 fn fields_cut(table: &[[u8; 30]; 27], s: &[u8], base: usize, p: Place) -> Cut
     requires { ⌜ base + length (now s) < 4294967296 ⌝ }
-    ensures { λ r. ⌜ gotOf (now (table .entry)) p r ≡ told (judging (now (table .entry))) (now (s .entry)) base p ⌝ }
+    ensures { λ r. ⌜ (gotOf (now (table .entry)) p r ≡ told (judging (now (table .entry))) (now (s .entry)) base p) × LastTold (lastStart (fieldsAt base (now (s .entry)))) r ⌝ }
 {
     let f = fields_of(s);
     if f.count == 0 {
@@ -85,7 +111,8 @@ fn fields_cut(table: &[[u8; 30]; 27], s: &[u8], base: usize, p: Place) -> Cut
     let e = first.stop;
     let kind = kind_of(&s[a..e]);
     if kind < kinds::COUNT {
-        kind_cut(table, s, base, f, p, kind)
+        let last = base + last_start(f);
+        kind_cut(table, s, base, f, p, kind, last)
     } else {
         Cut::Bad(5)
     }
@@ -94,7 +121,7 @@ fn fields_cut(table: &[[u8; 30]; 27], s: &[u8], base: usize, p: Place) -> Cut
 // 2, 3, 4, or the fields before a comment.
 fn content_cut(table: &[[u8; 30]; 27], s: &[u8], base: usize, p: Place) -> Cut
     requires { ⌜ base + length (now s) < 4294967296 ⌝ }
-    ensures { λ r. ⌜ gotOf (now (table .entry)) p r ≡ content (judging (now (table .entry))) (now (s .entry)) base p ⌝ }
+    ensures { λ r. ⌜ (gotOf (now (table .entry)) p r ≡ content (judging (now (table .entry))) (now (s .entry)) base p) × LastTold (lastStart (fieldsBy base (now (s .entry)) (formOf (now (s .entry))))) r ⌝ }
 {
     match form_of(s) {
         Form::Bad(n) => Cut::Bad(n),
@@ -105,7 +132,7 @@ fn content_cut(table: &[[u8; 30]; 27], s: &[u8], base: usize, p: Place) -> Cut
 // A line without its LF, which starts at `base` in the text.
 fn line_cut(table: &[[u8; 30]; 27], s: &[u8], base: usize, p: Place) -> Cut
     requires { ⌜ base + length (now s) < 4294967296 ⌝ }
-    ensures { λ r. ⌜ gotOf (now (table .entry)) p r ≡ line (judging (now (table .entry))) (now (s .entry)) base p ⌝ }
+    ensures { λ r. ⌜ (gotOf (now (table .entry)) p r ≡ line (judging (now (table .entry))) (now (s .entry)) base p) × LastTold (lastStart (lineFields base (now (s .entry)))) r ⌝ }
 {
     let e = trimmed(s);
     content_cut(table, &s[..e], base, p)
@@ -119,7 +146,7 @@ fn cut_at(table: &[[u8; 30]; 27], text: &[u8], from: usize, p: Place) -> Line
     let e = far_byte_from(text, from, LF);
     match line_cut(table, &text[from..e], from, p) {
         Cut::Blank => Line::Blank(e),
-        Cut::Said(kind, s) => Line::Said(kind, s, e),
+        Cut::Said(kind, s, last) => Line::Said(kind, s, e, last),
         Cut::Bad(n) => Line::Bad(n),
     }
 }
@@ -135,7 +162,7 @@ pub fn line_said(table: &[[u8; 30]; 27], text: &[u8], from: usize, p: Place) -> 
         return Line::Bad(1);
     }
     match plain_line(text, from) {
-        Plain::Said(kind, s, e) => Line::Said(kind, s, e),
+        Plain::Said(kind, s, e, last) => Line::Said(kind, s, e, last),
         Plain::Blank(e) => Line::Blank(e),
         Plain::No => cut_at(table, text, from, p),
     }

@@ -29,7 +29,7 @@ module _ (J : Judging) {G : Type 0} (put : Where → J .St → G → G) (ended :
   from-on s p c from i = walked J put ended p c from i (linesOf (drop from s))
 
   pub one-line : (s : Bytes) (from e : ℕ) → from < length s → e ≡ reach (stopsBy (Byte 10)) s from → (p : J .Pl) (c : G) (i : ℕ)
-      → from-on s p c from i ≡ onward J put ended (place from i) p c (line J (take (e - from) (drop from s)) from p) (λ q d. from-on s q d (e + 1) (i + 1))
+      → from-on s p c from i ≡ onward J put ended (place from i (take (e - from) (drop from s))) p c (line J (take (e - from) (drop from s)) from p) (λ q d. from-on s q d (e + 1) (i + 1))
   unfolding walked
   one-line s from e h q p c i =
       let n : suc i ≡ i + 1 = omega arith in
@@ -57,8 +57,8 @@ module _ (J : Judging) {G : Type 0} (put : Where → J .St → G → G) (ended :
       end false e = absurd (let z : _≡_ {A = ℕ} 0 1 = ap walk-kind e in omega arith)
   walk-keeps P k (l ∷ ls) p c start i d h e = go (line J l start p) e (λ q x y z. walk-keeps P k ls q x (start + suc (length l)) (suc i) d y z)
     where
-      go : (g : Got (J .St) (J .Pl)) → onward J put ended (place start i) p c g (λ q x. walked J put ended q x (start + suc (length l)) (suc i) ls) ≡ gathered d
+      go : (g : Got (J .St) (J .Pl)) → onward J put ended (place start i l) p c g (λ q x. walked J put ended q x (start + suc (length l)) (suc i) ls) ≡ gathered d
           → ((q : J .Pl) (x : G) → P x → walked J put ended q x (start + suc (length l)) (suc i) ls ≡ gathered d → P d) → P d
       go (bad n) e f = absurd (let z : _≡_ {A = ℕ} 0 1 = ap walk-kind e in omega arith)
       go blank e f = f p c h e
-      go (said s q) e f = f q (put (place start i) s c) (k (place start i) s c h) e
+      go (said s q) e f = f q (put (place start i l) s c) (k (place start i l) s c h) e

@@ -37,11 +37,11 @@ module _ {G : Type 0} (put : Where → Order → G → G) where
   -- judged with the right table, in a text that 32 bits count
   pub a-line : (table : List (List ℕ)) → table ≡ mdf-table → (s : Bytes) → length s < 4294967296 → (from e : ℕ) → from < length s → e ≡ reach (stopsBy (Byte 10)) s from
       → (p : MissionPlace) (c : G) (i : ℕ) (v : DV.MissionVerdict) → v ≡ lineBy table (take (e - from) (drop from s)) from p
-      → rest s p c from i ≡ after (place from i) p c (λ q d. rest s q d (e + 1) (i + 1)) v
+      → rest s p c from i ≡ after (place from i (take (e - from) (drop from s))) p c (λ q d. rest s q d (e + 1) (i + 1)) v
   unfolding lineBy
   a-line table t s z from e h q p c i v w =
       let l = take (e - from) (drop from s) in
       let right : lineBy mdf-table l from p ≡ verdict (line mdf-judging l from p) = rw (lt-ltb (from + length l) 4294967296 (line-ends s from e z h q)) refl in
       one-line mdf-judging put overOf s from e h q p c i
-      ∙ onward-is (place from i) p c (λ q d. rest s q d (e + 1) (i + 1)) (line mdf-judging l from p)
-      ∙ ap (after (place from i) p c (λ q d. rest s q d (e + 1) (i + 1))) (sym (w ∙ ap (λ (t : List (List ℕ)). lineBy t l from p) t ∙ right))
+      ∙ onward-is (place from i l) p c (λ q d. rest s q d (e + 1) (i + 1)) (line mdf-judging l from p)
+      ∙ ap (after (place from i l) p c (λ q d. rest s q d (e + 1) (i + 1))) (sym (w ∙ ap (λ (t : List (List ℕ)). lineBy t l from p) t ∙ right))

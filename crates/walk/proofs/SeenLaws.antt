@@ -18,7 +18,7 @@ use Rattle.walk.proofs.Speaking.{is-some}
 
 -- the line of the i-th place
 abbrev pub line-at : List Where → ℕ → ℕ
-line-at ws i = getD ws i (place 0 0) .line
+line-at ws i = getD ws i (place 0 0 []) .line
 
 module _ (L : Lang) (k : L .Kind) (wanted : S L → Bool) (wanted-is : (t : S L) → wanted t ≡ is-some (asKind L k t)) (row : ℕ) where
   abbrev sees : Where → S L → Seen → Seen

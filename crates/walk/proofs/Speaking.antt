@@ -17,7 +17,8 @@ use Rattle.grammar.specs.Language.{Lang, S, say}
 use Rattle.grammar.specs.Machine.{Out, next, refuse, Machine, Place, step}
 use Rattle.grammar.specs.Stands.{stands}
 use Rattle.text.specs.Judge.{Verdict, fault, good, Lexis, Vals, check, readAll, kindAt, args, taken, valued, standing, ofKind, known, tell, told, formed, judge}
-use Rattle.walk.specs.Standing.{some-field, in-form, speaks}
+use Rattle.line_fields.specs.LineFields.{fieldsBy, lineFields}
+use Rattle.walk.specs.Standing.{some-field, speaks}
 
 -- what a verdict says of a statement: that there is one, or nothing where it is a fault
 abbrev pub is-some : {A : Type 0} → Option A → Bool
@@ -79,11 +80,11 @@ module _ {L : Lang} (A : Machine L) (X : Lexis L) where
   told-is p q [] o e = ap is-some (ap said-of e)
   told-is p q (f ∷ fs) o e = sym (tell-speaks p f fs o q e)
 
-  formed-is : (p q : Place A) (start : ℕ) (content : Bytes) (f : Form.Form) (o : Option (S L)) → formed A X p start content f ≡ good o q → in-form start content f ≡ is-some o
+  formed-is : (p q : Place A) (start : ℕ) (content : Bytes) (f : Form.Form) (o : Option (S L)) → formed A X p start content f ≡ good o q → some-field (fieldsBy start content f) ≡ is-some o
   unfolding is-good
   formed-is p q start content (Bad n) o e = absurd (let z : _≡_ {A = ℕ} 0 1 = ap is-good e in omega arith)
   formed-is p q start content (Body b) o e = told-is p q (fieldsAt start (take b content)) o e
 
   pub speaks-is : (p q : Place A) (start : ℕ) (line : Bytes) (o : Option (S L)) → judge A X p start line ≡ good o q → speaks start line ≡ is-some o
-  unfolding judge speaks
+  unfolding judge speaks lineFields
   speaks-is p q start line o e = formed-is p q start (dropCr line) (formOf (dropCr line)) o e

@@ -154,7 +154,7 @@ module _ {L : Lang} (M : Machine L) (X : Lexis L) (J : Judging) (C : Tells M X J
   unfolding walked walk standing over
   walked-is [] p h c start i = rw (ended-is p h, add-zero i)
   walked-is (l ∷ ls) p h c start i =
-      one-line (i + suc (length ls)) (place start i) (speaks start l) (standing (start + suc (length l)) (suc i) ls) p c (line J l start p) (judge M X (abs p) start l) h (line-stays p h start l) (line-told p h start l)
+      one-line (i + suc (length ls)) (place start i l) (speaks start l) (standing (start + suc (length l)) (suc i) ls) p c (line J l start p) (judge M X (abs p) start l) h (line-stays p h start l) (line-told p h start l)
       (λ o q e. speaks-is M X (abs p) q start l o e)
       (λ q d. walked J put ended q d (start + suc (length l)) (suc i) ls) (λ q. walk M X q (start + suc (length l)) (suc i) ls)
       (λ q d y. walked-is ls q y d (start + suc (length l)) (suc i)
@@ -204,13 +204,13 @@ module _ {L : Lang} (M : Machine L) (X : Lexis L) where
     where
       behind : (o : Option (S L)) (r : Place M) (w : Walk (S L) (Place M)) → judge M X p start l ≡ good o r → walk M X r (start + suc (length l)) (suc i) ls ≡ w → A.put M X o w ≡ through ts q
           → ((us : List (S L)) (s : Place M) → walk M X r (start + suc (length l)) (suc i) ls ≡ through us s → length (standing (start + suc (length l)) (suc i) ls) ≡ length us)
-          → length (if-speaking (speaks start l) (place start i) (standing (start + suc (length l)) (suc i) ls)) ≡ length ts
+          → length (if-speaking (speaks start l) (place start i l) (standing (start + suc (length l)) (suc i) ls)) ≡ length ts
       behind o r (stopped k n) v u f h = absurd (let z : _≡_ {A = ℕ} 0 1 = ap walk-kind f in omega arith)
-      behind o r (through us s) v u f h = length-if (speaks start l) o (place start i) (standing (start + suc (length l)) (suc i) ls) us (speaks-is M X p r start l o v) (h us s u) ∙ ap length (ap said-by f)
+      behind o r (through us s) v u f h = length-if (speaks start l) o (place start i l) (standing (start + suc (length l)) (suc i) ls) us (speaks-is M X p r start l o v) (h us s u) ∙ ap length (ap said-by f)
 
       go : (v : Verdict (S L) (Place M)) → judge M X p start l ≡ v → A.onward M X i v (λ r. walk M X r (start + suc (length l)) (suc i) ls) ≡ through ts q
           → ((r s : Place M) (us : List (S L)) → walk M X r (start + suc (length l)) (suc i) ls ≡ through us s → length (standing (start + suc (length l)) (suc i) ls) ≡ length us)
-          → length (if-speaking (speaks start l) (place start i) (standing (start + suc (length l)) (suc i) ls)) ≡ length ts
+          → length (if-speaking (speaks start l) (place start i l) (standing (start + suc (length l)) (suc i) ls)) ≡ length ts
       go (T.fault n) v f h = absurd (let z : _≡_ {A = ℕ} 0 1 = ap walk-kind f in omega arith)
       go (good o r) v f h = behind o r (walk M X r (start + suc (length l)) (suc i) ls) v refl f (λ us s x. h r s us x)
 

@@ -2,33 +2,28 @@
 use mathlib.Core.List.{List, [], _∷_}
 use mathlib.Core.Bool.{Bool, true, false}
 use Prim.Native.Nat.{ℕ, suc, _+_}
-use lib.ListN.{length, take}
+use lib.ListN.{length}
 use Rattle.terms.specs.Ascii.{Bytes}
 use Rattle.line.specs.Content.{Field}
-use Rattle.line.specs.Lines.{dropCr, linesOf}
-use Rattle.line.specs.Forms.{formOf, fieldsAt}
-use Rattle.line.specs.declared.Form as Form
-use Rattle.line.specs.declared.Form.the-variants.{Bad, Body}
+use Rattle.line.specs.Lines.{linesOf}
+use Rattle.line_fields.specs.LineFields.{lineFields, lastStart}
 
--- where a line starts in the text, and its number
+-- where the last field of a line starts in the text, and the line's number
 pub record Where : Type 0 where
-  pub start : ℕ
+  pub last : ℕ
   pub line : ℕ
 
-abbrev pub place : ℕ → ℕ → Where
-place start i = record { start = start; line = i }
+-- of a line that starts at a place of the text and has the number i
+abbrev pub place : (start i : ℕ) → Bytes → Where
+place start i line = record { last = lastStart (lineFields start line); line = i }
 
 abbrev pub some-field : List Field → Bool
 some-field [] = false
 some-field (f ∷ fields) = true
 
-abbrev pub in-form : ℕ → Bytes → Form.Form → Bool
-in-form start content (Bad n) = false
-in-form start content (Body e) = some-field (fieldsAt start (take e content))
-
 -- a line that has fields
 unfoldable pub speaks : ℕ → Bytes → Bool
-speaks start line = in-form start (dropCr line) (formOf (dropCr line))
+speaks start line = some-field (lineFields start line)
 
 abbrev pub if-speaking : Bool → Where → List Where → List Where
 if-speaking true w ws = w ∷ ws
@@ -37,7 +32,7 @@ if-speaking false w ws = ws
 -- the lines that have fields, of lines the first of which starts at a place of the text and has the number i
 unfoldable pub standing : ℕ → ℕ → List Bytes → List Where
 standing start i [] = []
-standing start i (l ∷ ls) = if-speaking (speaks start l) (place start i) (standing (start + suc (length l)) (suc i) ls)
+standing start i (l ∷ ls) = if-speaking (speaks start l) (place start i l) (standing (start + suc (length l)) (suc i) ls)
 
 -- where the statements of a text stand
 abbrev pub places-in : Bytes → List Where

@@ -22,4 +22,4 @@ module _ (J : Judging) {Gathered : Type 0} (put : Where → J .St → Gathered �
   -- lines from a place on, the first of which starts at `start` and has the number i
   unfoldable pub walked : J .Pl → Gathered → ℕ → ℕ → List Bytes → Found Gathered
   walked p c start i [] = pick (ended p) (gathered c) (fault i 10)
-  walked p c start i (l ∷ ls) = onward (place start i) p c (line J l start p) (λ q d. walked q d (start + suc (length l)) (suc i) ls)
+  walked p c start i (l ∷ ls) = onward (place start i l) p c (line J l start p) (λ q d. walked q d (start + suc (length l)) (suc i) ls)

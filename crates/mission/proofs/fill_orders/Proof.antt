@@ -2,16 +2,16 @@
 use borrow.Author.Needs.{needs}
 use mathlib.Core.Path.{_≡_, refl, sym, ap, _∙_}
 use mathlib.Core.Logic.{⊎-elim}
-use Prim.Native.Nat.{_+_, _-_, _≤_, _<_}
+use Prim.Native.Nat.{ℕ, _+_, _-_, _≤_, _<_}
 use native.Mathlib.Omega.{arith}
-use lib.ListN.{length}
+use lib.ListN.{length, take, drop}
 use Rattle.scan.proofs.Reach.{reach-le}
 use Rattle.scan.specs.declared.Until.the-variants.{Byte}
 use Rattle.scan.specs.Reach.{stopsBy}
 use Rattle.mission_place.specs.Step.{overOf}
 use Rattle.mission_judge.specs.MdfLine.{mdf-judging}
 use Rattle.mission_progress.specs.Progress.{noneRead, total}
-use Rattle.walk.specs.Standing.{place}
+use Rattle.walk.specs.Standing.{Where, place}
 use Rattle.refusal.proofs.Sized.{too-long, not-too-long}
 use Rattle.walk.proofs.Cutting.{at-end}
 use Rattle.walk.proofs.MdfSteps.{rest, a-line}
@@ -176,7 +176,7 @@ loop-again c =
     let l = c .before .before .before .before .loop in
     let made = c .before .before .before .before .before .before .before .mdf-table in
     let s = c .before .before .before .before .before .before .before .before .before .before .before .before .args .text .now in
-    let here = place (l .from) (l .line) in
+    let here : ℕ → Where = λ e. place (l .from) (l .line) (take (e - l .from) (drop (l .from) s)) in
     let m = memory (l .gained) (l .goals) (l .limits) in
     let on = further c in
     ⊎-elim
@@ -184,8 +184,8 @@ loop-again c =
     let o = a-plain-line s (l .from) _ (w .1 .given .0 .0) (w .1 .given .0 .1 .0) h (made .result) (made .ensures) (omega arith) (l .place) m (l .line) (c .before .before .number-kind .ensures) (w .4 .result) (w .4 .ensures) in (
       on .1,
       omega arith,
-      rw (w .18) (omega (arith, one-more here (w .1 .given .0 .0) (l .gained) (w .10 .result) (l .goals) (l .limits) (w .10 .last .0) (w .10 .last .1 .0) (w .10 .ensures here), l .inv .2)),
-      rw (w .15, w .16, w .17, w .18, w .19) (ap (λ (m : MissionMemory). rest put s (w .6 .given .0 .0) m (w .1 .given .0 .1 .0 + 1) (l .line + 1)) (w .10 .ensures here) ∙ sym (rw (w .6 .given .1) at o) ∙ l .inv .3),
+      rw (w .18) (omega (arith, one-more (here (w .1 .given .0 .1 .0)) (w .1 .given .0 .0) (l .gained) (w .10 .result) (l .goals) (l .limits) (w .10 .last .0) (w .10 .last .1 .0) (w .10 .ensures (here (w .1 .given .0 .1 .0))), l .inv .2)),
+      rw (w .15, w .16, w .17, w .18, w .19) (ap (λ (m : MissionMemory). rest put s (w .6 .given .0 .0) m (w .1 .given .0 .1 .0 + 1) (l .line + 1)) (w .10 .ensures (here (w .1 .given .0 .1 .0))) ∙ sym (rw (w .6 .given .1) at o) ∙ l .inv .3),
       rw (w .15) (w .10 .kept .0 ∙ l .inv .4),
       rw (w .16) (w .10 .kept .1 .0 ∙ l .inv .5),
       l .inv .6,
@@ -204,8 +204,8 @@ loop-again c =
     (λ v. (
       on .1,
       omega arith,
-      rw (w .10, v .13) (omega (arith, one-more here (v .1 .given .0 .0) (l .gained) (v .5 .result) (l .goals) (l .limits) (v .5 .last .0) (v .5 .last .1 .0) (v .5 .ensures here), l .inv .2)),
-      rw (w .7, w .8, w .9, w .10, w .11, v .10, v .11, v .12, v .13) (ap (λ (m : MissionMemory). rest put s (v .1 .given .0 .1 .0) m (w .2 .result + 1) (l .line + 1)) (v .5 .ensures here) ∙ sym (rw (v .1 .given .1) at o) ∙ l .inv .3),
+      rw (w .10, v .13) (omega (arith, one-more (here (w .2 .result)) (v .1 .given .0 .0) (l .gained) (v .5 .result) (l .goals) (l .limits) (v .5 .last .0) (v .5 .last .1 .0) (v .5 .ensures (here (w .2 .result))), l .inv .2)),
+      rw (w .7, w .8, w .9, w .10, w .11, v .10, v .11, v .12, v .13) (ap (λ (m : MissionMemory). rest put s (v .1 .given .0 .1 .0) m (w .2 .result + 1) (l .line + 1)) (v .5 .ensures (here (w .2 .result))) ∙ sym (rw (v .1 .given .1) at o) ∙ l .inv .3),
       rw (w .7, v .10) (v .5 .kept .0 ∙ l .inv .4),
       rw (w .8, v .11) (v .5 .kept .1 .0 ∙ l .inv .5),
       l .inv .6,

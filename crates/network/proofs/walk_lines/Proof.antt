@@ -7,6 +7,7 @@ use lib.ListN.{length}
 use borrow.Author.Needs.{needs}
 use Rattle.scan.specs.Reach.{reach, stopsBy}
 use Rattle.scan.specs.declared.Until.the-variants.{Byte}
+use Rattle.line_fields.specs.LineFields.{lineFields, lastStart}
 use Rattle.grammar.specs.PlaceTable.{rndf-table}
 use Rattle.edition.specs.Editions.{inner}
 use Rattle.judge.specs.Judging.{blank, bad}
@@ -14,6 +15,7 @@ use Rattle.judge.specs.RndfLine.{judging}
 use Rattle.plain_parts.specs.Stands.{stretch}
 use Rattle.plain_fields.specs.LineStands.{stated}
 use Rattle.progress.specs.After.{total, noProgress}
+use Rattle.progress.specs.Given.{rowOf}
 use Rattle.progress.proofs.Shown.{counts}
 use Rattle.walk.specs.Standing.{place}
 use Rattle.refusal.specs.Size.{most}
@@ -22,7 +24,7 @@ use Rattle.network.specs.Storing.{Memory, memory}
 use Rattle.network.specs.Reading.{put}
 use Rattle.network.specs.Reaching.{reachedIn}
 use Rattle.network.proofs.Steps.{Lengths, lengths, put-long, stepped, grown}
-use Rattle.network.proofs.Onward.{judged, onwards, blank-line, bad-line, refused-line, moved-line, goes-on, at-end, within, next-within, next-less, no-more, place-fits, line-fits, few-bytes, few-rows}
+use Rattle.network.proofs.Onward.{judged, onwards, blank-line, bad-line, refused-line, moved-line, goes-on, at-end, within, next-within, next-less, no-more, place-fits, last-fits, line-fits, few-bytes, few-rows}
 use Rattle.network.proofs.walk_lines.Statement.{statement}
 use Rattle.network.proofs.walk_lines.Tie as tie
 
@@ -109,7 +111,7 @@ returns-2 c =
     let ls = c .before .before .before .before .before .before .line-said in
     let few = few-bytes (length s) (l .inv .5) in
     let k = c .before .before .before .before .kind .given .0 in
-    let says : (k .1 .1 .0 ≡ reach (stopsBy (Byte 10)) s (l .from)) × (judged t (stretch s (l .from) (k .1 .1 .0)) (l .from) (l .place) ≡ stated (judging t) (k .0) (k .1 .0) (l .place)) = rw (c .before .before .before .before .kind .given .1) at (ls .ensures h few) in
+    let says : (k .1 .1 .0 ≡ reach (stopsBy (Byte 10)) s (l .from)) × (judged t (stretch s (l .from) (k .1 .1 .0)) (l .from) (l .place) ≡ stated (judging t) (k .0) (k .1 .0) (l .place)) × (k .1 .1 .1 .0 ≡ lastStart (lineFields (l .from) (stretch s (l .from) (k .1 .1 .0)))) = rw (c .before .before .before .before .kind .given .1) at (ls .ensures h few) in
     let cell = c .before .before .cell in
     let n = c .before .refused in
     λ right. sym (refused-line (inner (A .edition)) t right s (l .from) (k .1 .1 .0) h (says .0) (l .place) (memory (l .gained) (l .segments) (l .lanes) (l .zones) (l .spots) (l .points) (l .checkpoints) (l .stops) (l .exits)) (l .line) (k .0) (cell .result) (n .result) (k .1 .0) (says .1) (cell .ensures) (n .ensures) (c .if2 .taken)) ∙ l .inv .4 right
@@ -119,9 +121,12 @@ moved-requires c κs = search needs
 
 cast-row : tie.Need-cast-row Inv-loop μ-loop
 cast-row c =
+    let s = c .before .before .before .before .before .before .before .before .before .before .before .before .before .before .before .before .before .before .before .before .before .before .before .before .before .before .before .before .before .args .text .now in
     let l = c .before .before .before .before .before .before .before .before .before .before .before .before .before .before .before .before .before .loop in
     let h = c .before .before .before .before .before .before .before .before .before .before .before .before .before .before .before .before .loop-test .taken in
-    record { fits = omega (arith, h, l .inv .5) }
+    let few = few-bytes (length s) (l .inv .5) in
+    let says = rw (c .before .before .before .before .before .before .before .before .before .before .before .before .before .kind .given .1) at (c .before .before .before .before .before .before .before .before .before .before .before .before .before .before .before .line-said .ensures h few) in
+    last-fits s (l .from) _ _ (l .inv .5) h (says .0) (says .2)
 
 row-requires : tie.Need-row-requires Inv-loop μ-loop
 row-requires c κs = search needs
@@ -142,7 +147,7 @@ add-from-2 c =
     let ls = c .before .before .before .before .before .before .before .before .before .before .before .before .before .before .before .before .before .before .before .before .before .before .before .before .before .before .before .before .before .before .before .before .before .line-said in
     let few = few-bytes (length s) (l .inv .5) in
     let k = c .before .before .before .before .before .before .before .before .before .before .before .before .before .before .before .before .before .before .before .before .before .before .before .before .before .before .before .before .before .before .before .kind .given .0 in
-    let says : (k .1 .1 .0 ≡ reach (stopsBy (Byte 10)) s (l .from)) × (judged t (stretch s (l .from) (k .1 .1 .0)) (l .from) (l .place) ≡ stated (judging t) (k .0) (k .1 .0) (l .place)) = rw (c .before .before .before .before .before .before .before .before .before .before .before .before .before .before .before .before .before .before .before .before .before .before .before .before .before .before .before .before .before .before .before .kind .given .1) at (ls .ensures h few) in
+    let says : (k .1 .1 .0 ≡ reach (stopsBy (Byte 10)) s (l .from)) × (judged t (stretch s (l .from) (k .1 .1 .0)) (l .from) (l .place) ≡ stated (judging t) (k .0) (k .1 .0) (l .place)) × (k .1 .1 .1 .0 ≡ lastStart (lineFields (l .from) (stretch s (l .from) (k .1 .1 .0)))) = rw (c .before .before .before .before .before .before .before .before .before .before .before .before .before .before .before .before .before .before .before .before .before .before .before .before .before .before .before .before .before .before .before .kind .given .1) at (ls .ensures h few) in
     place-fits (length s) (l .from) (k .1 .1 .0) (l .inv .5) (within s (l .from) (k .1 .1 .0) h (says .0))
 
 enum-known-n : tie.Need-enum-known-n Inv-loop μ-loop
@@ -207,7 +212,7 @@ loop-less c =
     next-less (length s) (l .from) e (c .match .from) (w .13) (within s (l .from) e h (says .0)))
     (λ w.
     let k = w .1 .given .0 in
-    let says : (k .1 .1 .0 ≡ reach (stopsBy (Byte 10)) s (l .from)) × (judged t (stretch s (l .from) (k .1 .1 .0)) (l .from) (l .place) ≡ stated (judging t) (k .0) (k .1 .0) (l .place)) = rw (w .1 .given .1) at (ls .ensures h few) in
+    let says : (k .1 .1 .0 ≡ reach (stopsBy (Byte 10)) s (l .from)) × (judged t (stretch s (l .from) (k .1 .1 .0)) (l .from) (l .place) ≡ stated (judging t) (k .0) (k .1 .0) (l .place)) × (k .1 .1 .1 .0 ≡ lastStart (lineFields (l .from) (stretch s (l .from) (k .1 .1 .0)))) = rw (w .1 .given .1) at (ls .ensures h few) in
     next-less (length s) (l .from) (k .1 .1 .0) (c .match .from) (w .43) (within s (l .from) (k .1 .1 .0) h (says .0)))
     (c .match .came)
 
@@ -236,19 +241,19 @@ loop-again c =
     ))
     (λ w.
     let k = w .1 .given .0 in
-    let says : (k .1 .1 .0 ≡ reach (stopsBy (Byte 10)) s (l .from)) × (judged t (stretch s (l .from) (k .1 .1 .0)) (l .from) (l .place) ≡ stated (judging t) (k .0) (k .1 .0) (l .place)) = rw (w .1 .given .1) at (ls .ensures h few) in
+    let says : (k .1 .1 .0 ≡ reach (stopsBy (Byte 10)) s (l .from)) × (judged t (stretch s (l .from) (k .1 .1 .0)) (l .from) (l .place) ≡ stated (judging t) (k .0) (k .1 .0) (l .place)) × (k .1 .1 .1 .0 ≡ lastStart (lineFields (l .from) (stretch s (l .from) (k .1 .1 .0)))) = rw (w .1 .given .1) at (ls .ensures h few) in
     let e = k .1 .1 .0 in
     let st = k .1 .0 in
     let inside = within s (l .from) e h (says .0) in
     let rows = few-rows (length s) (l .from) (l .line) (total (l .gained)) (l .inv .5) h (l .inv .1) (l .inv .2) in
     let counted = w .32 .ensures ∙ counts st (l .gained) rows in
-    let same : (memory (c .match .gained) (c .match .segments) (c .match .lanes) (c .match .zones) (c .match .spots) (c .match .points) (c .match .checkpoints) (c .match .stops) (c .match .exits)) ≡ put (place (l .from) (l .line)) st (memory (l .gained) (l .segments) (l .lanes) (l .zones) (l .spots) (l .points) (l .checkpoints) (l .stops) (l .exits)) = (λ i. memory (w .42 i) (w .33 i) (w .34 i) (w .35 i) (w .36 i) (w .37 i) (w .38 i) (w .39 i) (w .40 i)) ∙ stepped st (w .15 .result) (l .from) (l .line) (w .32 .result) (memory (l .gained) (l .segments) (l .lanes) (l .zones) (l .spots) (l .points) (l .checkpoints) (l .stops) (l .exits)) _ (w .16 .ensures) (w .15 .ensures) counted in
+    let same : (memory (c .match .gained) (c .match .segments) (c .match .lanes) (c .match .zones) (c .match .spots) (c .match .points) (c .match .checkpoints) (c .match .stops) (c .match .exits)) ≡ put (place (l .from) (l .line) (stretch s (l .from) e)) st (memory (l .gained) (l .segments) (l .lanes) (l .zones) (l .spots) (l .points) (l .checkpoints) (l .stops) (l .exits)) = (λ i. memory (w .42 i) (w .33 i) (w .34 i) (w .35 i) (w .36 i) (w .37 i) (w .38 i) (w .39 i) (w .40 i)) ∙ stepped st (w .15 .result) (place (l .from) (l .line) (stretch s (l .from) e)) (w .32 .result) (memory (l .gained) (l .segments) (l .lanes) (l .zones) (l .spots) (l .points) (l .checkpoints) (l .stops) (l .exits)) _ (w .16 .ensures) (w .15 .ensures ∙ ap (λ (n : ℕ). rowOf st n (l .gained)) (says .2)) counted in
     let bounds = next-within (length s) (l .from) e (l .line) (c .match .from) (w .43) inside (l .inv .1) in (
       bounds .0,
       bounds .1,
       grown _ _ _ (l .line) (w .42 ∙ counted) (l .inv .2),
       ap lengths same ∙ put-long _ _ _ ∙ l .inv .3,
-      λ right. goes-on (inner (A .edition)) s (c .match .place) (w .6 .result) (memory (c .match .gained) (c .match .segments) (c .match .lanes) (c .match .zones) (c .match .spots) (c .match .points) (c .match .checkpoints) (c .match .stops) (c .match .exits)) (put (place (l .from) (l .line)) st (memory (l .gained) (l .segments) (l .lanes) (l .zones) (l .spots) (l .points) (l .checkpoints) (l .stops) (l .exits))) (c .match .from) e (l .line) (w .41) same (w .43) ∙ sym (moved-line (inner (A .edition)) t right s (l .from) e h (says .0) (l .place) (memory (l .gained) (l .segments) (l .lanes) (l .zones) (l .spots) (l .points) (l .checkpoints) (l .stops) (l .exits)) (l .line) (k .0) (w .3 .result) (w .4 .result) st (says .1) (w .3 .ensures) (w .4 .ensures) (w .5 .left) (w .6 .result) (w .6 .ensures)) ∙ l .inv .4 right,
+      λ right. goes-on (inner (A .edition)) s (c .match .place) (w .6 .result) (memory (c .match .gained) (c .match .segments) (c .match .lanes) (c .match .zones) (c .match .spots) (c .match .points) (c .match .checkpoints) (c .match .stops) (c .match .exits)) (put (place (l .from) (l .line) (stretch s (l .from) e)) st (memory (l .gained) (l .segments) (l .lanes) (l .zones) (l .spots) (l .points) (l .checkpoints) (l .stops) (l .exits))) (c .match .from) e (l .line) (w .41) same (w .43) ∙ sym (moved-line (inner (A .edition)) t right s (l .from) e h (says .0) (l .place) (memory (l .gained) (l .segments) (l .lanes) (l .zones) (l .spots) (l .points) (l .checkpoints) (l .stops) (l .exits)) (l .line) (k .0) (w .3 .result) (w .4 .result) st (says .1) (w .3 .ensures) (w .4 .ensures) (w .5 .left) (w .6 .result) (w .6 .ensures)) ∙ l .inv .4 right,
       l .inv .5,
     ))
     (c .match .came)

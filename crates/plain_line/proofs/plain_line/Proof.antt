@@ -61,7 +61,7 @@ returns-2 c =
     let a = n .before .before .args in
     let says = rw (k .kind .given .1) at (k .before .before .fields-said .ensures) in
     let end = rw (e .e .given .1) at (e .before .before .end-of .ensures) in
-    line-said (a .text .now) (a .from) (n .not-separator-from .result) (k .kind .given .0 .1 .1 .0) (e .e .given .0 .0) (k .kind .given .0 .0) (k .kind .given .0 .1 .0) (omega (arith, n .not-separator-from .ensures)) (rw (n .not-separator-from .ensures) (blank-to (a .text .now) (a .from))) says end
+    line-said (a .text .now) (a .from) (n .not-separator-from .result) (k .kind .given .0 .1 .1 .0) (e .e .given .0 .0) (k .kind .given .0 .0) (k .kind .given .0 .1 .0) (k .kind .given .0 .1 .1 .1 .0) (omega (arith, n .not-separator-from .ensures)) (rw (n .not-separator-from .ensures) (blank-to (a .text .now) (a .from))) says end
 
 -- src/lib.rt:288:1
 returns-3 : tie.Need-returns-3

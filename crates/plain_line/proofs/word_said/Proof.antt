@@ -93,7 +93,7 @@ returns-5 c =
     let here = rw (k .kind .given .1) at (k .before .before .keyword-at .ensures) in
     let gap = rw (g .b .given .1) at (g .before .before .gap-at .ensures) in
     let behind = rw (d .said .given .1) at (d .before .before .shape-behind .ensures) in
-    word-made (a .s .now) (a .from) (k .kind .given .0 .1 .0) (k .kind .given .0 .0) here (g .b .given .0 .0) (d .said .given .0 .1 .0) (d .said .given .0 .0) gap behind
+    word-made (a .s .now) (a .from) (k .kind .given .0 .1 .0) (k .kind .given .0 .0) here (g .b .given .0 .0) (d .said .given .0 .1 .0) (d .said .given .0 .0) (d .said .given .0 .1 .1 .0) gap behind
 
 pub word-said-spec : {M : Type 1} → statement M
 word-said-spec =

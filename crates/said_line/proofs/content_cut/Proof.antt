@@ -33,7 +33,7 @@ fields-cut-requires c κs = let s = c .before .before .before .before .before .b
 
 returns : tie.Need-returns
 unfolding content
-returns c = rw (← (c .before .before .before .form-of .ensures), c .before .n .given .1)
+returns c = (rw (← (c .before .before .before .form-of .ensures), c .before .n .given .1), tt)
 
 returns-2 : tie.Need-returns-2
 unfolding content

@@ -53,19 +53,20 @@ returns : tie.Need-returns
 returns c =
     let a = c .before .before in
     let start = a .before .before .before .before in
-    (a .before .before .far-byte-from .ensures, sym (rw (c .enum-told .given .1) at (a .line-cut .ensures)))
+    (a .before .before .far-byte-from .ensures, sym ((rw (c .enum-told .given .1) at (a .line-cut .ensures)) .0))
 
 returns-2 : tie.Need-returns-2
 returns-2 c =
     let a = c .before .before .before in
-    (a .before .before .far-byte-from .ensures, sym (rw (c .before .kind .given .1) at (a .line-cut .ensures)))
+    let says = rw (c .before .kind .given .1) at (a .line-cut .ensures) in
+    (a .before .before .far-byte-from .ensures, sym (says .0), says .1)
 
 returns-3 : tie.Need-returns-3
 returns-3 c =
     let a = c .before .before .before in
     let start = a .before .before .before .before in
     let A = start .args in
-    rw (← (a .before .before .far-byte-from .ensures)) (sym (rw (c .before .n .given .1) at (a .line-cut .ensures)))
+    rw (← (a .before .before .far-byte-from .ensures)) (sym ((rw (c .before .n .given .1) at (a .line-cut .ensures)) .0))
 
 pub cut-at-spec : {M : Type 1} → statement M
 cut-at-spec =

@@ -6,7 +6,7 @@ use Rattle.made_out.proofs.Whole.{needed, made}
 use Rattle.judge.specs.Judging.{ofKind}
 use Rattle.made_out.specs.Made.{made-from}
 use Rattle.said_line.specs.Saying.{gotOf}
-use Rattle.said_line.proofs.Said.{cut-valued}
+use Rattle.said_line.proofs.Said.{cut-valued, at-most-three, few-told}
 use Rattle.said_line.proofs.kind_cut.Statement.{statement}
 use Rattle.said_line.proofs.kind_cut.Tie as tie
 
@@ -18,7 +18,7 @@ refuses-requires c κs = search needs
 
 returns : tie.Need-returns
 unfolding ofKind
-returns c = rw (← (c .before .before .cell .ensures), ← (c .before .refuses .ensures), ne-eqb _ 0 (c .if1 .taken))
+returns c = (rw (← (c .before .before .cell .ensures), ← (c .before .refuses .ensures), ne-eqb _ 0 (c .if1 .taken)), tt)
 
 fields-needed-requires : tie.Need-fields-needed-requires
 fields-needed-requires c κs = search needs
@@ -38,16 +38,18 @@ returns-2 c =
     let is = c .before .made-out .ensures ∙ made (A .s .now) (A .base) (A .f) (A .kind) (start .pre .1) (start .pre .0) in
     let cell = c .before .before .before .before .before .before .before .cell in
     let refuses = c .before .before .before .before .before .before .refuses in
-    let stands = c .before .before .before .before .before .if1 .left in
-    rw (← (cell .ensures), ← (refuses .ensures), eq-eqb _ 0 stands, ← few, eq-eqb _ _ (c .before .before .if2 .taken), ← is)
-    (ap (gotOf (A .table .now) (A .p)) (c .made-told .ensures) ∙ cut-valued (A .table .now) (A .p) (A .kind) (cell .result) (made-from (c .before .made-out .result)) (cell .ensures) (sym (refuses .ensures) ∙ stands))
+    let stands = c .before .before .before .before .before .if1 .left in (
+      rw (← (cell .ensures), ← (refuses .ensures), eq-eqb _ 0 stands, ← few, eq-eqb _ _ (c .before .before .if2 .taken), ← is)
+          (ap (gotOf (A .table .now) (A .p)) (c .made-told .ensures) ∙ cut-valued (A .table .now) (A .p) (A .kind) (A .last) (cell .result) (made-from (c .before .made-out .result)) (cell .ensures) (sym (refuses .ensures) ∙ stands)),
+      rw (c .made-told .ensures) (few-told (A .f .count) (A .last) (A .kind) (made-from (c .before .made-out .result)) (rw (c .before .before .if2 .taken ∙ few) (at-most-three (A .kind)))),
+    )
 
 returns-3 : tie.Need-returns-3
 unfolding ofKind
 returns-3 c =
     let start = c .before .before .before .before .before .before .before in
     let few = c .before .before .fields-needed .ensures ∙ needed (start .args .kind) (start .pre .1) in
-    rw (← (c .before .before .before .before .before .cell .ensures), ← (c .before .before .before .before .refuses .ensures), eq-eqb _ 0 (c .before .before .before .if1 .left), ← few, ne-eqb _ _ (c .if2 .left))
+    (rw (← (c .before .before .before .before .before .cell .ensures), ← (c .before .before .before .before .refuses .ensures), eq-eqb _ 0 (c .before .before .before .if1 .left), ← few, ne-eqb _ _ (c .if2 .left)), tt)
 
 pub kind-cut-spec : {M : Type 1} → statement M
 kind-cut-spec =

@@ -5,7 +5,8 @@ use native.Mathlib.Omega.{arith}
 use lib.Seq.{length-take-le}
 use lib.ListN.{length}
 use borrow.Author.Needs.{needs}
-use Rattle.line.proofs.Ends.{trim-le}
+use Rattle.line.proofs.Ends.{trim-take, trim-le}
+use Rattle.line_fields.specs.LineFields.{lineFields}
 use Rattle.judge.specs.Judging.{line}
 use Rattle.said_line.proofs.line_cut.Statement.{statement}
 use Rattle.said_line.proofs.line_cut.Tie as tie
@@ -26,8 +27,11 @@ content-cut-requires c κs =
     omega (arith, start .pre, length-take-le (c .before .trimmed .result) s h)
 
 returns : tie.Need-returns
-unfolding line
-returns c = rw (← (c .before .before .trimmed .ensures)) (c .content-cut .ensures)
+unfolding line lineFields
+returns c =
+    let s = c .before .before .before .before .args .s .now in
+    let k = rw (c .before .before .trimmed .ensures) at (c .content-cut .ensures) in
+    (rw (← (c .before .before .trimmed .ensures)) (c .content-cut .ensures .0), rw (← (trim-take s)) (k .1))
 
 pub line-cut-spec : {M : Type 1} → statement M
 line-cut-spec = tie.close (tie.spec trimmed-requires slice-aggregate-content-cut content-cut-requires returns)

@@ -34,8 +34,9 @@ returns-3 c =
     let a = c .before .before .before in
     let A = a .before .before .before .before .args in
     let k = c .before .kind .given .0 in
-    let gets : LineGets (A .text .now) (A .from) (k .1 .1 .0) (λ table p. stated (judging table) (k .0) (k .1 .0) p) = rw (c .before .kind .given .1) at (a .plain-line .ensures) in
-    λ h few. (gets .ends, gets .gets (A .table .now) (A .p))
+    let here = rw (c .before .kind .given .1) at (a .plain-line .ensures) in
+    let gets : LineGets (A .text .now) (A .from) (k .1 .1 .0) (λ table p. stated (judging table) (k .0) (k .1 .0) p) = here .0 in
+    λ h few. (gets .ends, gets .gets (A .table .now) (A .p), here .1)
 
 returns-4 : tie.Need-returns-4
 returns-4 c =
