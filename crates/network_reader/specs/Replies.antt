@@ -9,16 +9,11 @@ use Rattle.grammar.specs.Tables.{tables}
 use Rattle.grammar.specs.References.{Sound}
 use Rattle.text.specs.Spelling.{SpellsRndfIn}
 use Rattle.form_faults.specs.FormFaults.{RndfBadLineIn, RndfUnendedIn}
-use Rattle.fill.specs.Counts as F
 use Rattle.fill.specs.Counts.{sizes}
 use Rattle.fault_lines.specs.FaultLines.{FirstRndfFault}
 use Rattle.table_words.specs.Words.{Lent, HasRoom}
-use Rattle.counts.specs.declared.Counts.{Counts}
 pub use Rattle.refusal.specs.Size.{most}
-
--- 01: "Acceptance replies with the rows used of each table"
-abbrev pub rows-used : F.Counts → Counts
-rows-used c = record { segments = c .segments; lanes = c .lanes; zones = c .zones; spots = c .spots; points = c .points; checkpoints = c .checkpoints; stops = c .stops; exits = c .exits }
+pub use Rattle.law_tables.specs.Used.{rows-used}
 
 -- ## In each edition
 -- the text spells a network, within the size and the room, whose references are right

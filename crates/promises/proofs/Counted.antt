@@ -24,11 +24,11 @@ use Rattle.fill.proofs.MissionFills as Filled
 use Rattle.law_spelling.specs.LineOf.{rndf-law-line, mdf-law-line}
 use Rattle.law_spelling.proofs.RndfParts.{network-back}
 use Rattle.law_spelling.proofs.MdfParts.{mission-back}
-use Rattle.network_reader.specs.Replies as N
+use Rattle.law_tables.specs.Used as N
 use Rattle.edition.specs.declared.Edition.{Edition}
 use Rattle.edition.specs.Editions.{rules-of}
 use Rattle.replies.specs.Replies.{rows-used}
-use Rattle.reader.proofs.Lawful.{counts-are}
+use Rattle.replies.proofs.Counted.{counts-are}
 use Rattle.promises.specs.Accepted.{mission-rows-used}
 use Rattle.promises.specs.Declared.{begins-with, numbers-in, lines-with, together, how-many, declared, mission-declared}
 use Rattle.promises.proofs.Keeping.{network-later, mission-later}

@@ -31,13 +31,11 @@ use Rattle.replies.specs.declared.PairReply.{PairReply}
 use Rattle.replies.specs.declared.PairReply.the-variants as Pair
 use Rattle.reader.specs.ByStatements as Old
 use Rattle.replies.specs.Replies as New
+use Rattle.replies.proofs.Counted.{counts-are}
 use Rattle.reader.specs.Columns.{rndfTold, mdfTold}
 use Rattle.reader.proofs.Columns.{rndf-bad-told-in, rndf-fault-told-in, rndf-told-so, mdf-bad-told-in, mdf-fault-told-in, mdf-told-so}
 
 -- ## Counts and names
-pub counts-are : (n : Network Field) → N.rows-used (sizes (tables n)) ≡ New.rows-used n
-counts-are n = ap N.rows-used (counts-same n)
-
 name-is : (v : Option Field) → Rows.shown-name (λ name. name .start) (λ name. length (name .bytes)) v ≡ New.stretch v
 name-is none = refl
 name-is (some v) = refl

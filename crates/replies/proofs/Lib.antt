@@ -5,3 +5,4 @@ pub mod Alone
 pub mod Decided
 pub mod Settled
 pub mod Later
+pub mod Counted

@@ -24,6 +24,19 @@ never-both e = let z : _≡_ {A = ℕ} 0 1 = cc in omega arith
 pub pair-never-both : {c : Counts} {file : FileRow} {d : MissionCounts} {row : MissionFileRow} {why : Refusal} → Pair.Accepted c file d row ≡ Pair.Refused why → ⊥
 pair-never-both e = let z : _≡_ {A = ℕ} 0 1 = cc in omega arith
 
+-- the rows that a reply tells, and what is given where it refuses
+abbrev pub counts-of : Counts → RndfReply → Counts
+counts-of none (Reply.Accepted c file) = c
+counts-of none (Reply.Refused why) = none
+
+abbrev pub pair-counts-of : Counts → PairReply → Counts
+pair-counts-of none (Pair.Accepted c file d row) = c
+pair-counts-of none (Pair.Refused why) = none
+
+abbrev pub mission-counts-of : MissionCounts → PairReply → MissionCounts
+mission-counts-of none (Pair.Accepted c file d row) = d
+mission-counts-of none (Pair.Refused why) = none
+
 -- the file that a reply names, and 0 where it accepts
 abbrev file-of : RndfReply → ℕ
 file-of (Reply.Accepted c file) = 0

@@ -21,13 +21,13 @@ use Rattle.law_spelling.proofs.Texts as Texts
 use Rattle.law_tables.proofs.SameTables.{room-to, room-back, mission-room-to, mission-room-back, mission-counts-same, mission-filled-same}
 use Rattle.law_tables.proofs.SameFits.{fits-to, fits-back}
 use Rattle.counts.specs.declared.Counts as Declared
-use Rattle.network_reader.specs.Replies as N
+use Rattle.law_tables.specs.Used as N
 use Rattle.replies.specs.declared.RndfReply.{RndfReply}
 use Rattle.replies.specs.declared.RndfReply.the-variants as Reply
 use Rattle.replies.specs.declared.PairReply.{PairReply}
 use Rattle.replies.specs.declared.PairReply.the-variants as Pair
 use Rattle.replies.specs.Replies.{most, AcceptsRndf, AcceptsMdf, rows-used, network-file, mission-file, ReadsRndf, ReadsPair}
-use Rattle.reader.proofs.Lawful.{counts-are}
+use Rattle.replies.proofs.Counted.{counts-are}
 use Rattle.promises.specs.Accepted.{mission-rows-used}
 use Rattle.promises.proofs.Keeping.{rndf-later}
 use Rattle.promises.proofs.Promises.{spelled-accepted}

@@ -19,7 +19,7 @@ use Rattle.replies.specs.declared.RndfReply.the-variants as Reply
 use Rattle.replies.specs.declared.PairReply.{PairReply}
 use Rattle.replies.specs.declared.PairReply.the-variants as Pair
 use Rattle.replies.specs.Replies.{AcceptsRndf, rows-used, network-file, mission-file, ReadsRndf, ReadsPair}
-use Rattle.replies.proofs.Said.{never-both, pair-never-both}
+use Rattle.replies.proofs.Said.{never-both, pair-never-both, counts-of, pair-counts-of, mission-counts-of}
 use Rattle.output.specs.Output.{Fits, filled}
 use Rattle.house_text.specs.House.{HouseRndf, HouseMdf}
 use Rattle.house_text.proofs.Lawful.{house-rndf-only, house-mdf-only}
@@ -33,7 +33,6 @@ use Rattle.writings.specs.declared.WriteMdfReply.{WriteMdfReply}
 use Rattle.writings.specs.declared.WriteMdfReply.the-variants as WriteMdf
 use Rattle.writings.specs.Writes.{WritesRndf, WritesMdf}
 use Rattle.writings.specs.Writes as W
-use Rattle.writer.proofs.Replied.{counts-of, pair-counts-of, mission-counts-of}
 use Rattle.promises.specs.Accepted.{mission-rows-used}
 use Rattle.promises.proofs.Keeping.{rndf-later}
 use Rattle.promises.proofs.Forms.{one-spelled}

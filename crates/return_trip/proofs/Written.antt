@@ -24,7 +24,7 @@ use Rattle.writings.specs.declared.WriteMdfReply.{WriteMdfReply}
 use Rattle.writings.specs.declared.WriteMdfReply.the-variants as WriteMdf
 use Rattle.writings.specs.Writes.{WritesRndf, WritesMdf}
 use Rattle.writings.specs.Writes as W
-use Rattle.writer.proofs.Steps.{wrote-or-not, mdf-wrote-or-not}
+use Rattle.writings.proofs.Said.{wrote-or-not, mdf-wrote-or-not}
 use Rattle.promises.specs.Accepted.{Meant}
 use Rattle.promises.proofs.Forms.{one-spelled, one-mission}
 use Rattle.promises.proofs.Promises.{accepted-spelled, tables-are}

@@ -30,16 +30,10 @@ use Rattle.writings.specs.declared.WriteMdfReply.the-variants as WriteMdf
 use Rattle.writer.specs.Answers.{Answers, AnswersMdf}
 use Rattle.writer.specs.Answers as A
 use Rattle.writings.specs.Writes.{WritesRndf, WritesMdf}
+use Rattle.writings.proofs.Said.{wrote-or-not, mdf-wrote-or-not}
 use Rattle.writer.specs.ByStatements as W
 use Rattle.writer.proofs.Lawful.{rndf-writes-to, mdf-writes-to}
 use Rattle.writer.proofs.Replied.{accepted-spells, refused-zero, pair-spells, pair-refused-zero}
-
--- no answer is both
-pub wrote-or-not : {c : Counts} {file : FileRow} {k : ℕ} {why : Refusal} → Write.Written c file k ≡ Write.Refused why → ⊥
-wrote-or-not e = let z : _≡_ {A = ℕ} 0 1 = cc in omega arith
-
-pub mdf-wrote-or-not : {c : Counts} {file : FileRow} {d : MissionCounts} {row : MissionFileRow} {k : ℕ} {why : Refusal} → WriteMdf.Written c file d row k ≡ WriteMdf.Refused why → ⊥
-mdf-wrote-or-not e = let z : _≡_ {A = ℕ} 0 1 = cc in omega arith
 
 -- ## An RNDF
 module _ (ed : Edition) (text : Bytes) (t left : Lent) (read : RndfReply) (lent : ℕ) (out : Bytes) (h : ReadsRndf (rules-of ed) text t read left) where

@@ -1,4 +1,5 @@
 -- That the contracts settle the reply, every lent word and every byte of the output.
+pub mod Said
 pub mod OneWriting
 pub mod Settled
 pub mod MdfSettled
