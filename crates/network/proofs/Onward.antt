@@ -26,19 +26,24 @@ use Rattle.place.specs.declared.Outcome as DO
 use Rattle.place.specs.Abstract.{seen}
 use Rattle.place.specs.Step.{firstPlace, overOf, cellOf, refusesBy, byCell, testedOf, movedOf}
 use Rattle.place.proofs.Stepped.{outcome, stepped}
+use Rattle.progress.specs.declared.Progress.{Progress}
 use Rattle.judge.specs.Judging.{Got, bad, blank, said, taken, line}
 use Rattle.judge.specs.RndfLine.{judging}
 use Rattle.plain_parts.specs.Stands.{stretch}
 use Rattle.plain_parts.proofs.Stretches.{stretch-long}
 use Rattle.plain_fields.specs.LineStands.{stated}
 use Rattle.walk.specs.Standing.{place}
-use Rattle.walk.specs.Walking.{fault, onward, walked}
+use Rattle.walk.specs.Walking.{fault, gathered, onward, walked}
 use Rattle.refusal.specs.Size.{most}
 use Rattle.edition_judge.specs.EditionLine.{barsOf, judging-in}
 use Rattle.edition_judge.proofs.Lines.{barGot, line-so}
+use Rattle.network.specs.declared.Filled as DF
+use Rattle.network.specs.declared.Filled.the-variants as Filled
+use Rattle.network.specs.declared.Walked as DW
+use Rattle.network.specs.declared.Walked.the-variants as Walked
 use Rattle.network.specs.Storing.{Memory}
-use Rattle.network.specs.Reading.{put, filledOf, filledIn}
-use Rattle.network.specs.Reaching.{first-of, refusalOf, WalkEnd, stopped, reached, goes, reaching, reachedIn, ending}
+use Rattle.network.specs.Reading.{put, told, filledOf, filledIn}
+use Rattle.network.specs.Reaching.{first-of, refusalOf, WalkEnd, stopped, reached, goes, reaching, reachedIn, stood, endedOf, ending}
 
 -- ## What an edition makes of a statement
 module _ (table : List (List ℕ)) (e : Edition) (s : Statement) where
@@ -120,6 +125,19 @@ filled-so e text m = go (ltb most (length text))
     go : (b : Bool) → ending (pick b (stopped 0 1) (reaching e firstPlace m 0 1 (linesOf text))) ≡ pick b (fault 0 1) (walked (judging-in e) put overOf firstPlace m 0 1 (linesOf text))
     go true = refl
     go false = sym (ends-so e (linesOf text) firstPlace m 0 1)
+
+-- what is answered at the end, where the walk stood so
+pub filled-from : (e : Edition) (text : Bytes) (m : Memory) (w : DW.Walked) (r : DF.Filled) (tables : Progress → Memory) → r ≡ endedOf w → stood w tables ≡ reachedIn e text m → told r tables ≡ filledIn e text m
+unfolding endedOf
+filled-from e text m w r tables is h = ap (λ (r : DF.Filled). told r tables) is ∙ by w ∙ ap ending h ∙ filled-so e text m
+  where
+    over : (b : Bool) (g : Progress) (i : ℕ) → told (pick b (Filled.Rows g) (Filled.Fault (record { line = i; number = 10 }))) tables ≡ pick b (gathered (tables g)) (fault i 10)
+    over true g i = refl
+    over false g i = refl
+
+    by : (w : DW.Walked) → told (endedOf w) tables ≡ ending (stood w tables)
+    by (Walked.Fault f) = refl
+    by (Walked.Ended p g i) = over (overOf p) g i
 
 -- the walk goes on from there
 pub goes-on : (e : Edition) (s : Bytes) (p q : Place) (m d : Memory) (at to i : ℕ) → p ≡ q → m ≡ d → at ≡ to + 1 → onwards e s p m at (i + 1) ≡ onwards e s q d (to + 1) (i + 1)

@@ -19,6 +19,8 @@ use Rattle.edition_judge.specs.EditionLine.{barsOf, judging-in}
 use Rattle.refusal.specs.Size.{if-too-long}
 use Rattle.network.specs.Storing.{Memory}
 use Rattle.network.specs.Reading.{put}
+use Rattle.network.specs.declared.Filled as DF
+use Rattle.network.specs.declared.Filled.the-variants as Filled
 use Rattle.network.specs.declared.Walked as DW
 use Rattle.network.specs.declared.Walked.the-variants as Walked
 
@@ -54,7 +56,12 @@ abbrev pub stood : DW.Walked → (Progress → Memory) → WalkEnd
 stood (Walked.Fault f) tables = stopped (f .line) (f .number)
 stood (Walked.Ended p g i) tables = reached p (tables g) i
 
--- 10 where the text ends before `end_file`
+-- ## 10 where the text ends before `end_file`
+unfoldable pub endedOf : DW.Walked → DF.Filled
+endedOf (Walked.Fault f) = Filled.Fault f
+endedOf (Walked.Ended p g i) = pick (overOf p) (Filled.Rows g) (Filled.Fault (record { line = i; number = 10 }))
+
+-- the same of what they stand for
 abbrev pub ending : WalkEnd → Found Memory
 ending (stopped i n) = fault i n
 ending (reached p m i) = pick (overOf p) (gathered m) (fault i 10)

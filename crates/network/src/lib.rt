@@ -36,7 +36,7 @@ ghost use Rattle.edition.specs.Editions.{inner};
 ghost use Rattle.progress.specs.After.{noProgress};
 ghost use Rattle.network.specs.Storing.{Memory, memory, storePart, stored};
 ghost use Rattle.network.specs.Reading.{told, filledIn};
-ghost use Rattle.network.specs.Reaching.{refusalOf, stood, reachedIn};
+ghost use Rattle.network.specs.Reaching.{refusalOf, stood, reachedIn, endedOf};
 
 pub enum Filled {
     Fault(Fault),
@@ -161,7 +161,23 @@ pub fn walk_lines(
     Walked::Ended(place, gained, line)
 }
 
-// The whole text: 10 where it ends before `end_file`.
+// Behind all lines: 10 where the text ends before `end_file`.
+fn at_end(walked: Walked) -> Filled
+    ensures { λ r. ⌜ r ≡ endedOf walked ⌝ }
+{
+    match walked {
+        Walked::Fault(fault) => Filled::Fault(fault),
+        Walked::Ended(place, gained, line) => {
+            if place.is_over() {
+                Filled::Rows(gained)
+            } else {
+                Filled::Fault(Fault { line, number: 10 })
+            }
+        }
+    }
+}
+
+// The whole text.
 pub fn fill_lines(
     edition: Edition,
     text: &[u8],
@@ -190,14 +206,5 @@ pub fn fill_lines(
         stops,
         exits,
     );
-    match walked {
-        Walked::Fault(fault) => Filled::Fault(fault),
-        Walked::Ended(place, gained, line) => {
-            if place.is_over() {
-                Filled::Rows(gained)
-            } else {
-                Filled::Fault(Fault { line, number: 10 })
-            }
-        }
-    }
+    at_end(walked)
 }
