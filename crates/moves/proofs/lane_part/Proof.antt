@@ -18,7 +18,7 @@ add-t6 c = search needs
 
 returns : tie.Need-returns
 unfolding lane-part
-returns c = cc
+returns c = rw (c .before .before .lane-at .ensures)
 
 pub lane-part-spec : {M : Type 1} → statement M
 lane-part-spec = tie.close (tie.spec lane-at-requires cast-first cast-points add-t6 returns)

@@ -27,7 +27,7 @@ add-t9 c = search needs
 
 returns : tie.Need-returns
 unfolding zone-part
-returns c = cc
+returns c = rw (c .before .before .before .zone-at .ensures)
 
 pub zone-part-spec : {M : Type 1} → statement M
 zone-part-spec =

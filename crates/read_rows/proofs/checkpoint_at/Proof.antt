@@ -1,5 +1,4 @@
 -- `read_rows::checkpoint_at` meets its contract: each word by what the call of it ensures. Assumes nothing.
-use borrow.Author.Needs.{needs}
 use Rattle.read_rows.proofs.checkpoint_at.Statement.{statement}
 use Rattle.read_rows.proofs.checkpoint_at.Tie as tie
 
@@ -13,7 +12,7 @@ word-requires : tie.Need-word-requires
 word-requires c κs = tt
 
 returns : tie.Need-returns
-returns c = cc
+returns c = rw (c .word .ensures, c .before .short .ensures, c .before .before .row-words .ensures)
 
 pub checkpoint-at-spec : {M : Type 1} → statement M
 checkpoint-at-spec = tie.close (tie.spec row-words-requires short-requires word-requires returns)

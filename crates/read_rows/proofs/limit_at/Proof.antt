@@ -1,5 +1,4 @@
 -- `read_rows::limit_at` meets its contract: each word by what the call of it ensures. Assumes nothing.
-use borrow.Author.Needs.{needs}
 use Rattle.read_rows.proofs.limit_at.Statement.{statement}
 use Rattle.read_rows.proofs.limit_at.Tie as tie
 
@@ -16,7 +15,7 @@ short-requires-3 : tie.Need-short-requires-3
 short-requires-3 c κs = tt
 
 returns : tie.Need-returns
-returns c = cc
+returns c = rw (c .short3 .ensures, c .before .short2 .ensures, c .before .before .short .ensures, c .before .before .before .row-words .ensures)
 
 pub limit-at-spec : {M : Type 1} → statement M
 limit-at-spec =

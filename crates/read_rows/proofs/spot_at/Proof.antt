@@ -1,5 +1,4 @@
 -- `read_rows::spot_at` meets its contract: each word by what the call of it ensures. Assumes nothing.
-use borrow.Author.Needs.{needs}
 use Rattle.read_rows.proofs.spot_at.Statement.{statement}
 use Rattle.read_rows.proofs.spot_at.Tie as tie
 
@@ -13,7 +12,7 @@ short-requires : tie.Need-short-requires
 short-requires c κs = tt
 
 returns : tie.Need-returns
-returns c = cc
+returns c = rw (c .short .ensures, c .before .word .ensures, c .before .before .row-words .ensures)
 
 pub spot-at-spec : {M : Type 1} → statement M
 spot-at-spec = tie.close (tie.spec row-words-requires word-requires short-requires returns)
