@@ -366,16 +366,19 @@ fn is_pair(mode: usize) -> bool {
 fn show(s: &[u8]) -> usize
     ensures { λ r. ⌜ 67 ≤ r ⌝ }
 {
-    let rndf_at = HEAD + number(s, 12) + 1;
-    let mdf_at = rndf_at + number(s, 0);
-    let behind = mdf_at + number(s, 1);
-    put(part(s, HEAD, number(s, 12)));
+    let label_size = number(s, 12);
+    let rndf_size = number(s, 0);
+    let mdf_size = number(s, 1);
+    let rndf_at = HEAD + label_size + 1;
+    let mdf_at = rndf_at + rndf_size;
+    let behind = mdf_at + mdf_size;
+    put(part(s, HEAD, label_size));
     put(b"\n");
-    let rndf = part(s, rndf_at, number(s, 0));
+    let rndf = part(s, rndf_at, rndf_size);
     let mode = digit(s, 0);
     let edition = edition_in(mode);
     if is_pair(mode) {
-        show_pair(edition, rndf, part(s, mdf_at, number(s, 1)), room_of(s));
+        show_pair(edition, rndf, part(s, mdf_at, mdf_size), room_of(s));
     } else {
         show_alone(edition, rndf, room_of(s));
     }
@@ -395,8 +398,10 @@ fn show_all(s: &[u8]) {
     }
 }
 
-fn show_file(path: &[u8]) {
-    let fd = os::open_read(path);
+// The file of cases with that digit. A digit is cheaper to hand over than a name: each name would be an array of the caller's.
+fn show_file(digit: u8) {
+    let path = [b'c', b'a', b's', b'e', b's', b'_', digit];
+    let fd = os::open_read(&path);
     let mut input = io::large_buffer();
     let n = io::read_full(fd, &mut input);
     libc::close(fd);
@@ -404,11 +409,11 @@ fn show_file(path: &[u8]) {
 }
 
 fn main() {
-    show_file(b"cases_1");
-    show_file(b"cases_2");
-    show_file(b"cases_3");
-    show_file(b"cases_4");
-    show_file(b"cases_5");
-    show_file(b"cases_6");
-    show_file(b"cases_7");
+    show_file(b'1');
+    show_file(b'2');
+    show_file(b'3');
+    show_file(b'4');
+    show_file(b'5');
+    show_file(b'6');
+    show_file(b'7');
 }

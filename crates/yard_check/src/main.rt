@@ -234,9 +234,15 @@ fn judge(
     }
 }
 
-fn with_network(edition: Edition, rndf_name: &[u8], mdf_name: &[u8], rndf: &[u8], asked: bool) {
-    let mut mission = [0u8; MOST_BYTES];
-    let loaded = load_asked(asked, mdf_name, &mut mission);
+// What came of the MDF, if it is asked for, in this room.
+fn with_mission(
+    edition: Edition,
+    rndf_name: &[u8],
+    mdf_name: &[u8],
+    rndf: &[u8],
+    mdf: &[u8],
+    loaded: Loaded,
+) {
     let mut trouble = [0u8; MOST_ANSWER];
     let n = put_matter(&mut trouble, mdf_name, loaded);
     judge(
@@ -244,10 +250,17 @@ fn with_network(edition: Edition, rndf_name: &[u8], mdf_name: &[u8], rndf: &[u8]
         rndf_name,
         mdf_name,
         rndf,
-        &mission,
+        mdf,
         loaded,
         first(&trouble, n),
     );
+}
+
+// The room stands in a function of its own: beside a second array its length took 10 s to check.
+fn with_network(edition: Edition, rndf_name: &[u8], mdf_name: &[u8], rndf: &[u8], asked: bool) {
+    let mut mission = [0u8; MOST_BYTES];
+    let loaded = load_asked(asked, mdf_name, &mut mission);
+    with_mission(edition, rndf_name, mdf_name, rndf, &mission, loaded);
 }
 
 fn with_names(edition: Edition, rndf_name: &[u8], mdf_name: &[u8], asked: bool) {
