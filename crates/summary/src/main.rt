@@ -12,12 +12,10 @@ use replies::PairReply;
 
 const MOST_BYTES: usize = 8192;
 
-// What came of a file: so many bytes of it, or why there are none.
-enum Loaded {
-    Bytes(usize),
-    TooBig,
-    NoFile,
-}
+// What came of a file is how many bytes it has, or one of these. A number comes back in a register; an enum would lie on the stack below the texts.
+const TOO_BIG: usize = 8193;
+
+const NO_FILE: usize = 8194;
 
 // One call for a few bytes: `io::write_all` would put a buffer of 4,096 bytes on the stack beside the tables.
 fn put(s: &[u8]) {
@@ -31,28 +29,34 @@ fn put_count(n: u32) {
     put(&digits[..k]);
 }
 
-fn put_ok(c: Counts, m: MissionCounts) {
-    put(b"ok");
-    put_count(c.segments);
-    put_count(c.zones);
-    put_count(c.lanes);
-    put_count(c.points);
-    put_count(c.spots);
-    put_count(c.checkpoints);
-    put_count(c.stops);
-    put_count(c.exits);
-    put_count(m.goals);
-    put_count(m.limits);
+// A word and numbers. They are handed over in an array, which takes less of the stack beside the tables than each number would by itself.
+fn put_line(word: &[u8], numbers: &[u32]) {
+    put(word);
+    for i in 0..numbers.len() {
+        put_count(numbers[i]);
+    }
     put(b"\n");
 }
 
+fn put_ok(c: Counts, m: MissionCounts) {
+    let rows = [
+        c.segments,
+        c.zones,
+        c.lanes,
+        c.points,
+        c.spots,
+        c.checkpoints,
+        c.stops,
+        c.exits,
+        m.goals,
+        m.limits,
+    ];
+    put_line(b"ok", &rows);
+}
+
 fn put_refused(why: Refusal) {
-    put(b"refused");
-    put_count(why.file as u32);
-    put_count(why.line);
-    put_count(why.number as u32);
-    put_count(why.column);
-    put(b"\n");
+    let place = [why.file as u32, why.line, why.number as u32, why.column];
+    put_line(b"refused", &place);
 }
 
 // The first n bytes, or all of them.
@@ -61,25 +65,25 @@ fn first(s: &[u8], n: usize) -> &[u8] {
 }
 
 // Fills the lent text from an open file. A byte that is left over behind a full text makes it too big.
-fn load_open(fd: i32, text: &mut [u8]) -> Loaded {
+fn load_open(fd: i32, text: &mut [u8]) -> usize {
     // a folder can be opened and not be read; a read of nothing tells
     if libc::read(fd, &mut text[..0]) < 0 {
-        return Loaded::NoFile;
+        return NO_FILE;
     }
     let n = io::read_full(fd, text);
     let mut more = [0u8; 1];
     if io::read_full(fd, &mut more) > 0 {
-        Loaded::TooBig
+        TOO_BIG
     } else {
-        Loaded::Bytes(n)
+        n
     }
 }
 
 // Called at two places, and so not compiled into `main`: what it needs of the stack, for a path and for what is read, is given back before the tables lie there.
-fn load(path: &[u8], text: &mut [u8]) -> Loaded {
+fn load(path: &[u8], text: &mut [u8]) -> usize {
     let fd = os::open_read(path);
     if fd < 0 {
-        return Loaded::NoFile;
+        return NO_FILE;
     }
     let loaded = load_open(fd, text);
     libc::close(fd);
@@ -87,7 +91,7 @@ fn load(path: &[u8], text: &mut [u8]) -> Loaded {
 }
 
 // Room for 256 points and 128 rows of every other table, by their strides.
-fn summarise(rndf: &[u8], mdf: &[u8]) {
+fn summarise(network: &[u8; MOST_BYTES], n: usize, mission: &[u8; MOST_BYTES], m: usize) {
     let mut segments = [0u32; 512];
     let mut lanes = [0u32; 640];
     let mut zones = [0u32; 768];
@@ -100,8 +104,8 @@ fn summarise(rndf: &[u8], mdf: &[u8]) {
     let mut limits = [0u32; 384];
     let reply = read_pair(
         Edition::March2007,
-        rndf,
-        mdf,
+        first(network, n),
+        first(mission, m),
         &mut segments,
         &mut lanes,
         &mut zones,
@@ -119,29 +123,23 @@ fn summarise(rndf: &[u8], mdf: &[u8]) {
     }
 }
 
-fn with_network(rndf: &[u8]) {
-    let mut mission = [0u8; MOST_BYTES];
-    let loaded = load(b"mission.mdf", &mut mission);
-    match loaded {
-        // Called at two places too: else it would be compiled into `main`, and its tables and marks would lie on the stack while a file is loaded.
-        Loaded::Bytes(n) => {
-            if n < MOST_BYTES {
-                summarise(rndf, first(&mission, n))
-            } else {
-                summarise(rndf, &mission)
-            }
-        }
-        Loaded::TooBig => put(b"file too big\n"),
-        Loaded::NoFile => put(b"no file\n"),
-    }
-}
-
 fn main() {
     let mut network = [0u8; MOST_BYTES];
-    let loaded = load(b"network.rndf", &mut network);
-    match loaded {
-        Loaded::Bytes(n) => with_network(first(&network, n)),
-        Loaded::TooBig => put(b"file too big\n"),
-        Loaded::NoFile => put(b"no file\n"),
+    let mut mission = [0u8; MOST_BYTES];
+    let n = load(b"network.rndf", &mut network);
+    let m = if n <= MOST_BYTES {
+        load(b"mission.mdf", &mut mission)
+    } else {
+        n
+    };
+    // `summarise` is called at two places too: else it would be compiled into `main`, and its tables and marks would lie on the stack while a file is loaded.
+    if m < MOST_BYTES {
+        summarise(&network, n, &mission, m);
+    } else if m == MOST_BYTES {
+        summarise(&network, n, &mission, MOST_BYTES);
+    } else if m == TOO_BIG {
+        put(b"file too big\n");
+    } else {
+        put(b"no file\n");
     }
 }
