@@ -84,6 +84,27 @@ abbrev pub GapStands : Bytes → ℕ → DR.Reached → Type 0
 GapStands s from (Reached.At stop) = Stands s from stop (λ w. all separates w ≡ true)
 GapStands s from Reached.No = Unit {0}
 
+-- the two bytes with which a comment opens
+abbrev pub OpeningStands : Bytes → ℕ → Bool → Type 0
+OpeningStands s at true = (at + 2 ≤ length s) × (stretch s at (at + 2) ≡ ascii "/*")
+OpeningStands s at false = Unit {0}
+
+-- a comment, and what separates behind it
+abbrev pub CommentStands : Bytes → ℕ → DR.Reached → Type 0
+CommentStands s from (Reached.At stop) = Stands s from stop Comment
+CommentStands s from Reached.No = Unit {0}
+
+-- perhaps one CR; then an LF or the text's end
+pub record BareEnds (s : Bytes) (from stop : ℕ) : Type 0 where
+  pub order : from ≤ stop
+  pub inside : stop ≤ length s
+  pub cr : (stretch s from stop ≡ []) ⊎ (stretch s from stop ≡ code "\r" ∷ [])
+  pub last : (stop ≡ length s) ⊎ (getD s stop 0 ≡ code "\n")
+
+abbrev pub BareStands : Bytes → ℕ → DR.Reached → Type 0
+BareStands s from (Reached.At stop) = BareEnds s from stop
+BareStands s from Reached.No = Unit {0}
+
 -- what may stand behind the fields of a line and its separators: perhaps a comment, perhaps one CR; then an LF or the text's end
 pub record Ends (s : Bytes) (from stop : ℕ) : Type 0 where
   pub note : Bytes

@@ -2,21 +2,19 @@
 // and the line's end. Where a function answers, the bytes up to the place that it answers are what it says (specs/Stands); `No` says nothing, and such a line is cut and judged
 // as any other.
 //
-// specs/Stands: what each answer says of the text. proofs/Stretches: stretches of a text joined.
+// specs/Stands: what each answer says of the text. proofs/Stretches: stretches of a text joined; Digits, Joined and Signs: numbers; Names; Ended: a comment, and where a line ends.
 //
 // Rests on `scan`, `number`, `coordinate`, `line` and `terms`.
-use line::Form;
-use line::form_of;
-use line::trimmed;
-use scan::far_byte_from;
 use scan::is_digit;
+use scan::not_inside_from;
 use scan::not_separator_from;
+use scan::two_from;
 ghost use mathlib.Core.Path.{_≡_};
 ghost use Prim.Native.Nat.{_≤_, _<_, _+_};
 ghost use lib.ListN.{length, getD};
 ghost use Rattle.number.specs.Spelling.{SpellsInteger};
 ghost use Rattle.coordinate.specs.Sign.{signed};
-ghost use Rattle.plain_parts.specs.Stands.{Stands, DotStands, IntegerStands, PairStands, TripleStands, SixStand, DegreesStand, behindMinus, CoordinateStands, GapStands, NoteStands, EndStands, nameByte, NameEnds};
+ghost use Rattle.plain_parts.specs.Stands.{Stands, DotStands, IntegerStands, PairStands, TripleStands, SixStand, DegreesStand, behindMinus, CoordinateStands, GapStands, OpeningStands, CommentStands, BareStands, NoteStands, EndStands, nameByte, NameEnds};
 
 const LF: u8 = 10;
 
@@ -126,6 +124,7 @@ pub enum TripleAt {
     No,
 }
 
+// Not by `pair_at`: one call more for each identifier costs a twentieth of the time on a text with many.
 pub fn triple_at(s: &[u8], from: usize) -> TripleAt
     ensures { λ r. ⌜ TripleStands (now (s .entry)) from r ⌝ }
 {
@@ -133,13 +132,17 @@ pub fn triple_at(s: &[u8], from: usize) -> TripleAt
         return TripleAt::No;
     };
     if dot_at(s, p) {
-        let PairAt::Is(y, z, e) = pair_at(s, p + 1) else {
+        let IntegerAt::Is(y, q) = integer_at(s, p + 1) else {
             return TripleAt::No;
         };
-        TripleAt::Is(x, y, z, e)
-    } else {
-        TripleAt::No
+        if dot_at(s, q) {
+            let IntegerAt::Is(z, e) = integer_at(s, q + 1) else {
+                return TripleAt::No;
+            };
+            return TripleAt::Is(x, y, z, e);
+        }
     }
+    TripleAt::No
 }
 
 // Six digits, as a number; NO_SIX where there are none.
@@ -246,15 +249,29 @@ pub fn gap_at(s: &[u8], from: usize) -> Reached
     }
 }
 
-// The end of a line whose comment opens there.
-fn comment_end(s: &[u8], from: usize) -> Reached
-    ensures { λ r. ⌜ NoteStands (now (s .entry)) from r ⌝ }
+// A comment opens there.
+fn opening_at(s: &[u8], at: usize) -> bool
+    ensures { λ r. ⌜ OpeningStands (now (s .entry)) at r ⌝ }
 {
-    if from < s.len() {
-        let e = far_byte_from(s, from, LF);
-        let n = from + trimmed(&s[from..e]);
-        if let Form::Body(fields) = form_of(&s[from..n]) {
-            if fields == 0 {
+    if 2 <= s.len() {
+        if at <= s.len() - 2 {
+            return (s[at] == b'/') & (s[at + 1] == b'*');
+        }
+    }
+    false
+}
+
+// Behind a comment that opens there, and the separators behind it. A separator may stand inside a comment too, so that one scan for what may not tells of all up to that place. An
+// opening that its line does not close is followed further than the line, but once: such a text is refused.
+fn comment_at(s: &[u8], from: usize) -> Reached
+    ensures { λ r. ⌜ CommentStands (now (s .entry)) from r ⌝ }
+{
+    if opening_at(s, from) {
+        let a = from + 2;
+        let close = two_from(s, a, b'*', b'/');
+        if close < s.len() {
+            let e = not_separator_from(s, close + 2);
+            if e <= not_inside_from(s, a) {
                 return Reached::At(e);
             }
         }
@@ -265,7 +282,7 @@ fn comment_end(s: &[u8], from: usize) -> Reached
 // The end of a line with one CR there.
 fn return_end(s: &[u8], from: usize) -> Reached
     requires { ⌜ (from < length (now s)) × (getD (now s) from 0 ≡ 13) ⌝ }
-    ensures { λ r. ⌜ NoteStands (now (s .entry)) from r ⌝ }
+    ensures { λ r. ⌜ BareStands (now (s .entry)) from r ⌝ }
 {
     let e = from + 1;
     if e < s.len() {
@@ -279,19 +296,16 @@ fn return_end(s: &[u8], from: usize) -> Reached
     }
 }
 
-// The line's end, where nothing but separators, a comment and one CR stands before it.
-pub fn end_at(s: &[u8], from: usize) -> Reached
-    ensures { λ r. ⌜ EndStands (now (s .entry)) from r ⌝ }
+// The line's end there, or behind one CR.
+fn bare_end(s: &[u8], at: usize) -> Reached
+    ensures { λ r. ⌜ BareStands (now (s .entry)) at r ⌝ }
 {
-    let at = not_separator_from(s, from);
     if at < s.len() {
         let b = s[at];
         if b == LF {
             Reached::At(at)
         } else if b == CR {
             return_end(s, at)
-        } else if b == b'/' {
-            comment_end(s, at)
         } else {
             Reached::No
         }
@@ -300,6 +314,29 @@ pub fn end_at(s: &[u8], from: usize) -> Reached
     } else {
         Reached::No
     }
+}
+
+// The end of a line whose comment opens there.
+fn comment_end(s: &[u8], from: usize) -> Reached
+    ensures { λ r. ⌜ NoteStands (now (s .entry)) from r ⌝ }
+{
+    let Reached::At(e) = comment_at(s, from) else {
+        return Reached::No;
+    };
+    bare_end(s, e)
+}
+
+// The line's end, where nothing but separators, a comment and one CR stands before it.
+pub fn end_at(s: &[u8], from: usize) -> Reached
+    ensures { λ r. ⌜ EndStands (now (s .entry)) from r ⌝ }
+{
+    let at = not_separator_from(s, from);
+    if at < s.len() {
+        if s[at] == b'/' {
+            return comment_end(s, at);
+        }
+    }
+    bare_end(s, at)
 }
 
 // A byte of a field, with which no comment opens.
