@@ -28,6 +28,11 @@ pub record EndsShort (s : Bytes) (from stop end : ℕ) : Type 0 where
   pub order : from ≤ end
   pub short : end - from ≤ 512
 
+-- an end, told where the line has no more bytes than that
+abbrev pub FewBytes : (from end : ℕ) → DR.Reached → Type 0
+FewBytes from end (Reached.At stop) = (stop ≡ end) × (from ≤ end) × (end - from ≤ 512)
+FewBytes from end Reached.No = Unit {0}
+
 abbrev pub ShortEnd : Bytes → ℕ → ℕ → DR.Reached → Type 0
 ShortEnd s from stop (Reached.At end) = EndsShort s from stop end
 ShortEnd s from stop Reached.No = Unit {0}

@@ -37,7 +37,7 @@ ghost use Prim.Native.Nat.{_<_, _≤_};
 ghost use lib.ListN.{length, getD};
 ghost use Rattle.made_out.specs.Made.{shapes};
 ghost use Rattle.plain_line.specs.Fields.{BehindStands, FieldsStand, Shape};
-ghost use Rattle.plain_line.specs.Plain.{ShortEnd, PlainStands};
+ghost use Rattle.plain_line.specs.Plain.{FewBytes, ShortEnd, PlainStands};
 
 // The fields of a line: a statement with its kind, the place behind the last of them, and where that one starts.
 enum Fields {
@@ -279,19 +279,31 @@ fn fields_said(s: &[u8], from: usize) -> Fields
     }
 }
 
-// The end of a line that starts at `from`, of which all up to `stop` is known.
-fn end_of(text: &[u8], from: usize, stop: usize) -> Reached
-    ensures { λ r. ⌜ ShortEnd (now (text .entry)) from stop r ⌝ }
+// The end of a line that starts at `from`, where the line has at most 512 bytes.
+fn short_end(from: usize, end: usize) -> Reached
+    ensures { λ r. ⌜ FewBytes from end r ⌝ }
 {
-    let Reached::At(e) = end_at(text, stop) else {
-        return Reached::No;
-    };
-    if from <= e {
-        if e - from <= 512 {
-            return Reached::At(e);
+    if from <= end {
+        if end - from <= 512 {
+            return Reached::At(end);
         }
     }
     Reached::No
+}
+
+// The end of a line that starts at `from`, of which all up to `stop` is known. Most lines end right there, and those are told here: a call for each costs a twentieth of the reading.
+fn end_of(text: &[u8], from: usize, stop: usize) -> Reached
+    ensures { λ r. ⌜ ShortEnd (now (text .entry)) from stop r ⌝ }
+{
+    if stop < text.len() {
+        if text[stop] == b'\n' {
+            return short_end(from, stop);
+        }
+    }
+    let Reached::At(end) = end_at(text, stop) else {
+        return Reached::No;
+    };
+    short_end(from, end)
 }
 
 // A line without fields.
