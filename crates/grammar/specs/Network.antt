@@ -124,7 +124,7 @@ module _ {N : Type 0} where
     pub name : ofKind zone-name os ≡ perhaps (a .name)
     pub no-other : Only (zone-name ∷ []) os
 
-  -- 01: "Zone: `zone` id; `num_spots` ≥ 0 (L10: > 0 in the older edition); option `zone_name`; the perimeter; spots 1, 2, ..; `end_zone`"
+  -- 01: "Zone: `zone` id; `num_spots` ≥ 0" (L10: "9 for 0 spots" in the older edition); "option `zone_name`; the perimeter; spots 1, 2, ..; `end_zone`"
   pub record SpellsZoneBy (by : Under) (m : ℕ) (a : Zone N) (l : List (Statement N)) : Type 0 where
     pub options : List (Statement N)
     pub border : List (Statement N)

@@ -43,7 +43,7 @@ pub record LineAt (rules : Rules) (text : Bytes) (i : ℕ) (front : List Line) (
   pub number : i ≡ suc (length before)
   pub said : SayLines rules 0 before front
 
--- lines that spell a network, or a mission, begin with these
+-- lines that spell a network, or a mission, begin with these. What those to come say need not fit into a field (a name may be too long, a boundary of another edition): that bytes can go on, too, is promised (promises/specs/Refusals.Begin)
 pub record Begins (rules : Rules) {Net : Type 0} (Spells : Rules → Net → List Line → Type 0) (lines : List Line) : Type 0 where
   pub rest : List Line
   pub net : Net

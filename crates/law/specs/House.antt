@@ -8,7 +8,7 @@ abbrev pub AsListed : {A : Type 0} → List (List A) → List A → Type 0
 AsListed [] options = options ≡ []
 AsListed {A} (l ∷ ls) options = (rest : List A) × AsListed ls rest × (options ≡ l ++ rest)
 
--- L3: "The house writing keeps its single tab." It is the same in every edition: what an older one has, the present one has
+-- L3: "The house writing keeps its single tab." One for both editions (L10): whatever the older one accepts, the present rules spell too
 abbrev pub house : Rules
 house = record { separates = tab; Options = AsListed; spot-checkpoints = 1; edition = march-2007 }
 

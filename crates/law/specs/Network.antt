@@ -1,4 +1,4 @@
--- WHAT A READER MUST BELIEVE. What an RNDF and an MDF say, which values are permitted, and how they are spelled: the lines of each part, and what a text spells. Document 01, "Lines, comments, fields", "The order of an RNDF", "The order of an MDF". Assumes nothing.
+-- WHAT A READER MUST BELIEVE. What an RNDF and an MDF say, which values are permitted, and how they are spelled: the lines of each part, and what a text spells. Document 01, "Lines, comments, fields", "The order of an RNDF", "The order of an MDF"; document 02, L10: the editions. Assumes nothing.
 use Rattle.terms.specs.Words.{_≡_, List, [], _∷_, _++_, map, Option, Bool, ℕ, suc, _+_, _≤_, _<_, String, length, ℤ, natAbs, Bytes, ascii, Each, Among, perhaps, Between, InTurn}
 use Rattle.scan.specs.Allowed.{separates}
 use Rattle.line.specs.Line.{Cut, Ended, Field, Content}
@@ -14,16 +14,15 @@ pub record Edition : Type 0 where
   pub boundaries : List Boundary
   pub fewest-spots : ℕ
 
--- 01: ""Source 004" is the RNDF and MDF format document of March 14, 2007"; "`num_spots` ≥ 0"
+-- the present edition. 01: ""Source 004" is the RNDF and MDF format document of March 14, 2007"; "each of `double_yellow`, `solid_yellow`, `solid_white`, `broken_white`"; "`num_spots` ≥ 0"
 abbrev pub march-2007 : Edition
 march-2007 = record { boundaries = double-yellow ∷ solid-yellow ∷ solid-white ∷ broken-white ∷ []; fewest-spots = 0 }
 
--- L10: "as it stood on December 6, 2006 .. `solid_yellow` was not yet a boundary, and the note of February 20 is what allowed a zone without spots; the rest we read by the present rules"
+-- the older edition. L10: "as it stood on December 6, 2006 .. `solid_yellow` was not yet a boundary, and the note of February 20 is what allowed a zone without spots; the rest we read by the present rules"
 abbrev pub december-2006 : Edition
 december-2006 = record { boundaries = double-yellow ∷ solid-white ∷ broken-white ∷ []; fewest-spots = 1 }
 
 -- ## What is said
-
 -- 01: "**Identifiers**: integers joined by dots": x.y.z
 pub record PointId : Type 0 where
   pub x : ℕ
@@ -214,12 +213,14 @@ pub record Rules : Type 1 where
   pub Options : List (List Line) → List Line → Type 0
   -- how many checkpoints a spot has at least. L8: "From now on it is a rule": 1
   pub spot-checkpoints : ℕ
+  -- L10: "The caller says which edition."
   pub edition : Edition
 
 -- the rules of document 01, as the requests have it, in an edition. L10: "the rest we read by the present rules, L8 included"
 abbrev pub reading : Edition → Rules
 reading edition = record { separates = separates; Options = AnyOrder; spot-checkpoints = 1; edition = edition }
 
+-- in the present edition, that of March 14, 2007
 abbrev pub present : Rules
 present = reading march-2007
 
