@@ -1,4 +1,4 @@
-// Which bytes are what, and the loops over bytes: how far it is to the next byte, or pair of bytes, of some kind. No other crate loops over bytes to find one.
+// Which bytes are what, and the loops over bytes: how far it is to the next byte, or pair of bytes, of some kind. No other crate loops over bytes to find one, but for the end of a name (`plain_parts`) and of a number (`references`).
 // Every scan is `reach` of a test (specs/Reach). proofs/Reach: its laws; proofs/Eights: a scan goes over eight bytes at once.
 // Rests on `terms`.
 ghost use mathlib.Core.Path.{_≡_};
@@ -45,7 +45,7 @@ fn is_outside(b: u8) -> bool
 }
 
 // Allowed inside comments: a tab, or 32 to 126.
-fn is_inside(b: u8) -> bool
+pub fn is_inside(b: u8) -> bool
     ensures { λ r. ⌜ r ≡ inside b ⌝ }
 {
     (b == b'\t') | ((32 <= b) & (b <= 126))

@@ -6,6 +6,7 @@ use line::trimmed;
 use output::put_byte;
 use output::put_bytes;
 use scan::far_byte_from;
+use scan::is_inside;
 use scan::not_separator_from;
 use scan::same;
 use scan::separator_from;
@@ -13,18 +14,11 @@ use scan::two_from;
 ghost use mathlib.Core.Path.{_≡_};
 ghost use Prim.Native.Nat.{_-_};
 ghost use lib.ListN.{take, drop};
-ghost use Rattle.scan.specs.Allowed.{inside};
 ghost use Rattle.line.specs.Lines.{linesOf};
 ghost use Rattle.output.specs.Pen.{pen, Wrote};
 ghost use Rattle.shown.specs.Shown.{hex, shown-byte, blank, shown, blanks, picture, line-in, order-mark, byte-from-42, byte-alone, byte-words, word-in, mission-first};
 
 // ## A line
-
-fn is_inside(b: u8) -> bool
-    ensures { λ r. ⌜ r ≡ inside b ⌝ }
-{
-    (b == b'\t') | ((32 <= b) & (b <= 126))
-}
 
 fn hex(n: u8) -> u8
     ensures { λ r. ⌜ r ≡ hex n ⌝ }
