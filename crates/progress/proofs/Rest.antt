@@ -9,14 +9,14 @@ use Rattle.statement.specs.declared.Statement.the-variants as st
 use Rattle.statement.proofs.Statement.{the-type}
 use Rattle.progress.specs.declared.Progress.{Progress}
 use Rattle.progress.specs.declared.Row.the-variants as Row
-use Rattle.progress.specs.After.{afterOf}
+use Rattle.progress.specs.After.{afterWithin}
 use Rattle.progress.specs.Given.{rowOf}
 
 abbrev silent-keys : List ℕ
 silent-keys = 1 ∷ 2 ∷ 24 ∷ 28 ∷ []
 
-pub all-kept : (s : Statement) (p : Progress) → OneOf silent-keys (tagOf the-type s) → afterOf s p ≡ p
-unfolding afterOf
+pub all-kept : (s : Statement) (p : Progress) → OneOf silent-keys (tagOf the-type s) → afterWithin s p ≡ p
+unfolding afterWithin
 all-kept (st.RndfName a l) p h = absurd (miss silent-keys 0 tt h)
 all-kept (st.NumSegments n) p h = refl
 all-kept (st.NumZones n) p h = refl

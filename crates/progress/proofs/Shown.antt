@@ -2,10 +2,10 @@
 use mathlib.Core.Path.{_≡_, refl, ap}
 use Prim.Native.Nat.{ℕ, suc, _+_, _≤_, _<_}
 use native.Mathlib.Omega.{arith}
-use borrow.Author.Tests.{lt-leb}
 use Rattle.units.specs.Made.{feetOf, missingFeet, feet}
 use Rattle.grammar.specs.Statements.{Boundary, double-yellow, solid-yellow, solid-white, broken-white, Kind, Says, RNDF-name, num-segments, num-zones, format-version, creation-date, segment, num-lanes, segment-name, end-segment, lane, num-waypoints, lane-width, left-boundary, right-boundary, checkpoint, stop, exit, end-lane, zone, num-spots, zone-name, end-zone, perimeter, num-perimeterpoints, end-perimeter, spot, spot-width, end-spot, end-file, point}
 use Rattle.grammar.specs.Tables.{colour}
+use Rattle.room.proofs.Fitted.{fitted-kept}
 use Rattle.fill.specs.NetworkRows.{State, start, next, gives, missing-width}
 use Rattle.fill.specs.Counts.{Counts}
 use Rattle.fill.specs.Tally.{no-counts, tally}
@@ -206,10 +206,39 @@ row-shown end-file v s c f w start e = refl
 row-shown point v s c f w start e = refl
 
 -- ## Rows so far
--- the program counts on as long as there is room for one row more
+-- the program counts as the theory does as long as there is room for one row more
 pub counts : (s : Statement) (p : Progress) → total p < 4294967295 → afterWithin s p ≡ afterOf s p
-unfolding afterWithin
-counts s p h = rw (lt-leb 4294967295 (total p) h)
+unfolding afterWithin afterOf
+counts (st.RndfName a l) p h = refl
+counts (st.NumSegments n) p h = refl
+counts (st.NumZones n) p h = refl
+counts (st.FormatVersion a l) p h = refl
+counts (st.CreationDate a l) p h = refl
+counts (st.Segment n) p h = refl
+counts (st.NumLanes n) p h = refl
+counts (st.SegmentName a l) p h = refl
+counts st.EndSegment p h = rw (fitted-kept (suc (p .segments)) (omega arith))
+counts (st.Lane m n) p h = rw (fitted-kept (p .first + p .within) (omega arith))
+counts (st.NumWaypoints n) p h = refl
+counts (st.LaneWidth n) p h = refl
+counts (st.LeftBoundary b) p h = refl
+counts (st.RightBoundary b) p h = refl
+counts (st.Checkpoint i n) p h = rw (fitted-kept (suc (p .checkpoints)) (omega arith))
+counts (st.Stop i) p h = rw (fitted-kept (suc (p .stops)) (omega arith))
+counts (st.Exit i e) p h = rw (fitted-kept (suc (p .exits)) (omega arith))
+counts st.EndLane p h = rw (fitted-kept (suc (p .lanes)) (omega arith))
+counts (st.Zone n) p h = rw (fitted-kept (p .first + p .within) (omega arith))
+counts (st.NumSpots n) p h = refl
+counts (st.ZoneName a l) p h = refl
+counts st.EndZone p h = rw (fitted-kept (suc (p .zones)) (omega arith))
+counts (st.Perimeter m n) p h = rw (fitted-kept (p .first + p .within) (omega arith))
+counts (st.NumPerimeterpoints n) p h = refl
+counts st.EndPerimeter p h = refl
+counts (st.Spot m n) p h = rw (fitted-kept (p .first + p .within) (omega arith))
+counts (st.SpotWidth n) p h = refl
+counts st.EndSpot p h = rw (fitted-kept (suc (p .spots)) (omega arith))
+counts st.EndFile p h = refl
+counts (st.Point i a o) p h = rw (fitted-kept (suc (p .within)) (omega arith))
 
 -- no statement adds more than one row
 pub grows : (s : Statement) (p : Progress) → total (afterOf s p) ≤ total p + 1

@@ -1,8 +1,7 @@
 -- Executable: what a reader of an RNDF has so far, and what a statement changes in it, over the program's types. Assumes nothing.
 use Prim.Native.Nat.{ℕ, suc, _+_}
-use lib.Dec.{eqb, leb}
-use Rattle.terms.specs.Words.{pick}
 use Rattle.grammar.specs.Tables.{first-spot}
+use Rattle.room.specs.Room.{fitted}
 use Rattle.units.specs.Made.{feet, checkpointNumber, feetOf, checkpointNumberOf, missingFeet}
 use Rattle.units.specs.declared.Feet.{Feet}
 use Rattle.units.specs.declared.CheckpointNumber.{CheckpointNumber}
@@ -109,69 +108,75 @@ with-zone a p = record { segments = p .segments; lanes = p .lanes; zones = p .zo
 abbrev pub with-spot : SpotRow → Progress → Progress
 with-spot a p = record { segments = p .segments; lanes = p .lanes; zones = p .zones; spots = p .spots; checkpoints = p .checkpoints; stops = p .stops; exits = p .exits; first = p .first; within = p .within; file = p .file; segment = p .segment; lane = p .lane; zone = p .zone; spot = a }
 
--- the same with one row more
-abbrev pub one-segment : Progress → Progress
-one-segment p = record { segments = suc (p .segments); lanes = p .lanes; zones = p .zones; spots = p .spots; checkpoints = p .checkpoints; stops = p .stops; exits = p .exits; first = p .first; within = p .within; file = p .file; segment = p .segment; lane = p .lane; zone = p .zone; spot = p .spot }
-
-abbrev pub one-lane : Progress → Progress
-one-lane p = record { segments = p .segments; lanes = suc (p .lanes); zones = p .zones; spots = p .spots; checkpoints = p .checkpoints; stops = p .stops; exits = p .exits; first = p .first; within = p .within; file = p .file; segment = p .segment; lane = p .lane; zone = p .zone; spot = p .spot }
-
-abbrev pub one-zone : Progress → Progress
-one-zone p = record { segments = p .segments; lanes = p .lanes; zones = suc (p .zones); spots = p .spots; checkpoints = p .checkpoints; stops = p .stops; exits = p .exits; first = p .first; within = p .within; file = p .file; segment = p .segment; lane = p .lane; zone = p .zone; spot = p .spot }
-
-abbrev pub one-spot : Progress → Progress
-one-spot p = record { segments = p .segments; lanes = p .lanes; zones = p .zones; spots = suc (p .spots); checkpoints = p .checkpoints; stops = p .stops; exits = p .exits; first = p .first; within = p .within; file = p .file; segment = p .segment; lane = p .lane; zone = p .zone; spot = p .spot }
-
-abbrev pub one-checkpoint : Progress → Progress
-one-checkpoint p = record { segments = p .segments; lanes = p .lanes; zones = p .zones; spots = p .spots; checkpoints = suc (p .checkpoints); stops = p .stops; exits = p .exits; first = p .first; within = p .within; file = p .file; segment = p .segment; lane = p .lane; zone = p .zone; spot = p .spot }
-
-abbrev pub one-stop : Progress → Progress
-one-stop p = record { segments = p .segments; lanes = p .lanes; zones = p .zones; spots = p .spots; checkpoints = p .checkpoints; stops = suc (p .stops); exits = p .exits; first = p .first; within = p .within; file = p .file; segment = p .segment; lane = p .lane; zone = p .zone; spot = p .spot }
-
-abbrev pub one-exit : Progress → Progress
-one-exit p = record { segments = p .segments; lanes = p .lanes; zones = p .zones; spots = p .spots; checkpoints = p .checkpoints; stops = p .stops; exits = suc (p .exits); first = p .first; within = p .within; file = p .file; segment = p .segment; lane = p .lane; zone = p .zone; spot = p .spot }
-
 -- the same with other points
 abbrev pub points-at : (first within : ℕ) → Progress → Progress
 points-at first within p = record { segments = p .segments; lanes = p .lanes; zones = p .zones; spots = p .spots; checkpoints = p .checkpoints; stops = p .stops; exits = p .exits; first = first; within = within; file = p .file; segment = p .segment; lane = p .lane; zone = p .zone; spot = p .spot }
 
--- a part begins whose points follow those of the part before
-abbrev pub begun : Progress → Progress
-begun p = points-at (next-point p) 0 p
-
 -- ## What a statement changes
-unfoldable pub afterOf : Statement → Progress → Progress
-afterOf (st.RndfName a l) p = with-file (fileRow (named a l) (p .file .version) (p .file .date)) p
-afterOf (st.NumSegments n) p = p
-afterOf (st.NumZones n) p = p
-afterOf (st.FormatVersion a l) p = with-file (fileRow (p .file .name) (named a l) (p .file .date)) p
-afterOf (st.CreationDate a l) p = with-file (fileRow (p .file .name) (p .file .version) (named a l)) p
-afterOf (st.Segment n) p = with-segment (segmentRow (p .lanes) 0 noName) p
-afterOf (st.NumLanes n) p = with-segment (segmentRow (p .segment .«first_lane») n (p .segment .name)) p
-afterOf (st.SegmentName a l) p = with-segment (segmentRow (p .segment .«first_lane») (p .segment .lanes) (named a l)) p
-afterOf st.EndSegment p = with-segment noSegment (one-segment p)
-afterOf (st.Lane m n) p = with-lane (laneRow (next-point p) 0 missingFeet 0 0) (begun p)
-afterOf (st.NumWaypoints n) p = with-lane (laneRow (p .lane .«first_point») n (p .lane .width) (p .lane .left) (p .lane .right)) p
-afterOf (st.LaneWidth n) p = with-lane (laneRow (p .lane .«first_point») (p .lane .points) (widthOf n) (p .lane .left) (p .lane .right)) p
-afterOf (st.LeftBoundary b) p = with-lane (laneRow (p .lane .«first_point») (p .lane .points) (p .lane .width) (sideOf b) (p .lane .right)) p
-afterOf (st.RightBoundary b) p = with-lane (laneRow (p .lane .«first_point») (p .lane .points) (p .lane .width) (p .lane .left) (sideOf b)) p
-afterOf (st.Checkpoint i n) p = one-checkpoint p
-afterOf (st.Stop i) p = one-stop p
-afterOf (st.Exit i e) p = one-exit p
-afterOf st.EndLane p = with-lane noLane (one-lane p)
-afterOf (st.Zone n) p = with-zone (zoneRow (next-point p) 0 0 0 noName) p
-afterOf (st.NumSpots n) p = with-zone (zoneRow (p .zone .«first_point») (p .zone .points) (first-spot (p .spots) n) n (p .zone .name)) p
-afterOf (st.ZoneName a l) p = with-zone (zoneRow (p .zone .«first_point») (p .zone .points) (p .zone .«first_spot») (p .zone .spots) (named a l)) p
-afterOf st.EndZone p = with-zone noZone (one-zone p)
-afterOf (st.Perimeter m n) p = begun p
-afterOf (st.NumPerimeterpoints n) p = with-zone (zoneRow (p .zone .«first_point») n (p .zone .«first_spot») (p .zone .spots) (p .zone .name)) p
-afterOf st.EndPerimeter p = p
-afterOf (st.Spot m n) p = with-spot (spotRow (next-point p) missingFeet) (begun p)
-afterOf (st.SpotWidth n) p = with-spot (spotRow (p .spot .«first_point») (widthOf n)) p
-afterOf st.EndSpot p = with-spot noSpot (one-spot p)
-afterOf st.EndFile p = p
-afterOf (st.Point i a o) p = points-at (p .first) (suc (p .within)) p
+-- `kept`: what a counter keeps of the number that it comes to, so that the theory and the program count by the same clauses
+module _ (kept : ℕ → ℕ) where
+  -- the same with one row more
+  abbrev pub one-segment : Progress → Progress
+  one-segment p = record { segments = kept (suc (p .segments)); lanes = p .lanes; zones = p .zones; spots = p .spots; checkpoints = p .checkpoints; stops = p .stops; exits = p .exits; first = p .first; within = p .within; file = p .file; segment = p .segment; lane = p .lane; zone = p .zone; spot = p .spot }
 
--- as the program counts: where one row more might not fit into 32 bits, nothing more is counted. No text that is read has so many rows (proofs/Shown.counts)
+  abbrev pub one-lane : Progress → Progress
+  one-lane p = record { segments = p .segments; lanes = kept (suc (p .lanes)); zones = p .zones; spots = p .spots; checkpoints = p .checkpoints; stops = p .stops; exits = p .exits; first = p .first; within = p .within; file = p .file; segment = p .segment; lane = p .lane; zone = p .zone; spot = p .spot }
+
+  abbrev pub one-zone : Progress → Progress
+  one-zone p = record { segments = p .segments; lanes = p .lanes; zones = kept (suc (p .zones)); spots = p .spots; checkpoints = p .checkpoints; stops = p .stops; exits = p .exits; first = p .first; within = p .within; file = p .file; segment = p .segment; lane = p .lane; zone = p .zone; spot = p .spot }
+
+  abbrev pub one-spot : Progress → Progress
+  one-spot p = record { segments = p .segments; lanes = p .lanes; zones = p .zones; spots = kept (suc (p .spots)); checkpoints = p .checkpoints; stops = p .stops; exits = p .exits; first = p .first; within = p .within; file = p .file; segment = p .segment; lane = p .lane; zone = p .zone; spot = p .spot }
+
+  abbrev pub one-checkpoint : Progress → Progress
+  one-checkpoint p = record { segments = p .segments; lanes = p .lanes; zones = p .zones; spots = p .spots; checkpoints = kept (suc (p .checkpoints)); stops = p .stops; exits = p .exits; first = p .first; within = p .within; file = p .file; segment = p .segment; lane = p .lane; zone = p .zone; spot = p .spot }
+
+  abbrev pub one-stop : Progress → Progress
+  one-stop p = record { segments = p .segments; lanes = p .lanes; zones = p .zones; spots = p .spots; checkpoints = p .checkpoints; stops = kept (suc (p .stops)); exits = p .exits; first = p .first; within = p .within; file = p .file; segment = p .segment; lane = p .lane; zone = p .zone; spot = p .spot }
+
+  abbrev pub one-exit : Progress → Progress
+  one-exit p = record { segments = p .segments; lanes = p .lanes; zones = p .zones; spots = p .spots; checkpoints = p .checkpoints; stops = p .stops; exits = kept (suc (p .exits)); first = p .first; within = p .within; file = p .file; segment = p .segment; lane = p .lane; zone = p .zone; spot = p .spot }
+
+  -- a part begins whose points follow those of the part before
+  abbrev pub begun : Progress → Progress
+  begun p = points-at (kept (next-point p)) 0 p
+
+  abbrev pub afterBy : Statement → Progress → Progress
+  afterBy (st.RndfName a l) p = with-file (fileRow (named a l) (p .file .version) (p .file .date)) p
+  afterBy (st.NumSegments n) p = p
+  afterBy (st.NumZones n) p = p
+  afterBy (st.FormatVersion a l) p = with-file (fileRow (p .file .name) (named a l) (p .file .date)) p
+  afterBy (st.CreationDate a l) p = with-file (fileRow (p .file .name) (p .file .version) (named a l)) p
+  afterBy (st.Segment n) p = with-segment (segmentRow (p .lanes) 0 noName) p
+  afterBy (st.NumLanes n) p = with-segment (segmentRow (p .segment .«first_lane») n (p .segment .name)) p
+  afterBy (st.SegmentName a l) p = with-segment (segmentRow (p .segment .«first_lane») (p .segment .lanes) (named a l)) p
+  afterBy st.EndSegment p = with-segment noSegment (one-segment p)
+  afterBy (st.Lane m n) p = with-lane (laneRow (kept (next-point p)) 0 missingFeet 0 0) (begun p)
+  afterBy (st.NumWaypoints n) p = with-lane (laneRow (p .lane .«first_point») n (p .lane .width) (p .lane .left) (p .lane .right)) p
+  afterBy (st.LaneWidth n) p = with-lane (laneRow (p .lane .«first_point») (p .lane .points) (widthOf n) (p .lane .left) (p .lane .right)) p
+  afterBy (st.LeftBoundary b) p = with-lane (laneRow (p .lane .«first_point») (p .lane .points) (p .lane .width) (sideOf b) (p .lane .right)) p
+  afterBy (st.RightBoundary b) p = with-lane (laneRow (p .lane .«first_point») (p .lane .points) (p .lane .width) (p .lane .left) (sideOf b)) p
+  afterBy (st.Checkpoint i n) p = one-checkpoint p
+  afterBy (st.Stop i) p = one-stop p
+  afterBy (st.Exit i e) p = one-exit p
+  afterBy st.EndLane p = with-lane noLane (one-lane p)
+  afterBy (st.Zone n) p = with-zone (zoneRow (kept (next-point p)) 0 0 0 noName) p
+  afterBy (st.NumSpots n) p = with-zone (zoneRow (p .zone .«first_point») (p .zone .points) (first-spot (p .spots) n) n (p .zone .name)) p
+  afterBy (st.ZoneName a l) p = with-zone (zoneRow (p .zone .«first_point») (p .zone .points) (p .zone .«first_spot») (p .zone .spots) (named a l)) p
+  afterBy st.EndZone p = with-zone noZone (one-zone p)
+  afterBy (st.Perimeter m n) p = begun p
+  afterBy (st.NumPerimeterpoints n) p = with-zone (zoneRow (p .zone .«first_point») n (p .zone .«first_spot») (p .zone .spots) (p .zone .name)) p
+  afterBy st.EndPerimeter p = p
+  afterBy (st.Spot m n) p = with-spot (spotRow (kept (next-point p)) missingFeet) (begun p)
+  afterBy (st.SpotWidth n) p = with-spot (spotRow (p .spot .«first_point») (widthOf n)) p
+  afterBy st.EndSpot p = with-spot noSpot (one-spot p)
+  afterBy st.EndFile p = p
+  afterBy (st.Point i a o) p = points-at (p .first) (kept (suc (p .within))) p
+
+-- as the theory counts: a counter keeps every number
+unfoldable pub afterOf : Statement → Progress → Progress
+afterOf = afterBy (λ n. n)
+
+-- as the program counts: each counter stops by itself at 4,294,967,295. No text that is read has so many rows (proofs/Shown.counts)
 unfoldable pub afterWithin : Statement → Progress → Progress
-afterWithin s p = pick (leb 4294967295 (total p)) p (afterOf s p)
+afterWithin = afterBy fitted

@@ -4,7 +4,7 @@
 // specs/After, specs/Given: the same, executable, which the contracts cite. specs/Shown: a state and a row of the theory `fill`, as the program has them.
 // proofs/Shown: the running form agrees with `fill`, statement by statement; no statement adds more than one row.
 //
-// Rests on `rows` (the rows by value), `room` (a row's number in a word), `units`, `statement`, `fill`, `grammar` and `terms`.
+// Rests on `rows` (the rows by value), `room` (a count or a row's number in a word), `units`, `statement`, `fill` and `grammar`.
 use room::in_word;
 use rows::CheckpointRow;
 use rows::ExitRow;
@@ -22,16 +22,13 @@ use units::CheckpointNumberRead;
 use units::Feet;
 use units::FeetRead;
 ghost use mathlib.Core.Path.{_≡_};
-ghost use Prim.Native.Nat.{suc, pred, _<_};
-ghost use lib.Dec.{leb};
+ghost use Prim.Native.Nat.{suc, pred, _+_};
 ghost use Rattle.grammar.specs.Tables.{first-spot};
 ghost use Rattle.units.specs.Made.{missingFeet};
-ghost use Rattle.progress.specs.After.{named, noName, fileRow, segmentRow, laneRow, zoneRow, spotRow, noSegment, noLane, noZone, noSpot, noProgress, total, widthOf, numberOf, sideOf, next-point, with-segment, with-lane, with-zone, with-spot, one-checkpoint, one-stop, one-exit, points-at, begun, afterOf, afterWithin};
+ghost use Rattle.room.specs.Room.{fitted};
+ghost use Rattle.progress.specs.After.{named, noName, fileRow, segmentRow, laneRow, zoneRow, spotRow, noSegment, noLane, noZone, noSpot, noProgress, widthOf, numberOf, sideOf, next-point, with-segment, with-lane, with-zone, with-spot, one-checkpoint, one-stop, one-exit, points-at, begun, afterWithin};
 ghost use Rattle.progress.specs.Given.{pointOf, rowOf};
 ghost use Rattle.statement.specs.declared.Statement.the-variants as st;
-
-// The number of rows from which on nothing more is counted. No text that is accepted has so many.
-const FULL: u32 = 4294967295;
 
 pub struct Progress {
     // rows so far
@@ -114,6 +111,20 @@ fn rows_behind(z: u32) -> u32
     ensures { λ r. ⌜ r ≡ pred z ⌝ }
 {
     if z == 0 { 0 } else { z - 1 }
+}
+
+// A counter stops by itself where 32 bits end: that costs less than to ask on each line whether all of them have room. No text that is read comes so far.
+fn one_more(n: u32) -> u32
+    ensures { λ r. ⌜ r ≡ fitted (suc n) ⌝ }
+{
+    in_word(n as usize + 1)
+}
+
+// The row of the next point, behind those so far; it stops there too.
+fn next_point(first: u32, within: u32) -> u32
+    ensures { λ r. ⌜ r ≡ fitted (first + within) ⌝ }
+{
+    in_word(first as usize + within as usize)
 }
 
 fn named(start: u32, length: u32) -> Stretch
@@ -235,29 +246,9 @@ impl Progress {
         }
     }
 
-    // What there is behind a statement; the same as before it where one row more might not fit.
+    // What there is behind a statement. By its kind, each changing nothing but what its statement says: so the caller's own counts are changed where they stand.
     pub fn after(self, s: Statement) -> Progress
         ensures { λ r. ⌜ r ≡ afterWithin s self ⌝ }
-    {
-        if self.is_full() { self } else { self.onward(s) }
-    }
-
-    // All rows together are as many as 32 bits hold.
-    fn is_full(self) -> bool
-        ensures { λ r. ⌜ r ≡ leb 4294967295 (total self) ⌝ }
-    {
-        let parts = self.segments as usize
-            + self.lanes as usize
-            + self.zones as usize
-            + self.spots as usize;
-        let lines = parts + self.checkpoints as usize + self.stops as usize + self.exits as usize;
-        FULL as usize <= lines + self.first as usize + self.within as usize
-    }
-
-    // By the statement's kind, each changing nothing but what its statement says: so the caller's own counts are changed where they stand.
-    fn onward(self, s: Statement) -> Progress
-        requires { ⌜ total self < 4294967295 ⌝ }
-        ensures { λ r. ⌜ r ≡ afterOf s self ⌝ }
     {
         match s {
             Statement::RndfName(a, l) => self.file_named(a, l),
@@ -291,7 +282,7 @@ impl Progress {
     }
 
     fn file_named(mut self, start: u32, length: u32) -> Progress
-        ensures { λ r. ⌜ r ≡ afterOf (st.RndfName start length) self ⌝ }
+        ensures { λ r. ⌜ r ≡ afterWithin (st.RndfName start length) self ⌝ }
     {
         let file = self.file;
         let version = file.version;
@@ -302,7 +293,7 @@ impl Progress {
     }
 
     fn version_told(mut self, start: u32, length: u32) -> Progress
-        ensures { λ r. ⌜ r ≡ afterOf (st.FormatVersion start length) self ⌝ }
+        ensures { λ r. ⌜ r ≡ afterWithin (st.FormatVersion start length) self ⌝ }
     {
         let file = self.file;
         let name = file.name;
@@ -313,7 +304,7 @@ impl Progress {
     }
 
     fn date_told(mut self, start: u32, length: u32) -> Progress
-        ensures { λ r. ⌜ r ≡ afterOf (st.CreationDate start length) self ⌝ }
+        ensures { λ r. ⌜ r ≡ afterWithin (st.CreationDate start length) self ⌝ }
     {
         let file = self.file;
         let name = file.name;
@@ -333,14 +324,14 @@ impl Progress {
     }
 
     fn lanes_told(mut self, n: u32) -> Progress
-        ensures { λ r. ⌜ r ≡ afterOf (st.NumLanes n) self ⌝ }
+        ensures { λ r. ⌜ r ≡ afterWithin (st.NumLanes n) self ⌝ }
     {
         self.segment.lanes = n;
         self
     }
 
     fn segment_named(mut self, start: u32, length: u32) -> Progress
-        ensures { λ r. ⌜ r ≡ afterOf (st.SegmentName start length) self ⌝ }
+        ensures { λ r. ⌜ r ≡ afterWithin (st.SegmentName start length) self ⌝ }
     {
         let segment = segment_row(
             self.segment.first_lane,
@@ -352,30 +343,27 @@ impl Progress {
     }
 
     fn segment_ended(mut self) -> Progress
-        requires { ⌜ total self < 4294967295 ⌝ }
-        ensures { λ r. ⌜ r ≡ afterOf st.EndSegment self ⌝ }
+        ensures { λ r. ⌜ r ≡ afterWithin st.EndSegment self ⌝ }
     {
         let segment = no_segment();
-        self.segments += 1;
+        self.segments = one_more(self.segments);
         self.segment = segment;
         self
     }
 
     // The points of a lane, perimeter or spot begin behind those of the part before.
     fn part_begun(mut self) -> Progress
-        requires { ⌜ total self < 4294967295 ⌝ }
-        ensures { λ r. ⌜ r ≡ begun self ⌝ }
+        ensures { λ r. ⌜ r ≡ begun fitted self ⌝ }
     {
-        self.first += self.within;
+        self.first = next_point(self.first, self.within);
         self.within = 0;
         self
     }
 
     fn lane_begun(mut self) -> Progress
-        requires { ⌜ total self < 4294967295 ⌝ }
-        ensures { λ r. ⌜ r ≡ with-lane (laneRow (next-point self) 0 missingFeet 0 0) (begun self) ⌝ }
+        ensures { λ r. ⌜ r ≡ with-lane (laneRow (fitted (next-point self)) 0 missingFeet 0 0) (begun fitted self) ⌝ }
     {
-        let first = self.first + self.within;
+        let first = next_point(self.first, self.within);
         let lane = lane_row(first, 0, Feet::missing(), 0, 0);
         self.first = first;
         self.within = 0;
@@ -384,14 +372,14 @@ impl Progress {
     }
 
     fn waypoints_told(mut self, n: u32) -> Progress
-        ensures { λ r. ⌜ r ≡ afterOf (st.NumWaypoints n) self ⌝ }
+        ensures { λ r. ⌜ r ≡ afterWithin (st.NumWaypoints n) self ⌝ }
     {
         self.lane.points = n;
         self
     }
 
     fn lane_wide(mut self, n: u32) -> Progress
-        ensures { λ r. ⌜ r ≡ afterOf (st.LaneWidth n) self ⌝ }
+        ensures { λ r. ⌜ r ≡ afterWithin (st.LaneWidth n) self ⌝ }
     {
         let lane = self.lane;
         let wide = lane_row(
@@ -406,7 +394,7 @@ impl Progress {
     }
 
     fn left_told(mut self, b: u8) -> Progress
-        ensures { λ r. ⌜ r ≡ afterOf (st.LeftBoundary b) self ⌝ }
+        ensures { λ r. ⌜ r ≡ afterWithin (st.LeftBoundary b) self ⌝ }
     {
         let left = side(b);
         self.lane.left = left;
@@ -414,7 +402,7 @@ impl Progress {
     }
 
     fn right_told(mut self, b: u8) -> Progress
-        ensures { λ r. ⌜ r ≡ afterOf (st.RightBoundary b) self ⌝ }
+        ensures { λ r. ⌜ r ≡ afterWithin (st.RightBoundary b) self ⌝ }
     {
         let right = side(b);
         self.lane.right = right;
@@ -422,50 +410,46 @@ impl Progress {
     }
 
     fn one_checkpoint(mut self) -> Progress
-        requires { ⌜ total self < 4294967295 ⌝ }
-        ensures { λ r. ⌜ r ≡ one-checkpoint self ⌝ }
+        ensures { λ r. ⌜ r ≡ one-checkpoint fitted self ⌝ }
     {
-        self.checkpoints += 1;
+        self.checkpoints = one_more(self.checkpoints);
         self
     }
 
     fn one_stop(mut self) -> Progress
-        requires { ⌜ total self < 4294967295 ⌝ }
-        ensures { λ r. ⌜ r ≡ one-stop self ⌝ }
+        ensures { λ r. ⌜ r ≡ one-stop fitted self ⌝ }
     {
-        self.stops += 1;
+        self.stops = one_more(self.stops);
         self
     }
 
     fn one_exit(mut self) -> Progress
-        requires { ⌜ total self < 4294967295 ⌝ }
-        ensures { λ r. ⌜ r ≡ one-exit self ⌝ }
+        ensures { λ r. ⌜ r ≡ one-exit fitted self ⌝ }
     {
-        self.exits += 1;
+        self.exits = one_more(self.exits);
         self
     }
 
     fn lane_ended(mut self) -> Progress
-        requires { ⌜ total self < 4294967295 ⌝ }
-        ensures { λ r. ⌜ r ≡ afterOf st.EndLane self ⌝ }
+        ensures { λ r. ⌜ r ≡ afterWithin st.EndLane self ⌝ }
     {
         let lane = no_lane();
-        self.lanes += 1;
+        self.lanes = one_more(self.lanes);
         self.lane = lane;
         self
     }
 
     fn zone_begun(mut self) -> Progress
-        requires { ⌜ total self < 4294967295 ⌝ }
-        ensures { λ r. ⌜ r ≡ with-zone (zoneRow (next-point self) 0 0 0 noName) self ⌝ }
+        ensures { λ r. ⌜ r ≡ with-zone (zoneRow (fitted (next-point self)) 0 0 0 noName) self ⌝ }
     {
-        let zone = zone_row(self.first + self.within, 0, 0, 0, no_name());
+        let first = next_point(self.first, self.within);
+        let zone = zone_row(first, 0, 0, 0, no_name());
         self.zone = zone;
         self
     }
 
     fn spots_told(mut self, n: u32) -> Progress
-        ensures { λ r. ⌜ r ≡ afterOf (st.NumSpots n) self ⌝ }
+        ensures { λ r. ⌜ r ≡ afterWithin (st.NumSpots n) self ⌝ }
     {
         let first = spots_from(self.spots, n);
         self.zone.first_spot = first;
@@ -474,7 +458,7 @@ impl Progress {
     }
 
     fn zone_named(mut self, start: u32, length: u32) -> Progress
-        ensures { λ r. ⌜ r ≡ afterOf (st.ZoneName start length) self ⌝ }
+        ensures { λ r. ⌜ r ≡ afterWithin (st.ZoneName start length) self ⌝ }
     {
         let zone = self.zone;
         let named = zone_row(
@@ -489,27 +473,25 @@ impl Progress {
     }
 
     fn zone_ended(mut self) -> Progress
-        requires { ⌜ total self < 4294967295 ⌝ }
-        ensures { λ r. ⌜ r ≡ afterOf st.EndZone self ⌝ }
+        ensures { λ r. ⌜ r ≡ afterWithin st.EndZone self ⌝ }
     {
         let zone = no_zone();
-        self.zones += 1;
+        self.zones = one_more(self.zones);
         self.zone = zone;
         self
     }
 
     fn perimeterpoints_told(mut self, n: u32) -> Progress
-        ensures { λ r. ⌜ r ≡ afterOf (st.NumPerimeterpoints n) self ⌝ }
+        ensures { λ r. ⌜ r ≡ afterWithin (st.NumPerimeterpoints n) self ⌝ }
     {
         self.zone.points = n;
         self
     }
 
     fn spot_begun(mut self) -> Progress
-        requires { ⌜ total self < 4294967295 ⌝ }
-        ensures { λ r. ⌜ r ≡ with-spot (spotRow (next-point self) missingFeet) (begun self) ⌝ }
+        ensures { λ r. ⌜ r ≡ with-spot (spotRow (fitted (next-point self)) missingFeet) (begun fitted self) ⌝ }
     {
-        let first = self.first + self.within;
+        let first = next_point(self.first, self.within);
         let spot = spot_row(first, Feet::missing());
         self.first = first;
         self.within = 0;
@@ -518,7 +500,7 @@ impl Progress {
     }
 
     fn spot_wide(mut self, n: u32) -> Progress
-        ensures { λ r. ⌜ r ≡ afterOf (st.SpotWidth n) self ⌝ }
+        ensures { λ r. ⌜ r ≡ afterWithin (st.SpotWidth n) self ⌝ }
     {
         let spot = spot_row(self.spot.first_point, feet(n));
         self.spot = spot;
@@ -526,20 +508,18 @@ impl Progress {
     }
 
     fn spot_ended(mut self) -> Progress
-        requires { ⌜ total self < 4294967295 ⌝ }
-        ensures { λ r. ⌜ r ≡ afterOf st.EndSpot self ⌝ }
+        ensures { λ r. ⌜ r ≡ afterWithin st.EndSpot self ⌝ }
     {
         let spot = no_spot();
-        self.spots += 1;
+        self.spots = one_more(self.spots);
         self.spot = spot;
         self
     }
 
     fn one_point(mut self) -> Progress
-        requires { ⌜ total self < 4294967295 ⌝ }
-        ensures { λ r. ⌜ r ≡ points-at (self .first) (suc (self .within)) self ⌝ }
+        ensures { λ r. ⌜ r ≡ points-at (self .first) (fitted (suc (self .within))) self ⌝ }
     {
-        self.within += 1;
+        self.within = one_more(self.within);
         self
     }
 

@@ -6,10 +6,11 @@ use Rattle.progress.proofs.Progress.lane_begun.Tie as tie
 use Rattle.progress.proofs.Progress.lane_begun.Reads as reads
 use Rattle.progress.proofs.Progress.lane_begun.Lts as lts
 use Rattle.progress.proofs.lane_row.Reads as lane-row-reads
+use Rattle.progress.proofs.next_point.Reads as next-point-reads
 use Rattle.units.proofs.Feet.missing.Reads as missing-reads
 
-add-first : tie.Need-add-first
-add-first c = search needs
+next-point-requires : tie.Need-next-point-requires
+next-point-requires c κs = search needs
 
 missing-requires : tie.Need-missing-requires
 missing-requires c κs = search needs
@@ -18,7 +19,7 @@ lane-row-requires : tie.Need-lane-row-requires
 lane-row-requires c κs = search needs
 
 returns : tie.Need-returns
-returns c = rw (c .lane-row .ensures, c .before .missing .ensures) refl
+returns c = rw (c .lane-row .ensures, c .before .missing .ensures, c .before .before .next-point .ensures) refl
 
 pub lane-begun-spec : {M : Type 1} → statement M
-lane-begun-spec = tie.close (tie.spec add-first missing-requires lane-row-requires returns)
+lane-begun-spec = tie.close (tie.spec next-point-requires missing-requires lane-row-requires returns)

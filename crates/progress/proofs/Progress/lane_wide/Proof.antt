@@ -1,6 +1,6 @@
 -- `progress::Progress::lane_wide` meets its contract. Assumes nothing.
 use mathlib.Core.Path.{refl}
-use Rattle.progress.specs.After.{afterOf}
+use Rattle.progress.specs.After.{afterWithin}
 use borrow.Author.Needs.{needs}
 use Rattle.progress.proofs.Progress.lane_wide.Statement.{statement}
 use Rattle.progress.proofs.Progress.lane_wide.Tie as tie
@@ -16,7 +16,7 @@ lane-row-requires : tie.Need-lane-row-requires
 lane-row-requires c κs = search needs
 
 returns : tie.Need-returns
-unfolding afterOf
+unfolding afterWithin
 returns c = rw (c .lane-row .ensures, c .before .feet .ensures) refl
 
 pub lane-wide-spec : {M : Type 1} → statement M

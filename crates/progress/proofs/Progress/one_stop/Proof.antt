@@ -1,17 +1,17 @@
 -- `progress::Progress::one_stop` meets its contract. Assumes nothing.
 use mathlib.Core.Path.{refl}
-use native.Mathlib.Numerals.{add-one}
 use borrow.Author.Needs.{needs}
 use Rattle.progress.proofs.Progress.one_stop.Statement.{statement}
 use Rattle.progress.proofs.Progress.one_stop.Tie as tie
 use Rattle.progress.proofs.Progress.one_stop.Reads as reads
 use Rattle.progress.proofs.Progress.one_stop.Lts as lts
+use Rattle.progress.proofs.one_more.Reads as one-more-reads
 
-add-self : tie.Need-add-self
-add-self c = search needs
+one-more-requires : tie.Need-one-more-requires
+one-more-requires c κs = search needs
 
 returns : tie.Need-returns
-returns c = rw add-one refl
+returns c = rw (c .one-more .ensures) refl
 
 pub one-stop-spec : {M : Type 1} → statement M
-one-stop-spec = tie.close (tie.spec add-self returns)
+one-stop-spec = tie.close (tie.spec one-more-requires returns)

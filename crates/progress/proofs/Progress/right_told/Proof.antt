@@ -1,6 +1,6 @@
 -- `progress::Progress::right_told` meets its contract. Assumes nothing.
 use mathlib.Core.Path.{refl}
-use Rattle.progress.specs.After.{afterOf}
+use Rattle.progress.specs.After.{afterWithin}
 use borrow.Author.Needs.{needs}
 use Rattle.progress.proofs.Progress.right_told.Statement.{statement}
 use Rattle.progress.proofs.Progress.right_told.Tie as tie
@@ -12,7 +12,7 @@ side-requires : tie.Need-side-requires
 side-requires c κs = search needs
 
 returns : tie.Need-returns
-unfolding afterOf
+unfolding afterWithin
 returns c = rw (c .before .side .ensures) refl
 
 pub right-told-spec : {M : Type 1} → statement M

@@ -1,6 +1,6 @@
 -- `progress::Progress::spot_wide` meets its contract. Assumes nothing.
 use mathlib.Core.Path.{refl}
-use Rattle.progress.specs.After.{afterOf}
+use Rattle.progress.specs.After.{afterWithin}
 use borrow.Author.Needs.{needs}
 use Rattle.progress.proofs.Progress.spot_wide.Statement.{statement}
 use Rattle.progress.proofs.Progress.spot_wide.Tie as tie
@@ -16,7 +16,7 @@ spot-row-requires : tie.Need-spot-row-requires
 spot-row-requires c κs = search needs
 
 returns : tie.Need-returns
-unfolding afterOf
+unfolding afterWithin
 returns c = rw (c .spot-row .ensures, c .before .feet .ensures) refl
 
 pub spot-wide-spec : {M : Type 1} → statement M

@@ -1,6 +1,6 @@
 -- `progress::Progress::spots_told` meets its contract. Assumes nothing.
 use mathlib.Core.Path.{refl}
-use Rattle.progress.specs.After.{afterOf}
+use Rattle.progress.specs.After.{afterWithin}
 use borrow.Author.Needs.{needs}
 use Rattle.progress.proofs.Progress.spots_told.Statement.{statement}
 use Rattle.progress.proofs.Progress.spots_told.Tie as tie
@@ -12,7 +12,7 @@ spots-from-requires : tie.Need-spots-from-requires
 spots-from-requires c κs = search needs
 
 returns : tie.Need-returns
-unfolding afterOf
+unfolding afterWithin
 returns c = rw (c .before .before .spots-from .ensures) refl
 
 pub spots-told-spec : {M : Type 1} → statement M

@@ -1,6 +1,6 @@
 -- `progress::Progress::version_told` meets its contract. Assumes nothing.
 use mathlib.Core.Path.{refl}
-use Rattle.progress.specs.After.{afterOf}
+use Rattle.progress.specs.After.{afterWithin}
 use borrow.Author.Needs.{needs}
 use Rattle.progress.proofs.Progress.version_told.Statement.{statement}
 use Rattle.progress.proofs.Progress.version_told.Tie as tie
@@ -16,7 +16,7 @@ file-row-requires : tie.Need-file-row-requires
 file-row-requires c κs = search needs
 
 returns : tie.Need-returns
-unfolding afterOf
+unfolding afterWithin
 returns c = rw (c .file-row .ensures, c .before .named .ensures) refl
 
 pub version-told-spec : {M : Type 1} → statement M

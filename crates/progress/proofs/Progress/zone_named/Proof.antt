@@ -1,6 +1,6 @@
 -- `progress::Progress::zone_named` meets its contract. Assumes nothing.
 use mathlib.Core.Path.{refl}
-use Rattle.progress.specs.After.{afterOf}
+use Rattle.progress.specs.After.{afterWithin}
 use borrow.Author.Needs.{needs}
 use Rattle.progress.proofs.Progress.zone_named.Statement.{statement}
 use Rattle.progress.proofs.Progress.zone_named.Tie as tie
@@ -16,7 +16,7 @@ zone-row-requires : tie.Need-zone-row-requires
 zone-row-requires c κs = search needs
 
 returns : tie.Need-returns
-unfolding afterOf
+unfolding afterWithin
 returns c = rw (c .zone-row .ensures, c .before .named .ensures) refl
 
 pub zone-named-spec : {M : Type 1} → statement M
