@@ -11,6 +11,8 @@ use Rattle.terms.specs.Words.{Each, Between}
 use Rattle.number.specs.Decimal.{decimal}
 use Rattle.number.specs.House.{houseInteger, houseTriple}
 use Rattle.rows.specs.Read.{pointAt, checkpointAt}
+use Rattle.filled_rows.specs.From.{From}
+use Rattle.filled_rows.proofs.From.{from-parts}
 use Rattle.law.specs.Network.{Position, Checkpoint, GoodCheckpoint}
 use Rattle.law.specs.Tables.{gather}
 use Rattle.grammar.specs.Tables.{CheckpointRow, checkpoint-row}
@@ -21,10 +23,9 @@ use Rattle.output.specs.Pen.{put}
 use Rattle.features.specs.Drawn.{each, comma-from, checkpoint, walk, part-end, checkpoint-from, part-checkpoints, walk-to, part-walk}
 use Rattle.features.proofs.Loops.{end-here, end-further, end-last}
 use Rattle.map_law.specs.Map as Map
-use Rattle.map_tables.specs.Marked.{marks, From}
+use Rattle.map_tables.specs.Marked.{marks}
 use Rattle.map_tables.specs.Passed.{Passes}
 use Rattle.map_tables.proofs.Marks.{marks-later}
-use Rattle.map_tables.proofs.From.{from-parts}
 use Rattle.map_tables.proofs.Shapes.{map-append, position-is}
 use Rattle.map_tables.proofs.Features.{checkpoint-numbered}
 

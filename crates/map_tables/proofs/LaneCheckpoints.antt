@@ -10,6 +10,8 @@ use Rattle.terms.specs.Words.{Each}
 use Rattle.terms.proofs.Lists.{each-any, each-map, each-append}
 use Rattle.rows.specs.declared.SegmentRow.{SegmentRow}
 use Rattle.rows.specs.Read.{pointAt, laneAt, segmentAt}
+use Rattle.filled_rows.specs.From.{From}
+use Rattle.filled_rows.proofs.From.{from-parts}
 use Rattle.law.specs.Network.{Checkpoint, Lane, Segment}
 use Rattle.law.specs.Tables.{gather, along, total, lane-size}
 use Rattle.grammar.specs.Tables.{CheckpointRow, checkpoint-row, lane-row, segment-row}
@@ -19,9 +21,7 @@ use Rattle.grammar.proofs.Rows.{each-of-map}
 use Rattle.table_words.specs.Shown.{shown-segment, shown-lane, shown-point}
 use Rattle.features.specs.Drawn.{walk, steps, part-walk, lane-walk, segment-walk}
 use Rattle.map_law.specs.Map as Map
-use Rattle.map_tables.specs.Marked.{From}
 use Rattle.map_tables.specs.Passed.{Behind, Passes}
-use Rattle.map_tables.proofs.From.{from-parts}
 use Rattle.map_tables.proofs.Shapes.{map-append}
 use Rattle.map_tables.proofs.Identifiers.{gather-append}
 use Rattle.map_tables.proofs.Segments.{along-append, length-along, points-counted, lane-rows, points-of}

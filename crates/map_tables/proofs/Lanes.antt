@@ -15,6 +15,8 @@ use Rattle.rows.specs.declared.LaneRow.{LaneRow}
 use Rattle.rows.specs.declared.SegmentRow.{SegmentRow}
 use Rattle.rows.specs.Read.{stretchOf, pointAt, laneAt}
 use Rattle.rows.specs.Name.{nameOf}
+use Rattle.filled_rows.specs.From.{From}
+use Rattle.filled_rows.proofs.From.{from-parts}
 use Rattle.law.specs.Network.{Lane}
 use Rattle.law.specs.Tables.{gather, along, lane-size}
 use Rattle.grammar.specs.Tables.{lane-row}
@@ -22,8 +24,7 @@ use Rattle.table_words.specs.FileRows.{shown-name}
 use Rattle.table_words.specs.Shown.{shown-lane, shown-point}
 use Rattle.features.specs.Drawn.{each, quoted, comma-from, lane-shape, named, lane, behind-one, lane-from}
 use Rattle.map_law.specs.Map as Map
-use Rattle.map_tables.specs.Marked.{marks, From}
-use Rattle.map_tables.proofs.From.{from-parts}
+use Rattle.map_tables.specs.Marked.{marks}
 use Rattle.map_tables.proofs.Shapes.{map-append, quoted-is, lane-shape-is}
 use Rattle.map_tables.proofs.Features.{lane-unnamed, lane-named}
 

@@ -1,6 +1,5 @@
--- Lists with commas; tables read from a row on; what each feature is; walks over checkpoints' rows; the theorem.
+-- Lists with commas; what each feature is; walks over checkpoints' rows; what filled tables read as; the theorem.
 pub mod Marks
-pub mod From
 pub mod Shapes
 pub mod Identifiers
 pub mod Features

@@ -7,15 +7,16 @@ use lib.ListN.{length, length-append, length-map}
 use Rattle.terms.specs.Ascii.{Bytes}
 use Rattle.terms.proofs.Lists.{each-map, each-append}
 use Rattle.rows.specs.Read.{checkpointAt}
+use Rattle.filled_rows.specs.From.{From}
+use Rattle.filled_rows.proofs.From.{from-parts}
 use Rattle.grammar.specs.Tables.{CheckpointRow}
 use Rattle.table_words.specs.Shown.{shown-checkpoint}
 use Rattle.output.specs.Pen.{Pen, put}
 use Rattle.features.specs.Drawn.{Walk, walk}
 use Rattle.json.proofs.Loops.{behind}
-use Rattle.map_tables.specs.Marked.{marks, From}
+use Rattle.map_tables.specs.Marked.{marks}
 use Rattle.map_tables.specs.Passed.{Left, Behind, Passes}
 use Rattle.map_tables.proofs.Marks.{later-append}
-use Rattle.map_tables.proofs.From.{from-parts}
 use Rattle.map_tables.proofs.Shapes.{map-append}
 
 pub put-put : (q : Pen) (x y : Bytes) → put (put q x) y ≡ put q (x ++ y)

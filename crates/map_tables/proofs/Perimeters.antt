@@ -13,6 +13,8 @@ use Rattle.line.specs.Content.{Field}
 use Rattle.number.specs.House.{housePair}
 use Rattle.rows.specs.declared.ZoneRow.{ZoneRow}
 use Rattle.rows.specs.Read.{pointAt, zoneAt}
+use Rattle.filled_rows.specs.From.{From}
+use Rattle.filled_rows.proofs.From.{from-parts}
 use Rattle.law.specs.Network.{Zone}
 use Rattle.law.specs.Tables.{gather, spot-points, zone-points, zone-size}
 use Rattle.grammar.specs.Tables.{zone-row, zone-rows-from}
@@ -20,8 +22,7 @@ use Rattle.table_words.specs.FileRows.{shown-name}
 use Rattle.table_words.specs.Shown.{shown-zone, shown-point}
 use Rattle.features.specs.Drawn.{each, quoted, comma-from, perimeter-shape, named, perimeter, behind-one, perimeter-from}
 use Rattle.map_law.specs.Map as Map
-use Rattle.map_tables.specs.Marked.{marks, From}
-use Rattle.map_tables.proofs.From.{from-parts}
+use Rattle.map_tables.specs.Marked.{marks}
 use Rattle.map_tables.proofs.Shapes.{map-append, quoted-is, perimeter-shape-is}
 use Rattle.map_tables.proofs.Features.{perimeter-unnamed, perimeter-named}
 use Rattle.map_tables.proofs.Lanes.{start-of, length-of, Held}

@@ -13,6 +13,8 @@ use Rattle.rows.specs.Read.{segmentAt, laneAt, zoneAt, spotAt, pointAt, checkpo
 use Rattle.rows.specs.Table.{tableOf}
 use Rattle.rows.proofs.Forms.{Form}
 use Rattle.rows.proofs.Forms as Forms
+use Rattle.filled_rows.specs.From.{From}
+use Rattle.filled_rows.proofs.From.{filled-from}
 use Rattle.law.specs.Network.{Network}
 use Rattle.law.specs.Tables.{Lent, HasRoom, filled}
 use Rattle.law.specs.Faults.{Sound}
@@ -24,8 +26,6 @@ use Rattle.table_words.proofs.Shown.{tables-shown}
 use Rattle.table_words.proofs.Filled.{rows-fit}
 use Rattle.table_words.proofs.Bounds.{WidthBound, LaneBounds, SpotBounds, CheckpointBounds, bounded}
 use Rattle.law_tables.proofs.SameTables.{filled-same, room-back}
-use Rattle.map_tables.specs.Marked.{From}
-use Rattle.map_tables.proofs.From.{filled-from}
 use Rattle.map_tables.proofs.Lanes.{start-of, length-of}
 
 -- the tables that a map is drawn from, row by row

@@ -9,15 +9,16 @@ use Rattle.terms.specs.Ascii.{Bytes}
 use Rattle.terms.specs.Words.{Each}
 use Rattle.line.specs.Content.{Field}
 use Rattle.rows.specs.Read.{pointAt, laneAt, segmentAt}
+use Rattle.filled_rows.specs.From.{From}
+use Rattle.filled_rows.proofs.From.{from-parts}
 use Rattle.law.specs.Network.{Lane, Segment, Position}
 use Rattle.law.specs.Tables.{gather, along, total, lane-size}
 use Rattle.grammar.specs.Tables.{lane-row, segment-row, LaneRow}
 use Rattle.table_words.specs.Shown.{shown-segment, shown-lane, shown-point}
 use Rattle.features.specs.Drawn.{each, behind-one, segment-lanes, segment-from}
 use Rattle.map_law.specs.Map as Map
-use Rattle.map_tables.specs.Marked.{marks, From}
+use Rattle.map_tables.specs.Marked.{marks}
 use Rattle.map_tables.proofs.Marks.{marks-append}
-use Rattle.map_tables.proofs.From.{from-parts}
 use Rattle.map_tables.proofs.Shapes.{map-append}
 use Rattle.map_tables.proofs.Identifiers.{gather-append}
 use Rattle.map_tables.proofs.Lanes.{start-of, length-of, Held, lanes-are}

@@ -11,15 +11,16 @@ use Rattle.terms.specs.Ascii.{Bytes, ascii}
 use Rattle.coordinate.specs.House.{houseCoordinate}
 use Rattle.rows.specs.declared.PointRow.{PointRow}
 use Rattle.rows.specs.Read.{pointAt}
+use Rattle.filled_rows.specs.From.{From}
+use Rattle.filled_rows.proofs.From.{from-parts}
 use Rattle.law.specs.Network.{Position}
 use Rattle.table_words.specs.Shown.{shown-point}
 use Rattle.features.specs.Drawn.{each, escaped, escapes, quoted, comma-from, position-at, position-from, position-back, positions, ring, lane-shape, perimeter-shape}
 use Rattle.law.specs.Tables.{gather}
 use Rattle.map_law.specs.Map as Map
 use Rattle.map_law.specs.Map.{commas}
-use Rattle.map_tables.specs.Marked.{marks, From}
+use Rattle.map_tables.specs.Marked.{marks}
 use Rattle.map_tables.proofs.Marks.{commas-is, marks-append}
-use Rattle.map_tables.proofs.From.{from-parts}
 
 -- a position
 pub position-is : (ps : List ℤ) (row : ℕ) (p : Position) → pointAt ps row ≡ shown-point p → position-at ps row ≡ Map.position p

@@ -11,6 +11,8 @@ use Rattle.terms.specs.Words.{Each, perhaps}
 use Rattle.terms.proofs.Lists.{each-map}
 use Rattle.rows.specs.declared.ZoneRow.{ZoneRow}
 use Rattle.rows.specs.Read.{pointAt, zoneAt, spotAt}
+use Rattle.filled_rows.specs.From.{From}
+use Rattle.filled_rows.proofs.From.{from-parts}
 use Rattle.law.specs.Network.{Checkpoint, Spot, Zone, GoodSpot}
 use Rattle.law.specs.Tables.{gather, along, total, spot-points, zone-points, zone-size, first-spot, over-spots}
 use Rattle.grammar.specs.Tables.{CheckpointRow, SpotRow, checkpoint-row, spot-checkpoint, spot-row, zone-row, zone-rows-from}
@@ -18,9 +20,7 @@ use Rattle.grammar.specs.HouseOrder.{GoodZone}
 use Rattle.table_words.specs.Shown.{shown-zone, shown-spot, shown-point}
 use Rattle.features.specs.Drawn.{walk, steps, part-walk, spot-walk, zone-walk}
 use Rattle.map_law.specs.Map as Map
-use Rattle.map_tables.specs.Marked.{From}
 use Rattle.map_tables.specs.Passed.{Behind, Passes}
-use Rattle.map_tables.proofs.From.{from-parts}
 use Rattle.map_tables.proofs.Shapes.{map-append}
 use Rattle.map_tables.proofs.Segments.{length-along}
 use Rattle.map_tables.proofs.Checkpoints.{part-walked}

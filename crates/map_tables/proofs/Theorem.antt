@@ -10,6 +10,8 @@ use Rattle.terms.specs.Words.{Each, perhaps}
 use Rattle.terms.proofs.Lists.{each-map}
 use Rattle.line.specs.Content.{Field}
 use Rattle.rows.specs.Read.{pointAt}
+use Rattle.filled_rows.specs.From.{From}
+use Rattle.filled_rows.proofs.From.{from-parts}
 use Rattle.law.specs.Network.{Segment, Zone, Network, present}
 use Rattle.law.specs.Tables.{Lent, filled, gather, total, lane-size, zone-size, lane-points, zone-points, first-zone-point}
 use Rattle.law.specs.Tables as Law
@@ -26,10 +28,9 @@ use Rattle.output.specs.Pen.{Pen, put}
 use Rattle.features.specs.Drawn.{Walk, walk, steps, segment-walk, zone-walk, all-lanes, all-perimeters, all-walk, drawn}
 use Rattle.map_law.specs.Map as Map
 use Rattle.map_law.specs.Map.{commas, geojson}
-use Rattle.map_tables.specs.Marked.{marks, From}
+use Rattle.map_tables.specs.Marked.{marks}
 use Rattle.map_tables.specs.Passed.{Behind, Left}
 use Rattle.map_tables.proofs.Marks.{marks-append, marks-later, later-append, commas-is}
-use Rattle.map_tables.proofs.From.{from-parts}
 use Rattle.map_tables.proofs.Shapes.{map-append}
 use Rattle.map_tables.proofs.Lanes.{start-of, length-of, Held}
 use Rattle.map_tables.proofs.Segments.{NamedSegment, segments-are, length-along, points-counted}

@@ -1,11 +1,12 @@
 -- What it means to walk over checkpoint rows: which are left, which are passed and what is put meanwhile. Assumes nothing.
 use Rattle.terms.specs.Words.{_≡_, List, _++_, map, ℕ, _+_, _≤_, length, Bytes, Each}
 use Rattle.rows.specs.Read.{checkpointAt}
+use Rattle.filled_rows.specs.From.{From}
 use Rattle.grammar.specs.Tables.{CheckpointRow}
 use Rattle.table_words.specs.Shown.{shown-checkpoint}
 use Rattle.output.specs.Pen.{Pen, put}
 use Rattle.features.specs.Drawn.{Walk, walk}
-use Rattle.map_tables.specs.Marked.{marks, From}
+use Rattle.map_tables.specs.Marked.{marks}
 
 -- none of these rows stands before this point
 abbrev pub Behind : ℕ → List CheckpointRow → Type 0

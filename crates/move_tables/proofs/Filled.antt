@@ -17,6 +17,8 @@ use Rattle.rows.specs.Lay.{rowsOf, rowAt}
 use Rattle.rows.specs.Strides.{laneStride, zoneStride, exitStride}
 use Rattle.rows.specs.Table.{tableOf}
 use Rattle.rows.proofs.Tables.{length-table}
+use Rattle.filled_rows.specs.From.{From}
+use Rattle.filled_rows.proofs.From.{from-map, words-from}
 use Rattle.table_words.specs.Words.{lane-words, zone-words, exit-words, network-filled}
 use Rattle.table_words.proofs.Filled.{rows-fit, name-long}
 use Rattle.law_tables.proofs.SameRows.{start-of, length-of}
@@ -26,8 +28,7 @@ use Rattle.replies.specs.Replies.{AcceptsRndf}
 use Rattle.moves.specs.declared.Part.{Part}
 use Rattle.moves.specs.Moves.{part, lane-part, zone-part}
 use Rattle.route_law.specs.Moves.{Span, lane-spans, zone-spans}
-use Rattle.move_tables.specs.Reads.{From, span-part, Reads}
-use Rattle.move_tables.proofs.From.{from-map, filled-from}
+use Rattle.move_tables.specs.Reads.{span-part, Reads}
 
 -- ## The part that a row's words tell
 abbrev lane-told : List ℕ → Part
@@ -85,7 +86,7 @@ module _ (text : Bytes) (t : Lent) (n : Network Field) (a : AcceptsRndf present 
       let h = room-back n t (a .room) .lanes in
       subst (From (lane-part (network-filled n t .lanes)) 0)
       (map-map lane-told lane-words (tables n .lanes) ∙ told-same lane-size lane-row (λ first b. record { first = first; size = lane-size b }) (λ r. lane-told (lane-words r)) span-part (λ p b. refl) 0 (all-lanes n))
-      (from-map (rowAt laneStride (network-filled n t .lanes)) lane-told 0 (map lane-words (tables n .lanes)) (filled-from laneStride lane-words (lit< tt) (λ r. refl) no-lane (length (t .lanes)) (tables n .lanes) (rows-fit (length (tables n .lanes)) (length (t .lanes)) laneStride h)))
+      (from-map (rowAt laneStride (network-filled n t .lanes)) lane-told 0 (map lane-words (tables n .lanes)) (words-from laneStride lane-words (lit< tt) (λ r. refl) no-lane (length (t .lanes)) (tables n .lanes) (rows-fit (length (tables n .lanes)) (length (t .lanes)) laneStride h)))
 
   zones-from : From (zone-part (network-filled n t .zones)) 0 (map span-part (zone-spans n))
   unfolding zone-part tables-with
@@ -93,13 +94,13 @@ module _ (text : Bytes) (t : Lent) (n : Network Field) (a : AcceptsRndf present 
       let h = room-back n t (a .room) .zones in
       subst (From (zone-part (network-filled n t .zones)) 0)
       (map-map zone-told zone-as (tables n .zones) ∙ zones-told (first-zone-point n) 0 (n .zones))
-      (from-map (rowAt zoneStride (network-filled n t .zones)) zone-told 0 (map zone-as (tables n .zones)) (filled-from zoneStride zone-as (lit< tt) zone-long no-zone (length (t .zones)) (tables n .zones) (rows-fit (length (tables n .zones)) (length (t .zones)) zoneStride h)))
+      (from-map (rowAt zoneStride (network-filled n t .zones)) zone-told 0 (map zone-as (tables n .zones)) (words-from zoneStride zone-as (lit< tt) zone-long no-zone (length (t .zones)) (tables n .zones) (rows-fit (length (tables n .zones)) (length (t .zones)) zoneStride h)))
 
   exits-from : From (rowAt exitStride (network-filled n t .exits)) 0 (Law.exit-rows n)
   exits-from =
       let h = room-back n t (a .room) .exits in
       subst (From (rowAt exitStride (network-filled n t .exits)) 0) (exits-same n (a .right))
-      (filled-from exitStride exit-words (lit< tt) (λ r. refl) (record { point = 0; entry = 0 }) (length (t .exits)) (tables n .exits) (rows-fit (length (tables n .exits)) (length (t .exits)) exitStride h))
+      (words-from exitStride exit-words (lit< tt) (λ r. refl) (record { point = 0; entry = 0 }) (length (t .exits)) (tables n .exits) (rows-fit (length (tables n .exits)) (length (t .exits)) exitStride h))
 
   typed : Reads n (network-filled n t .lanes) (network-filled n t .zones) (network-filled n t .exits)
   unfolding tables-with

@@ -15,13 +15,14 @@ use Rattle.grammar.proofs.Rows.{Within}
 use Rattle.rows.specs.Lay.{rowsOf, rowAt}
 use Rattle.rows.specs.Strides.{exitStride}
 use Rattle.rows.proofs.Lay.{row-inside, word-of-row}
+use Rattle.filled_rows.specs.From.{From}
+use Rattle.filled_rows.proofs.From.{from-parts, from-among}
 use Rattle.look_up.proofs.Answers.{row-words}
 use Rattle.moves.specs.declared.Part.{Part}
 use Rattle.moves.specs.Halving.{first-word, rows-there, first-row-from}
 use Rattle.moves.specs.Moves.{goes, leads-from, leads}
 use Rattle.route_law.specs.Moves.{Span}
-use Rattle.move_tables.specs.Reads.{From, span-part}
-use Rattle.move_tables.proofs.From.{from-behind, from-among}
+use Rattle.move_tables.specs.Reads.{span-part}
 use Rattle.move_tables.proofs.Found.{first-word-is, all-there, found-inside, found}
 use Rattle.move_tables.proofs.Groups.{Grouped}
 
@@ -91,7 +92,7 @@ module _ (exits : List ℕ) (rows : List (List ℕ)) (room : length rows ≤ row
       (each-append (λ w. s .first ≤ source w) (g .own) (g .back) (each-map (λ w. Within (s .first) (s .size) (source w)) (λ w. s .first ≤ source w) (λ w h. h .low) (g .own) (g .within)) (each-map (λ w. s .first + s .size ≤ source w) (λ w. s .first ≤ source w) (λ w h. omega arith) (g .back) (g .behind))) in
       let there = all-there exits exitStride (length rows) room in
       (λ i. leads-from exits (s .first + s .size) a b (row i) (there i - row i))
-      ∙ found-own exits a b (s .first + s .size) (length (g .front)) (g .own) (g .back) (length rows - length (g .front)) (subst (λ (k : ℕ). From (rowAt exitStride exits) k rest) (let z : 0 + length (g .front) ≡ length (g .front) = omega arith in z) (from-behind (rowAt exitStride exits) 0 (g .front) rest (subst (From (rowAt exitStride exits) 0) (g .is) read))) (omega arith) (omega arith)
+      ∙ found-own exits a b (s .first + s .size) (length (g .front)) (g .own) (g .back) (length rows - length (g .front)) (subst (λ (k : ℕ). From (rowAt exitStride exits) k rest) (let z : 0 + length (g .front) ≡ length (g .front) = omega arith in z) (from-parts (rowAt exitStride exits) 0 (g .front) rest (subst (From (rowAt exitStride exits) 0) (g .is) read) .1)) (omega arith) (omega arith)
       (each-map (λ w. Within (s .first) (s .size) (source w)) (λ w. source w < s .first + s .size) (λ w h. h .high) (g .own) (g .within)) (g .there)
 
   pub leads-only : (p : Part) → leads exits (length rows) p a b ≡ true → Among (a ∷ b ∷ []) rows

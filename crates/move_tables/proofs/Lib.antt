@@ -1,4 +1,3 @@
-pub mod From
 pub mod Found
 pub mod Spans
 pub mod Groups

@@ -13,12 +13,13 @@ use Rattle.terms.proofs.Tests.{clash}
 use Rattle.grammar.proofs.Rows.{each-of-map}
 use Rattle.law_tables.proofs.Among.{among-told}
 use Rattle.rows.specs.Lay.{rowsOf}
+use Rattle.filled_rows.specs.From.{From}
+use Rattle.filled_rows.proofs.From.{from-parts, from-among}
 use Rattle.moves.specs.declared.Part.{Part}
 use Rattle.moves.specs.Halving.{first-word, first-row-from}
 use Rattle.moves.specs.Moves.{part, inside, part-before}
 use Rattle.route_law.specs.Moves.{Span, Inside}
-use Rattle.move_tables.specs.Reads.{From, span-part}
-use Rattle.move_tables.proofs.From.{from-behind, from-among}
+use Rattle.move_tables.specs.Reads.{span-part}
 use Rattle.move_tables.proofs.Found.{found, found-inside}
 use Rattle.move_tables.proofs.Spans.{Stands}
 
@@ -57,7 +58,7 @@ module _ (table : List ℕ) (stride : ℕ) (part-at : ℕ → Part) (parts : Lis
       (each-append (λ q. q .first < p + 1) front (span-part s ∷ []) (each-of-map (λ q. q .first < p + 1) span-part (t .front) (each-map (λ q. q .first ≤ s .first) (λ q. q .first < p + 1) (λ q h. omega arith) (t .front) (t .before))) (omega arith, tt))
       (each-of-map (λ q. p + 1 ≤ q .first) span-part (t .back) (each-map (λ q. s .first + s .size ≤ q .first) (λ q. p + 1 ≤ q .first) (λ q h. omega arith) (t .back) (t .behind)))
       ∙ length-append front (span-part s ∷ []) ∙ (let e : length front + 1 ≡ suc (length front) = omega arith in e) in
-      ap (part-before part-at) row ∙ ap part-at (let e : length front ≡ 0 + length front = omega arith in e) ∙ from-behind part-at 0 front (span-part s ∷ back) (subst (From part-at 0) all rows) .0
+      ap (part-before part-at) row ∙ ap part-at (let e : length front ≡ 0 + length front = omega arith in e) ∙ from-parts part-at 0 front (span-part s ∷ back) (subst (From part-at 0) all rows) .1 .0
 
   pub only-parts : (p q : ℕ) → inside (part-before part-at (first-row-from table stride (length parts) q)) p ≡ true → (s : Span) × Among s parts × (part-before part-at (first-row-from table stride (length parts) q) ≡ span-part s)
   only-parts p q = go (first-row-from table stride (length parts) q) (found-inside table stride (length parts) q)

@@ -1,18 +1,14 @@
 -- What the tables of a network read as: its parts and its exits. Assumes nothing.
-use Rattle.terms.specs.Words.{_≡_, List, [], _∷_, map, ℕ, suc, _+_, _≤_, length}
+use Rattle.terms.specs.Words.{List, map, ℕ, _+_, _≤_, length}
 use Rattle.line.specs.Line.{Field}
 use Rattle.law.specs.Network.{Network}
 use Rattle.law.specs.Tables.{exit-rows}
 use Rattle.rows.specs.Lay.{rowsOf, rowAt}
 use Rattle.rows.specs.Strides.{laneStride, zoneStride, exitStride}
+use Rattle.filled_rows.specs.From.{From}
 use Rattle.moves.specs.declared.Part.{Part}
 use Rattle.moves.specs.Moves.{part, lane-part, zone-part}
 use Rattle.route_law.specs.Moves.{Span, lane-spans, zone-spans}
-
--- from row i on these are read
-abbrev pub From : {R : Type 0} → (read : ℕ → R) → ℕ → List R → Type 0
-From read i [] = Unit {0}
-From read i (x ∷ l) = (read i ≡ x) × From read (suc i) l
 
 abbrev pub span-part : Span → Part
 span-part s = part (s .first) (s .first + s .size)

@@ -18,6 +18,8 @@ use Rattle.rows.specs.Strides.{checkpointStride, goalStride}
 use Rattle.rows.specs.Table.{tableOf}
 use Rattle.rows.proofs.Lay.{row-inside}
 use Rattle.rows.proofs.Tables.{row-of-table, length-table}
+use Rattle.filled_rows.specs.From.{From}
+use Rattle.filled_rows.proofs.From.{from-among, words-from}
 use Rattle.table_words.specs.Words.{checkpoint-words, goal-words, network-filled}
 use Rattle.table_words.specs.Words as Typed
 use Rattle.table_words.proofs.Filled.{rows-fit}
@@ -31,8 +33,6 @@ use Rattle.replies.specs.Replies.{AcceptsRndf, AcceptsMdf}
 use Rattle.route_law.specs.Moves.{GoalPoints}
 use Rattle.route_law.proofs.Places.{ordered}
 use Rattle.route_law.proofs.Goals.{goals-of}
-use Rattle.move_tables.specs.Reads.{From}
-use Rattle.move_tables.proofs.From.{from-among, filled-from}
 use Rattle.route.specs.Judged.{goal-point}
 
 -- where one of the rows is read
@@ -95,7 +95,7 @@ module _ (rndf : Bytes) (t : Lent) (n : Network Field) (a : AcceptsRndf present 
     read =
         let h = room-back n t (a .room) .checkpoints in
         subst (From (rowAt checkpointStride (network-filled n t .checkpoints)) 0) (checkpoints-same n)
-        (filled-from checkpointStride checkpoint-words (lit< tt) (λ r. refl) (record { number = 0; point = 0 }) (length (t .checkpoints)) (tables n .checkpoints) (rows-fit (length (tables n .checkpoints)) (length (t .checkpoints)) checkpointStride h));
+        (words-from checkpointStride checkpoint-words (lit< tt) (λ r. refl) (record { number = 0; point = 0 }) (length (t .checkpoints)) (tables n .checkpoints) (rows-fit (length (tables n .checkpoints)) (length (t .checkpoints)) checkpointStride h));
   })
 
   module _ (mdf : Bytes) (u : MissionLent) (m : Mission Field) (b : AcceptsMdf present n mdf u m) where

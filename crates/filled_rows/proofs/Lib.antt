@@ -1,0 +1,2 @@
+-- Rows read one behind the other; filled tables.
+pub mod From

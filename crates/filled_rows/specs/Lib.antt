@@ -1,0 +1,2 @@
+-- What is read from a row on.
+pub mod From
