@@ -1,25 +1,15 @@
 -- Words compared piece by piece: pieces of the same number are the same, and pieces that overlap make the whole. Assumes nothing.
 use mathlib.Core.Path.{_≡_, refl, sym, ap, ap₂, _∙_}
 use mathlib.Core.List.{[], _∷_, _++_}
-use Prim.Native.Nat.{ℕ, zero, suc, _+_, _-_, _≤_, _<_}
+use Prim.Native.Nat.{ℕ, suc, _+_, _-_, _≤_, _<_}
 use native.Mathlib.Omega.{arith}
-use lib.Dec.{lit<}
 use lib.ListN.{length, take, drop, length-drop, take-append-drop}
-use lib.Seq.{take-add, take-all, take-take, drop-drop, getD-drop, length-take-le}
+use lib.Seq.{take-add, take-all, take-take, drop-drop, length-take-le}
 use Rattle.terms.specs.Ascii.{Bytes}
 use Rattle.word.specs.Packed.{packed}
-use Rattle.word.proofs.Packed.{Small}
+use Rattle.word.proofs.Packed.{Small, small-take, small-drop}
 
 -- ## Letters of the same number
-small-take : (n : ℕ) (l : Bytes) → Small l → Small (take n l)
-small-take zero l h i = lit< tt
-small-take (suc n) [] h i = lit< tt
-small-take (suc n) (b ∷ l) h zero = h 0
-small-take (suc n) (b ∷ l) h (suc i) = small-take n l (λ i. h (suc i)) i
-
-pub small-drop : (n : ℕ) (l : Bytes) → Small l → Small (drop n l)
-small-drop n l h i = rw (getD-drop n l i 0) (h (n + i))
-
 same-letters : (a b : Bytes) → Small a → Small b → length a ≡ length b → packed a ≡ packed b → a ≡ b
 unfolding packed
 same-letters [] [] p q n e = refl

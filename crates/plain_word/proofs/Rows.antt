@@ -18,10 +18,10 @@ use Rattle.word.specs.Number.{indexOf, boundary-number}
 use Rattle.word.specs.Packed.{packed}
 use Rattle.word.proofs.Keywords.{rndf-all}
 use Rattle.word.proofs.Boundary.{boundary-all}
-use Rattle.word.proofs.Packed.{Small, small-all}
+use Rattle.word.proofs.Packed.{Small, small-drop, small-all}
 use Rattle.plain_word.specs.declared.Row.{Row}
 use Rattle.plain_word.specs.Stands.{wordOf, atOnce, rowFor, rowOf, middle, KeywordAt, BoundaryAt, IsRow, MiddleStands, RowStands}
-use Rattle.plain_word.proofs.Pieces.{small-drop, short-word, long-word, longest-word}
+use Rattle.plain_word.proofs.Pieces.{short-word, long-word, longest-word}
 
 pub word-size : (k : ℕ) → k < 33 → Between 4 20 (length (wordOf k))
 unfolding rndf-keywords boundary-of boundary-words ascii

@@ -78,13 +78,13 @@ packed-last-four s i h = rw (sym (drop-drop 4 i s)) (last-four (drop i s) (omega
 abbrev pub Small : Bytes → Type 0
 Small l = (i : ℕ) → getD l i 0 < 256
 
-small-take : (n : ℕ) (l : Bytes) → Small l → Small (take n l)
+pub small-take : (n : ℕ) (l : Bytes) → Small l → Small (take n l)
 small-take zero l h i = lit< tt
 small-take (suc n) [] h i = lit< tt
 small-take (suc n) (b ∷ l) h zero = h 0
 small-take (suc n) (b ∷ l) h (suc i) = small-take n l (λ i. h (suc i)) i
 
-small-drop : (n : ℕ) (l : Bytes) → Small l → Small (drop n l)
+pub small-drop : (n : ℕ) (l : Bytes) → Small l → Small (drop n l)
 small-drop n l h i = rw (getD-drop n l i 0) (h (n + i))
 
 pub small-all : (l : Bytes) → all (λ b. ltb b 256) l ≡ true → Small l
