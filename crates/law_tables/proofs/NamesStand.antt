@@ -22,7 +22,7 @@ parted : {A : Type 0} (P : A → Type 0) (l r : List A) → Each P (l ++ r) → 
 parted P [] r e = (tt, e)
 parted P (a ∷ l) r e = let k = parted P l r (e .1) in ((e .0, k .0), k .1)
 
-unmixed : {A : Type 0} (P : A → Type 0) {l r both : List A} → Mixed l r both → Each P both → Each P l × Each P r
+pub unmixed : {A : Type 0} (P : A → Type 0) {l r both : List A} → Mixed l r both → Each P both → Each P l × Each P r
 unmixed P Law.none e = (tt, tt)
 unmixed P (left m) e = let k = unmixed P m (e .1) in ((e .0, k .0), k .1)
 unmixed P (right m) e = let k = unmixed P m (e .1) in (k .0, (e .0, k .1))

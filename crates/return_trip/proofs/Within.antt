@@ -15,6 +15,7 @@ use Rattle.grammar.specs.Editions.{law-of}
 use Rattle.grammar.specs.Names.{segment-named, zone-named, network-named}
 use Rattle.grammar.proofs.Rows.{each-front, each-behind}
 use Rattle.text.specs.Spelling.{Name, bytes-of}
+use Rattle.law_tables.proofs.NamesStand.{unmixed}
 use Rattle.edition.specs.declared.Edition as Asked
 use Rattle.edition.specs.Editions.{inner, rules-of}
 use Rattle.same.specs.Same.{SameNetwork}
@@ -24,11 +25,6 @@ mixed : {A : Type 0} (P : A → Type 0) {l r both : List A} → Mixed l r both �
 mixed P Law.none h k = tt
 mixed P (left m) h k = (h .0, mixed P m (h .1) k)
 mixed P (right m) h k = (k .0, mixed P m h (k .1))
-
-unmixed : {A : Type 0} (P : A → Type 0) {l r both : List A} → Mixed l r both → Each P both → Each P l × Each P r
-unmixed P Law.none e = (tt, tt)
-unmixed P (left m) e = let k = unmixed P m (e .1) in ((e .0, k .0), k .1)
-unmixed P (right m) e = let k = unmixed P m (e .1) in (k .0, (e .0, k .1))
 
 any-order : {A : Type 0} (P : A → Type 0) (ls : List (List A)) (l : List A) → AnyOrder ls l → Each (Each P) ls → Each P l
 any-order P [] l o h = subst (Each P) (sym o) tt
