@@ -9,7 +9,8 @@
 # (tests/damage/pairs.py), which columns (request L7) and in what lines (led by tabs or spaces, with a comment, with several fields at fault), what the maps showed, and each case that differs, which is
 # kept in target/damage. The last line is 'seed S: N pairs, M RNDFs alone, R routes and L maps (W written), O of them in the older edition, K differ'; the status is 0 if none differs and every number
 # from 1 to 19 and from 21 to 25 came, those of a line also in a line that is led by tabs or spaces, and those that the older edition alone gives.
-# With a SORT, `pairs`, `maps` or `routes`, only that one is compared: `tests/damage.sh 200000 1 routes` judges 100,000 routes (7 minutes of processor time).
+# With a SORT, `pairs`, `maps` or `routes`, only that one is compared: `tests/damage.sh 200000 1 routes` judges 100,000 routes (7 minutes of processor time). A fourth SORT, `ends`, is run only
+# where it is named: `tests/damage.sh 265716 1 ends` has every line end of up to five signs of comments, separators and line ends, each at four places of an RNDF.
 #
 # Builds the library first (`rt staticlib yard`), unless --built is given. Needs python3 and a C compiler (Debian: gcc; on Arm gcc-x86-64-linux-gnu, and the kit's emulator runs it);
 # what is missing it installs, where it may.

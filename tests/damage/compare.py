@@ -1,7 +1,7 @@
 #!/usr/bin/env python3
 """Compares the library with the oracle on pairs of texts, well-formed and damaged (tests/damage.sh builds everything and runs this).
 
-    compare.py PROGRAM COUNT SEED [SORT]    PROGRAM is tests/damage/reader.c, compiled; COUNT pairs, in blocks that each have their own generator; with a SORT (pairs, maps, routes) only that one
+    compare.py PROGRAM COUNT SEED [SORT]    PROGRAM is tests/damage/reader.c, compiled; COUNT pairs, in blocks that each have their own generator; with a SORT (pairs, maps, routes, ends) only that one
     compare.py --mutants COUNT SEED [SORT]  no library: do the cases notice each small mistake of tests/oracle/mutate.py (and maps.py, routes.py) in a copy of the oracle?
 
 Of every pair the reply, every name, every row count and every number of every lent table have to be the oracle's; every fourth RNDF is read alone as well. Each reply is counted by
@@ -15,6 +15,8 @@ properties, positions, the direction and the closing of rings. The cases worked 
 
 Routes (request L5), half as many as pairs, are judged over pairs that are mostly whole: good by construction, then damaged in none, one or two ways (tests/oracle/routes.py); the
 cases worked out by hand there are in the first block. Reply, names, counts and tables have to be the oracle's.
+
+Line ends (only where SORT is `ends`): COUNT RNDFs with every end that a line can have, of up to so many signs of comments, separators and line ends (pairs.py, end_case).
 
 Every second pair, every fourth RNDF alone and half of the maps and routes are judged in the edition of December 6, 2006 (request L10), whose number is 1; the present one has any
 other number.
@@ -70,7 +72,13 @@ def routes_of(rng, number, count):
     return [(ROUTE | OLDER * (k % 2), case) for k, case in enumerate([pairs.route_case(rng) for _ in range(count // 2)] + (pairs.routes_by_hand() if number == 0 else []))]
 
 
-SORTS = {"pairs": pairs_of, "maps": maps_of, "routes": routes_of}
+def ends_of(rng, number, count):
+    """RNDFs alone with every line end that there is, one behind the other."""
+    return [(RNDF_ALONE, pairs.end_case(number * BLOCK + k)) for k in range(count)]
+
+
+SORTS = {"pairs": pairs_of, "maps": maps_of, "routes": routes_of, "ends": ends_of}
+USUAL = ["pairs", "maps", "routes"]     # those that are run if none is named
 
 
 def block_of(seed, number, count, sorts):
@@ -343,7 +351,7 @@ def compare(program, count, seed, sorts):
     missing = [n for n in NUMBERS if not any(key != "ok" and key[1] == n for _, key in replies)]
     missing += ["%d in a line led by tabs or spaces" % n for n in OF_A_LINE if not columns.get((n, "led"))]
     missing += [which for which in REQUESTED if not any(one == which for one, _ in columns)]
-    missing = missing if sorts == list(SORTS) else []
+    missing = missing if sorts == USUAL else []
     if missing:
         print("never came: " + ", ".join(map(str, missing)))
     counts = [sum(n for (mode, _), n in replies.items() if kind_of(mode) == one) for one in (PAIR, RNDF_ALONE, ROUTE, MAP)]
@@ -379,5 +387,5 @@ def mutants(count, seed, sorts):
 
 if __name__ == "__main__":
     program, count, seed = sys.argv[1], int(sys.argv[2]), int(sys.argv[3])
-    sorts = sys.argv[4:] or list(SORTS)
+    sorts = sys.argv[4:] or USUAL
     sys.exit(mutants(count, seed, sorts) if program == "--mutants" else compare(program, count, seed, sorts))

@@ -501,6 +501,23 @@ def text_case(rndf, mdf, room, kinds):
     return case
 
 
+# ---- line ends
+
+SIGNS = b"/* \t\r\nx\\\x7f"       # of comments, separators, line ends; a byte of a field; one that may stand in comments alone, and one that may not stand anywhere
+ENDED = b"RNDF_name\ta\nnum_segments\t1\nnum_zones\t0\nsegment\t1\nnum_lanes\t1\nlane\t1.1\nnum_waypoints\t1\nlane_width\t12%s\n1.1.1\t1.000000\t2.000000%s\nend_lane%s\nend_segment\nend_file\n%s"
+PLACES = ENDED.count(b"%s")
+
+
+def end_case(k):
+    """An RNDF with a line end of these signs behind a number, a coordinate, a keyword or nothing: the first PLACES * (9 + 9^2 + .. + 9^n) have every end of 1 to n signs at every place."""
+    k, place = divmod(k, PLACES)
+    end = b""
+    while k >= 0:
+        k, sign = divmod(k, len(SIGNS))
+        end, k = SIGNS[sign:sign + 1] + end, k - 1
+    return rndf_case(ENDED % tuple(end if i == place else b"" for i in range(PLACES)), {t: 4 * oracle.STRIDE[t] for t in oracle.TABLES}, "line end")
+
+
 # ---- routes (request L5)
 
 def route_case(rng):
