@@ -1,6 +1,6 @@
 -- What is put for a part's checkpoints are their features, each with its comma; the walk over the rows then stands behind them. Assumes nothing.
 use mathlib.Core.Path.{_≡_, refl, sym, ap, _∙_}
-use mathlib.Core.List.{List, [], _∷_, _++_, map, append-assoc}
+use mathlib.Core.List.{List, [], _∷_, _++_, map, map-append, append-assoc}
 use Prim.Native.Nat.{ℕ, zero, suc, pred, _+_, _-_, _≤_, _<_, min}
 use native.Mathlib.Omega.{arith}
 use native.Mathlib.Numerals.{add-one}
@@ -26,7 +26,7 @@ use Rattle.map_law.specs.Map as Map
 use Rattle.map_tables.specs.Marked.{marks}
 use Rattle.map_tables.specs.Passed.{Passes}
 use Rattle.map_tables.proofs.Marks.{marks-later}
-use Rattle.map_tables.proofs.Shapes.{map-append, position-is}
+use Rattle.map_tables.proofs.Shapes.{position-is}
 use Rattle.map_tables.proofs.Features.{checkpoint-numbered}
 
 -- ## One checkpoint

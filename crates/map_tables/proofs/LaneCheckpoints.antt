@@ -1,6 +1,6 @@
 -- The walk over the lanes of a segment, and over all segments: it passes their checkpoints' rows and puts their features. Assumes nothing.
 use mathlib.Core.Path.{_≡_, sym, ap, subst, _∙_}
-use mathlib.Core.List.{List, [], _∷_, _++_, map}
+use mathlib.Core.List.{List, [], _∷_, _++_, map, map-append}
 use Prim.Native.Nat.{ℕ, suc, pred, _+_, _≤_, _<_, min}
 use native.Mathlib.Omega.{arith}
 use lib.ListN.{length, length-map}
@@ -22,7 +22,6 @@ use Rattle.table_words.specs.Shown.{shown-segment, shown-lane, shown-point}
 use Rattle.features.specs.Drawn.{walk, steps, part-walk, lane-walk, segment-walk}
 use Rattle.map_law.specs.Map as Map
 use Rattle.map_tables.specs.Passed.{Behind, Passes}
-use Rattle.map_tables.proofs.Shapes.{map-append}
 use Rattle.map_tables.proofs.Identifiers.{gather-append}
 use Rattle.map_tables.proofs.Segments.{along-append, length-along, points-counted, lane-rows, points-of}
 use Rattle.map_tables.proofs.Checkpoints.{part-walked}

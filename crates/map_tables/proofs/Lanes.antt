@@ -1,6 +1,6 @@
 -- What is put for the lanes of a segment are their features, each with its comma. Assumes nothing.
 use mathlib.Core.Path.{_≡_, refl, sym, ap, _∙_}
-use mathlib.Core.List.{List, [], _∷_, _++_, map, append-assoc}
+use mathlib.Core.List.{List, [], _∷_, _++_, map, map-append, append-assoc}
 use mathlib.Core.Option.{Option, none, some}
 use Prim.Native.Nat.{ℕ, suc, _+_, _≤_, min}
 use native.Mathlib.Omega.{arith}
@@ -25,7 +25,7 @@ use Rattle.table_words.specs.Shown.{shown-lane, shown-point}
 use Rattle.features.specs.Drawn.{each, quoted, comma-from, lane-shape, named, lane, behind-one, lane-from}
 use Rattle.map_law.specs.Map as Map
 use Rattle.map_tables.specs.Marked.{marks}
-use Rattle.map_tables.proofs.Shapes.{map-append, quoted-is, lane-shape-is}
+use Rattle.map_tables.proofs.Shapes.{quoted-is, lane-shape-is}
 use Rattle.map_tables.proofs.Features.{lane-unnamed, lane-named}
 
 -- a name's place in the text

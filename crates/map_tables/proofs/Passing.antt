@@ -1,6 +1,6 @@
 -- Walks one behind the other. Assumes nothing.
 use mathlib.Core.Path.{_≡_, refl, sym, ap, subst, _∙_}
-use mathlib.Core.List.{List, [], _++_, map, append-assoc}
+use mathlib.Core.List.{List, [], _++_, map, map-append, append-assoc}
 use Prim.Native.Nat.{ℕ, _+_, _≤_}
 use native.Mathlib.Omega.{arith}
 use lib.ListN.{length, length-append, length-map}
@@ -17,7 +17,6 @@ use Rattle.json.proofs.Loops.{behind}
 use Rattle.map_tables.specs.Marked.{marks}
 use Rattle.map_tables.specs.Passed.{Left, Behind, Passes}
 use Rattle.map_tables.proofs.Marks.{later-append}
-use Rattle.map_tables.proofs.Shapes.{map-append}
 
 pub put-put : (q : Pen) (x y : Bytes) → put (put q x) y ≡ put q (x ++ y)
 put-put q x y = behind {q = put q x} {x = x} y (record { is = refl })

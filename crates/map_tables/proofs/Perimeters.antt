@@ -1,6 +1,6 @@
 -- What is put for all zones are the features of their perimeters, each with its comma. Assumes nothing.
 use mathlib.Core.Path.{_≡_, refl, sym, ap, _∙_}
-use mathlib.Core.List.{List, [], _∷_, _++_, map, append-assoc}
+use mathlib.Core.List.{List, [], _∷_, _++_, map, map-append, append-assoc}
 use mathlib.Core.Option.{Option, none, some}
 use Prim.Native.Nat.{ℕ, suc, _+_, _≤_, min}
 use native.Mathlib.Omega.{arith}
@@ -23,7 +23,7 @@ use Rattle.table_words.specs.Shown.{shown-zone, shown-point}
 use Rattle.features.specs.Drawn.{each, quoted, comma-from, perimeter-shape, named, perimeter, behind-one, perimeter-from}
 use Rattle.map_law.specs.Map as Map
 use Rattle.map_tables.specs.Marked.{marks}
-use Rattle.map_tables.proofs.Shapes.{map-append, quoted-is, perimeter-shape-is}
+use Rattle.map_tables.proofs.Shapes.{quoted-is, perimeter-shape-is}
 use Rattle.map_tables.proofs.Features.{perimeter-unnamed, perimeter-named}
 use Rattle.map_tables.proofs.Lanes.{start-of, length-of, Held}
 

@@ -1,6 +1,6 @@
 -- What is put for all segments are the features of their lanes, each with its comma. Assumes nothing.
 use mathlib.Core.Path.{_≡_, refl, sym, ap, _∙_}
-use mathlib.Core.List.{List, [], _∷_, _++_, map, append-assoc}
+use mathlib.Core.List.{List, [], _∷_, _++_, map, map-append, append-assoc}
 use Prim.Native.Nat.{ℕ, suc, _+_, _≤_, min}
 use native.Mathlib.Omega.{arith}
 use lib.ListN.{length, length-map, length-append}
@@ -19,7 +19,6 @@ use Rattle.features.specs.Drawn.{each, behind-one, segment-lanes, segment-from}
 use Rattle.map_law.specs.Map as Map
 use Rattle.map_tables.specs.Marked.{marks}
 use Rattle.map_tables.proofs.Marks.{marks-append}
-use Rattle.map_tables.proofs.Shapes.{map-append}
 use Rattle.map_tables.proofs.Identifiers.{gather-append}
 use Rattle.map_tables.proofs.Lanes.{start-of, length-of, Held, lanes-are}
 

@@ -1,6 +1,6 @@
 -- What is put of rows that read as a part's points, name and identifiers are that part's geometry and feature. Assumes nothing.
 use mathlib.Core.Path.{_≡_, refl, sym, ap, _∙_}
-use mathlib.Core.List.{List, [], _∷_, _++_, map, append-assoc, append-nil}
+use mathlib.Core.List.{List, [], _∷_, _++_, map, map-append, append-assoc, append-nil}
 use mathlib.Core.Bool.{Bool, true, false}
 use Prim.Native.Nat.{ℕ, suc, _+_, _-_}
 use borrow.Author.Tests.{eq-eqb, ne-eqb, lt-ltb, le-ltb}
@@ -64,10 +64,6 @@ backwards-twice (a ∷ l) = backwards-append (Map.backwards l) (a ∷ []) ∙ ap
 length-backwards : {A : Type 0} (l : List A) → length (Map.backwards l) ≡ length l
 length-backwards [] = refl
 length-backwards (a ∷ l) = let e = length-append (Map.backwards l) (a ∷ []) in let i = length-backwards l in omega arith
-
-pub map-append : {A B : Type 0} (f : A → B) (x y : List A) → map f (x ++ y) ≡ map f x ++ map f y
-map-append f [] y = refl
-map-append f (a ∷ x) y = ap (_∷_ (f a)) (map-append f x y)
 
 -- the k-th and all behind it, of n, where r is what is left, the last of the file first
 back-from : (ps : List ℤ) (first n k : ℕ) (r : List Position) → n ≡ k + length r → From (pointAt ps) first (map shown-point (Map.backwards r)) → each (position-back ps first n) k (length r) ≡ marks k (map Map.position r)

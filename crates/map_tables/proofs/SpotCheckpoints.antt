@@ -1,6 +1,6 @@
 -- The walk over the spots of a zone, and over all zones: it passes their checkpoints' rows and puts their features. Assumes nothing.
 use mathlib.Core.Path.{_≡_, refl, sym, ap, subst, _∙_}
-use mathlib.Core.List.{List, [], _∷_, map}
+use mathlib.Core.List.{List, [], _∷_, map, map-append}
 use mathlib.Core.Option.{Option, none, some}
 use Prim.Native.Nat.{ℕ, suc, _+_, _≤_, _<_, min}
 use native.Mathlib.Omega.{arith}
@@ -21,7 +21,6 @@ use Rattle.table_words.specs.Shown.{shown-zone, shown-spot, shown-point}
 use Rattle.features.specs.Drawn.{walk, steps, part-walk, spot-walk, zone-walk}
 use Rattle.map_law.specs.Map as Map
 use Rattle.map_tables.specs.Passed.{Behind, Passes}
-use Rattle.map_tables.proofs.Shapes.{map-append}
 use Rattle.map_tables.proofs.Segments.{length-along}
 use Rattle.map_tables.proofs.Checkpoints.{part-walked}
 use Rattle.map_tables.proofs.Passing.{none-passed, both-passed}

@@ -1,6 +1,6 @@
 -- THE THEOREM: what the program puts of the filled tables of an accepted network is that network's map. Assumes nothing.
 use mathlib.Core.Path.{_≡_, refl, sym, ap, subst, _∙_}
-use mathlib.Core.List.{List, [], _∷_, _++_, map, append-assoc, append-nil}
+use mathlib.Core.List.{List, [], _∷_, _++_, map, map-append, append-assoc, append-nil}
 use mathlib.Core.Option.{Option, none, some}
 use Prim.Native.Nat.{ℕ, zero, suc, _+_, _≤_}
 use native.Mathlib.Omega.{arith}
@@ -31,7 +31,6 @@ use Rattle.map_law.specs.Map.{commas, geojson}
 use Rattle.map_tables.specs.Marked.{marks}
 use Rattle.map_tables.specs.Passed.{Behind, Left}
 use Rattle.map_tables.proofs.Marks.{marks-append, marks-later, later-append, commas-is}
-use Rattle.map_tables.proofs.Shapes.{map-append}
 use Rattle.map_tables.proofs.Lanes.{start-of, length-of, Held}
 use Rattle.map_tables.proofs.Segments.{NamedSegment, segments-are, length-along, points-counted}
 use Rattle.map_tables.proofs.Perimeters.{perimeters-are}

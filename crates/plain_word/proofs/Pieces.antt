@@ -1,26 +1,13 @@
 -- Words compared piece by piece: pieces of the same number are the same, and pieces that overlap make the whole. Assumes nothing.
-use mathlib.Core.Path.{_≡_, refl, sym, ap, ap₂, _∙_}
-use mathlib.Core.List.{[], _∷_, _++_}
-use Prim.Native.Nat.{ℕ, suc, _+_, _-_, _≤_, _<_}
+use mathlib.Core.Path.{_≡_, sym, ap, ap₂, _∙_}
+use mathlib.Core.List.{_++_}
+use Prim.Native.Nat.{ℕ, _+_, _-_, _≤_, _<_}
 use native.Mathlib.Omega.{arith}
 use lib.ListN.{length, take, drop, length-drop, take-append-drop}
 use lib.Seq.{take-add, take-all, take-take, drop-drop, length-take-le}
 use Rattle.terms.specs.Ascii.{Bytes}
 use Rattle.word.specs.Packed.{packed}
-use Rattle.word.proofs.Packed.{Small, small-take, small-drop}
-
--- ## Letters of the same number
-same-letters : (a b : Bytes) → Small a → Small b → length a ≡ length b → packed a ≡ packed b → a ≡ b
-unfolding packed
-same-letters [] [] p q n e = refl
-same-letters [] (y ∷ b) p q n e = absurd (omega arith)
-same-letters (x ∷ a) [] p q n e = absurd (omega arith)
-same-letters (x ∷ a) (y ∷ b) p q n e =
-    let x0 : x < 256 = p 0 in
-    let y0 : y < 256 = q 0 in
-    let f : x ≡ y = omega arith in
-    let r : packed a ≡ packed b = omega arith in
-    ap₂ _∷_ f (same-letters a b (λ i. p (suc i)) (λ i. q (suc i)) (omega arith) r)
+use Rattle.word.proofs.Packed.{Small, small-take, small-drop, same-packed}
 
 -- ## A text that begins with a word
 module _ (t w : Bytes) (n : ℕ) (size : length w ≡ n) (room : n ≤ length t) (p : Small t) (q : Small w) where
@@ -29,7 +16,7 @@ module _ (t w : Bytes) (n : ℕ) (size : length w ≡ n) (room : n ≤ length t)
   piece d i h e =
       let a : length (take d (drop i t)) ≡ d = length-take-le d (drop i t) (omega (arith, length-drop i t)) in
       let b : length (take d (drop i w)) ≡ d = length-take-le d (drop i w) (omega (arith, length-drop i w)) in
-      same-letters (take d (drop i t)) (take d (drop i w)) (small-take d (drop i t) (small-drop i t p)) (small-take d (drop i w) (small-drop i w q)) (a ∙ sym b) e
+      same-packed (take d (drop i t)) (take d (drop i w)) (small-take d (drop i t) (small-drop i t p)) (small-take d (drop i w) (small-drop i w q)) (a ∙ sym b) e
 
   -- from a place on to the word's end all letters are the word's
   abbrev From : ℕ → Type 0

@@ -93,7 +93,8 @@ small-all [] e i = lit< tt
 small-all (b ∷ l) e zero = ltb-true b 256 (both (ltb b 256) (all (λ b. ltb b 256) l) e .0)
 small-all (b ∷ l) e (suc i) = small-all l (both (ltb b 256) (all (λ b. ltb b 256) l) e .1) i
 
-same-packed : (a b : Bytes) → Small a → Small b → length a ≡ length b → packed a ≡ packed b → a ≡ b
+-- letters of the same number are the same
+pub same-packed : (a b : Bytes) → Small a → Small b → length a ≡ length b → packed a ≡ packed b → a ≡ b
 unfolding packed
 same-packed [] [] p q n e = refl
 same-packed [] (y ∷ b) p q n e = absurd (omega arith)
