@@ -24,9 +24,10 @@ use Rattle.route_law.specs.Moves.{Move, points}
 use Rattle.pair_checks.specs.Checks.{AcceptedPair, unread, wrong, right, ChecksRoute}
 use Rattle.route.specs.declared.Verdict.{Verdict}
 use Rattle.route.specs.declared.Verdict.the-variants as Verdict
-use Rattle.route.specs.Judged.{goal-point, verdict, replied, ruled}
+use Rattle.goal_points.specs.Goals.{goal-point}
+use Rattle.goal_tables.proofs.Goals.{goals, goals-stand, goals-many, goals-some, points-are}
+use Rattle.route.specs.Judged.{verdict, replied, ruled}
 use Rattle.route.proofs.Found.{Says, verdict-says}
-use Rattle.route.proofs.Goals.{goals, goals-stand, goals-many, goals-some, points-are}
 
 module _ (ed : Edition) (start : ℕ) (route : List ℕ) (rndf mdf : Bytes) (t : Lent) (u : MissionLent) where
   -- a reply that is an acceptance keeps what the reader left, a refusal goes with tables that are zero

@@ -2,5 +2,4 @@
 pub mod Steps
 pub mod Taking
 pub mod Found
-pub mod Goals
 pub mod Lawful

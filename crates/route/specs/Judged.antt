@@ -1,14 +1,13 @@
 -- Executable: what a route gets, read of any tables; every contract of a private function cites this. That it is the law's answer where the tables are those of an accepted pair is proofs/Lawful. Assumes nothing.
 use Rattle.terms.specs.Words.{List, ℕ, zero, suc, _-_, Bool, true, false, length, eqb, ltb, pick}
 use lib.ListN.{getD}
-use Rattle.rows.specs.Read.{goalAt}
 use Rattle.counts.specs.declared.Counts.{Counts}
 use Rattle.counts.specs.declared.MissionCounts.{MissionCounts}
 use Rattle.room.specs.Room.{fitted}
 use Rattle.replies.specs.Replies.{refusal}
 use Rattle.replies.specs.declared.PairReply.{PairReply}
 use Rattle.replies.specs.declared.PairReply.the-variants as Pair
-use Rattle.look_up.proofs.Answers.{point-some}
+use Rattle.goal_points.specs.Goals.{goal-point}
 use Rattle.moves.specs.Moves.{is-move}
 use Rattle.route.specs.declared.Verdict.{Verdict}
 use Rattle.route.specs.declared.Verdict.the-variants as Verdict
@@ -21,10 +20,6 @@ begins points start route = pick (ltb 0 (length route)) (pick (eqb (getD route 0
 unfoldable pub stray : (move : ℕ → ℕ → Bool) → (route : List ℕ) → (place left : ℕ) → ℕ
 stray move route place zero = place
 stray move route place (suc left) = pick (move (getD route (place - 1) 0) (getD route place 0)) (stray move route (suc place) left) place
-
--- the point of the goal in this row, as the look-up answers
-unfoldable pub goal-point : (checkpoints goals : List ℕ) → (row : ℕ) → ℕ
-goal-point checkpoints goals row = point-some checkpoints (goalAt goals row .number .0) .answer
 
 -- 23: how many of so many goals are met, each taken at the earliest of `left` places from this one on, where some are taken before. point: the goals' points
 unfoldable pub goals-met : (point : ℕ → ℕ) → (count : ℕ) → (route : List ℕ) → (taken place left : ℕ) → ℕ

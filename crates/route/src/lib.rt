@@ -4,15 +4,14 @@
 //
 // Not quadratic: the route is gone over once for its steps and once for its goals; a goal's point is looked up once, when the goals before it are met. What a step costs, `moves` says.
 //
-// specs/Judged: what a route gets, executable. proofs/Steps, Taking, Found: what that says of the steps and the goals. proofs/Goals, Lawful: that it is the law's answer for an accepted pair.
+// specs/Judged: what a route gets, executable. proofs/Steps, Taking, Found: what that says of the steps and the goals. proofs/Lawful: that it is the law's answer for an accepted pair.
 //
-// Rests on `reader`, `pair_checks`, `moves`, `move_tables`, `look_up` and what they rest on.
+// Rests on `reader`, `pair_checks`, `moves`, `move_tables`, `goal_points`, `goal_tables` and what they rest on.
 use counts::Counts;
 use counts::MissionCounts;
 use edition::Edition;
-use look_up::point_of;
+use goal_points::goal_point;
 use moves::is_move;
-use read_rows::goal_at;
 use reader::read_pair;
 use refusal::Refusal;
 use replies::PairReply;
@@ -26,7 +25,8 @@ ghost use Rattle.edition.specs.Editions.{rules-of};
 ghost use Rattle.law.specs.Tables.{lent, mission-lent};
 ghost use Rattle.moves.specs.Moves.{is-move};
 ghost use Rattle.pair_checks.specs.Checks.{ChecksRoute};
-ghost use Rattle.route.specs.Judged.{begins, stray, goal-point, goals-met, ends, met-verdict, verdict, ruled};
+ghost use Rattle.goal_points.specs.Goals.{goal-point};
+ghost use Rattle.route.specs.Judged.{begins, stray, goals-met, ends, met-verdict, verdict, ruled};
 
 // What a route gets: what stands in place of the line, and the number.
 pub enum Verdict {
@@ -62,14 +62,6 @@ fn stray(lanes: &[u32], zones: &[u32], exits: &[u32], c: Counts, route: &[u32]) 
         }
     }
     place
-}
-
-// The point of the goal in this row.
-fn goal_point(checkpoints: &[u32], goals: &[u32], row: usize) -> u32
-    ensures { λ r. ⌜ r ≡ goal-point (now (checkpoints .entry)) (now (goals .entry)) row ⌝ }
-{
-    let goal = goal_at(goals, row);
-    point_of(checkpoints, goal.number)
 }
 
 // 23: how many goals are met, each taken at the earliest place.

@@ -1,7 +1,8 @@
 -- `route::ends` meets its contract. Assumes nothing.
 use mathlib.Core.Path.{ap, _∙_}
 use lib.Dec.{eqb}
-use Rattle.route.specs.Judged.{goal-point, ends}
+use Rattle.goal_points.specs.Goals.{goal-point}
+use Rattle.route.specs.Judged.{ends}
 use Rattle.route.proofs.ends.Statement.{statement}
 use Rattle.route.proofs.ends.Tie as tie
 

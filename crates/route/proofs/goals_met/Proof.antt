@@ -3,7 +3,8 @@ use mathlib.Core.Path.{_≡_, sym, ap, _∙_}
 use Prim.Native.Nat.{_-_, _≤_}
 use native.Mathlib.Omega.{arith}
 use lib.ListN.{length}
-use Rattle.route.specs.Judged.{goal-point, goals-met}
+use Rattle.goal_points.specs.Goals.{goal-point}
+use Rattle.route.specs.Judged.{goals-met}
 use Rattle.route.proofs.Taking.{goals-done, all-taken, goal-here, goal-not-here}
 use Rattle.route.proofs.goals_met.Statement.{statement}
 use Rattle.route.proofs.goals_met.Tie as tie
