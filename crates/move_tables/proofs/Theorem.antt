@@ -41,10 +41,10 @@ or-true false y e = e
 
 -- ## The exits of all parts
 module _ (n : Network Field) (o : NamesOwn n) where
-  abbrev lane-exits : List (List ℕ)
+  abbrev pub lane-exits : List (List ℕ)
   lane-exits = along lane-size (λ first a. map (exit-row n first) (a .exits)) 0 (all-lanes n)
 
-  abbrev zone-exits : List (List ℕ)
+  abbrev pub zone-exits : List (List ℕ)
   zone-exits = along zone-size (λ first z. map (exit-row n first) (z .border .exits)) (first-zone-point n) (n .zones)
 
   lanes-own : Each (Own lane-size source (λ first a. map (exit-row n first) (a .exits))) (all-lanes n)
@@ -54,10 +54,10 @@ module _ (n : Network Field) (o : NamesOwn n) where
   zones-own = each-map (Names zone-size (λ e. e .waypoint) (λ z. z .border .exits)) (Own zone-size source (λ first z. map (exit-row n first) (z .border .exits))) (names-own zone-size source (exit-row n) (λ e. e .waypoint) (λ z. z .border .exits) (λ p e. refl)) (n .zones) (o .border-exits)
 
   -- the zones begin where the lanes end
-  lanes-end : first-zone-point n ≡ total lane-size (all-lanes n)
+  pub lanes-end : first-zone-point n ≡ total lane-size (all-lanes n)
   lanes-end = length-gather (λ (a : Lane). a .points) (all-lanes n)
 
-  lane-grouped : (r : List ℕ) → Among r lane-exits → Grouped source (lane-spans n) (exit-rows n) r
+  pub lane-grouped : (r : List ℕ) → Among r lane-exits → Grouped source (lane-spans n) (exit-rows n) r
   lane-grouped r h =
       let g = grouped lane-size source (λ first a. map (exit-row n first) (a .exits)) 0 (all-lanes n) lanes-own r h in
       let ends = of-each (λ s. (0 ≤ s .first) × (s .first + s .size ≤ 0 + total lane-size (all-lanes n))) (g .span) (lane-spans n) (spans-from lane-size 0 (all-lanes n)) (g .part) .1 in
@@ -76,7 +76,7 @@ module _ (n : Network Field) (o : NamesOwn n) where
         there = g .there;
       }
 
-  zone-grouped : (r : List ℕ) → Among r zone-exits → Grouped source (zone-spans n) (exit-rows n) r
+  pub zone-grouped : (r : List ℕ) → Among r zone-exits → Grouped source (zone-spans n) (exit-rows n) r
   zone-grouped r h =
       let g = grouped zone-size source (λ first z. map (exit-row n first) (z .border .exits)) (first-zone-point n) (n .zones) zones-own r h in
       let begins = of-each (λ s. (first-zone-point n ≤ s .first) × (s .first + s .size ≤ first-zone-point n + total zone-size (n .zones))) (g .span) (zone-spans n) (spans-from zone-size (first-zone-point n) (n .zones)) (g .part) .0 in
@@ -105,19 +105,19 @@ module _ (n : Network Field) (o : NamesOwn n) (lanes zones exits : List ℕ) (r 
   unfolding zone-part
   zone-words-are i h = let room = r .zone-room in first-word-is zones zoneStride i (omega arith) (omega arith)
 
-  lane-found : (s : Span) → Among s (lane-spans n) → Inside s a → lane-of lanes (length (lane-spans n)) a ≡ span-part s
+  pub lane-found : (s : Span) → Among s (lane-spans n) → Inside s a → lane-of lanes (length (lane-spans n)) a ≡ span-part s
   unfolding lane-of
   lane-found s h i = part-found lanes laneStride (lane-part lanes) (lane-spans n) (r .lane-room) (r .lanes-read) lane-words-are 0 (0 + total lane-size (all-lanes n)) s a (stands lane-size 0 (all-lanes n) s h) i
 
-  zone-found : (s : Span) → Among s (zone-spans n) → Inside s a → zone-of zones (length (zone-spans n)) a ≡ span-part s
+  pub zone-found : (s : Span) → Among s (zone-spans n) → Inside s a → zone-of zones (length (zone-spans n)) a ≡ span-part s
   unfolding zone-of
   zone-found s h i = part-found zones zoneStride (zone-part zones) (zone-spans n) (r .zone-room) (r .zones-read) zone-words-are (first-zone-point n) (first-zone-point n + total zone-size (n .zones)) s a (stands zone-size (first-zone-point n) (n .zones) s h) i
 
-  lane-only : inside (lane-of lanes (length (lane-spans n)) a) a ≡ true → (s : Span) × Among s (lane-spans n) × (lane-of lanes (length (lane-spans n)) a ≡ span-part s)
+  pub lane-only : inside (lane-of lanes (length (lane-spans n)) a) a ≡ true → (s : Span) × Among s (lane-spans n) × (lane-of lanes (length (lane-spans n)) a ≡ span-part s)
   unfolding lane-of
   lane-only e = only-parts lanes laneStride (lane-part lanes) (lane-spans n) (r .lane-room) (r .lanes-read) lane-words-are a (a + 1) e
 
-  zone-only : inside (zone-of zones (length (zone-spans n)) a) a ≡ true → (s : Span) × Among s (zone-spans n) × (zone-of zones (length (zone-spans n)) a ≡ span-part s)
+  pub zone-only : inside (zone-of zones (length (zone-spans n)) a) a ≡ true → (s : Span) × Among s (zone-spans n) × (zone-of zones (length (zone-spans n)) a ≡ span-part s)
   unfolding zone-of
   zone-only e = only-parts zones zoneStride (zone-part zones) (zone-spans n) (r .zone-room) (r .zones-read) zone-words-are a (a + 1) e
 
@@ -179,7 +179,7 @@ module _ (n : Network Field) (o : NamesOwn n) (lanes zones exits : List ℕ) (r 
       rw (ap (λ (p : Part). inside p a) f ∙ inside-yes s a i) (ap (λ (p : Part). lane-move exits (length (exit-rows n)) p a b) f ∙ t)
 
   -- no lane has a point of a zone
-  no-lane : (s : Span) → Among s (zone-spans n) → Inside s a → inside (lane-of lanes (length (lane-spans n)) a) a ≡ false
+  pub no-lane : (s : Span) → Among s (zone-spans n) → Inside s a → inside (lane-of lanes (length (lane-spans n)) a) a ≡ false
   no-lane s h i = go (inside (lane-of lanes (length (lane-spans n)) a) a) refl
     where
       go : (x : Bool) → inside (lane-of lanes (length (lane-spans n)) a) a ≡ x → x ≡ false
@@ -200,7 +200,7 @@ module _ (n : Network Field) (o : NamesOwn n) (lanes zones exits : List ℕ) (r 
       rw (no-lane s h i, ap (λ (p : Part). inside p a) f ∙ inside-yes s a i) (ap (λ (p : Part). zone-move exits (length (exit-rows n)) p a b) f ∙ t)
 
   -- the part whose own an exit is has the point that it leaves
-  leaves : (parts : List Span) (g : Grouped source parts (exit-rows n) (a ∷ b ∷ [])) → Inside (g .span) a
+  pub leaves : (parts : List Span) (g : Grouped source parts (exit-rows n) (a ∷ b ∷ [])) → Inside (g .span) a
   leaves parts g = let w = of-each (λ w. Within (g .span .first) (g .span .size) (source w)) (a ∷ b ∷ []) (g .own) (g .within) (g .there) in record { from = w .low; below = w .high }
 
   back : Move n a b → said ≡ true

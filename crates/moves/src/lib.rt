@@ -29,7 +29,7 @@ pub struct Part {
 
 // ## The search
 // How many of so many rows the table has.
-fn rows_there(table: &[u32], stride: usize, count: u32) -> usize
+pub fn rows_there(table: &[u32], stride: usize, count: u32) -> usize
     ensures { λ r. ⌜ r ≡ rows-there (now (table .entry)) stride count ⌝ }
 {
     let all = rows_of(table.len(), stride);
@@ -46,7 +46,7 @@ fn first_word(table: &[u32], stride: usize, row: usize) -> u32
 }
 
 // The first row whose first word is not below `least`, where the rows before it are below and the others are not.
-fn first_row_from(table: &[u32], stride: usize, count: u32, least: usize) -> usize
+pub fn first_row_from(table: &[u32], stride: usize, count: u32, least: usize) -> usize
     ensures { λ r. ⌜ r ≡ first-row-from (now (table .entry)) stride count least ⌝ }
 {
     let mut low: usize = 0;
@@ -65,7 +65,7 @@ fn first_row_from(table: &[u32], stride: usize, count: u32, least: usize) -> usi
 }
 
 // ## Parts
-fn inside(part: Part, point: u32) -> bool
+pub fn inside(part: Part, point: u32) -> bool
     ensures { λ r. ⌜ r ≡ inside part point ⌝ }
 {
     let at = point as usize;
@@ -103,7 +103,7 @@ fn zone_part(zones: &[u32], row: usize) -> Part
 }
 
 // The last lane that begins at this point or before it; none, without points, where there is no such lane.
-fn lane_of(lanes: &[u32], count: u32, point: u32) -> Part
+pub fn lane_of(lanes: &[u32], count: u32, point: u32) -> Part
     ensures { λ r. ⌜ r ≡ lane-of (now (lanes .entry)) count point ⌝ }
 {
     let behind = first_row_from(lanes, LANE_STRIDE, count, point as usize + 1);
@@ -117,7 +117,7 @@ fn lane_of(lanes: &[u32], count: u32, point: u32) -> Part
     }
 }
 
-fn zone_of(zones: &[u32], count: u32, point: u32) -> Part
+pub fn zone_of(zones: &[u32], count: u32, point: u32) -> Part
     ensures { λ r. ⌜ r ≡ zone-of (now (zones .entry)) count point ⌝ }
 {
     let behind = first_row_from(zones, ZONE_STRIDE, count, point as usize + 1);
