@@ -3,4 +3,6 @@ pub mod Settled
 pub mod PointSettled
 pub mod ListSettled
 pub mod RouteSettled
+pub mod MissionSettled
+pub mod MissionAgreed
 pub mod Whole

@@ -27,6 +27,7 @@ use Rattle.writings.specs.declared.WriteMdfReply.the-variants as WriteMdf
 use Rattle.house_text.specs.House.{HouseRndf}
 use Rattle.writings.specs.Writes.{Writes, MapOf, WritesMdf}
 use Rattle.pair_checks.specs.Checks.{ChecksRoute}
+use Rattle.reach_checks.specs.Checks.{ChecksMission}
 use Rattle.answer_fields.specs.declared.Name.{Name}
 use Rattle.answer_fields.specs.declared.Answer.{Answer}
 use Rattle.look_up.specs.declared.ListReply.{ListReply}
@@ -119,6 +120,12 @@ pub record AnswersPair (edition : Edition) (rndf mdf : Bytes) (t : Lent) (u : Mi
 pub record AnswersRoute (edition : Edition) (start : ℕ) (route : List ℕ) (rndf mdf : Bytes) (t : Lent) (u : MissionLent) (given : Answer) (left : Lent) (mission-left : MissionLent) : Type 0 where
   pub reply : PairReply
   pub checks : ChecksRoute (rules-of edition) start route rndf mdf t u reply left mission-left
+  pub told : given ≡ pair-answer reply
+
+-- ## Whether the mission of an RNDF with its MDF can be driven. Request L13. start: the row of the point where the drive begins, as the caller gives it; work: the work space as it was lent, a word to a row
+pub record AnswersMission (edition : Edition) (start : ℕ) (rndf mdf : Bytes) (t : Lent) (u : MissionLent) (work : List ℕ) (given : Answer) (left : Lent) (mission-left : MissionLent) (work-left : List ℕ) : Type 0 where
+  pub reply : PairReply
+  pub checks : ChecksMission (rules-of edition) start rndf mdf t u work reply left mission-left work-left
   pub told : given ≡ pair-answer reply
 
 -- ## Any writing of an RNDF's network: the fields of the writer's reply, and the tables and the output as it promises. lent: the length of that output

@@ -2,11 +2,11 @@
 // `edition` is the number of `edition`/specs/Editions: 1 reads by the edition of December 6, 2006, any other number by the present one.
 // Every function here takes plain slices (C hands over a pointer, then how many elements) and numbers, requires nothing of them, keeps nothing and allocates nothing.
 //
-// The answers and the contracts are `answer_fields`, with their laws; what a reader must believe beside them: replies/specs/Replies, writings/specs/Writes, pair_checks/specs/Checks, look_up/specs/LookUp, Listed.
+// The answers and the contracts are `answer_fields`, with their laws; what a reader must believe beside them: replies/specs/Replies, writings/specs/Writes, pair_checks/specs/Checks, reach_checks/specs/Checks, look_up/specs/LookUp, Listed.
 //
 // Left out: asking for a name (`rows::name_of`), since a part of a slice cannot be returned to C. There a name is `text + start` for `length` bytes.
 //
-// Rests on `answer_fields`, `edition`, `reader`, `writer`, `map_writer`, `route`, `look_up` and what they rest on.
+// Rests on `answer_fields`, `edition`, `reader`, `writer`, `map_writer`, `route`, `reach`, `look_up` and what they rest on.
 use answer_fields::Answer;
 use answer_fields::ListAnswer;
 use answer_fields::Name;
@@ -18,6 +18,7 @@ use look_up::ListReply;
 use look_up::point_of_word;
 use look_up::points_of;
 use map_writer::write_map;
+use reach::check_mission;
 use reader::read_pair;
 use reader::read_rndf;
 use refusal::Refusal;
@@ -36,7 +37,7 @@ ghost use lib.ListN.{length};
 ghost use Rattle.law.specs.Tables.{lent, mission-lent};
 ghost use Rattle.edition.specs.Editions.{numbered};
 ghost use Rattle.look_up.specs.LookUp.{PointOf};
-ghost use Rattle.answer_fields.specs.Answers.{named, laid-out, taken, refused, rndf-answer, pair-answer, write-answer, write-mdf-answer, list-answer, AnswersRndf, AnswersPair, AnswersRoute, AnswersWriteRndf, AnswersWriteMap, AnswersWriteMdf, AnswersList};
+ghost use Rattle.answer_fields.specs.Answers.{named, laid-out, taken, refused, rndf-answer, pair-answer, write-answer, write-mdf-answer, list-answer, AnswersRndf, AnswersPair, AnswersRoute, AnswersMission, AnswersWriteRndf, AnswersWriteMap, AnswersWriteMdf, AnswersList};
 
 fn named(s: Stretch) -> Name
     ensures { λ r. ⌜ r ≡ named s ⌝ }
@@ -311,6 +312,48 @@ pub extern "C" fn kastepuhm_check_route(
         limits,
         start,
         route,
+    );
+    pair_answer(reply)
+}
+
+// The mission of an RNDF with its MDF, from a start: can it be driven at all?
+#[no_mangle]
+pub extern "C" fn kastepuhm_check_mission(
+    edition: u32,
+    rndf: &[u8],
+    mdf: &[u8],
+    segments: &mut [u32],
+    lanes: &mut [u32],
+    zones: &mut [u32],
+    spots: &mut [u32],
+    points: &mut [i32],
+    checkpoints: &mut [u32],
+    stops: &mut [u32],
+    exits: &mut [u32],
+    goals: &mut [u32],
+    limits: &mut [u32],
+    start: u32,
+    work: &mut [u32],
+) -> Answer
+    ensures { λ r. ⌜ AnswersMission (numbered edition) start (now (rndf .entry)) (now (mdf .entry)) (lent (now (segments .entry)) (now (lanes .entry)) (now (zones .entry)) (now (spots .entry)) (now (points .entry)) (now (checkpoints .entry)) (now (stops .entry)) (now (exits .entry))) (mission-lent (now (goals .entry)) (now (limits .entry))) (now (work .entry)) r (lent (now (segments .exit)) (now (lanes .exit)) (now (zones .exit)) (now (spots .exit)) (now (points .exit)) (now (checkpoints .exit)) (now (stops .exit)) (now (exits .exit))) (mission-lent (now (goals .exit)) (now (limits .exit))) (now (work .exit)) ⌝ }
+{
+    let by = edition_of(edition);
+    let reply = check_mission(
+        by,
+        rndf,
+        mdf,
+        segments,
+        lanes,
+        zones,
+        spots,
+        points,
+        checkpoints,
+        stops,
+        exits,
+        goals,
+        limits,
+        start,
+        work,
     );
     pair_answer(reply)
 }
