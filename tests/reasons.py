@@ -1,6 +1,7 @@
 #!/usr/bin/env python3
 """Compares the reasons of refusals: the table of README.md, the definition (crates/answers/specs/Reasons.antt) and the code's table
-(crates/answers/src/lib.rt, put_reason). Prints the lines that differ; the status is 1 if any does.
+(crates/answers/src/lib.rt, put_reason); and the words of 11 with file 0 (README.md: in brackets; the definition: short-work; the code: put_reason_of). Prints the lines that
+differ; the status is 1 if any does.
 
 That code and definition agree is proved; README.md is held to them here.
 """
@@ -18,8 +19,16 @@ def lines_of(path, pattern):
 
 
 def of_readme():
-    """{number: words}"""
-    return {int(number): words for number, words in lines_of("README.md", r"^\| (\d+) \| ([^|]+?) \| [^|]+ \| [^|]+ \|$")}
+    """{number: words}, without what stands in brackets of file 0"""
+    return {int(number): words for number, words in lines_of("README.md", r"^\| (\d+) \| ([^|]+?)(?: \(file 0, [^|]+\))? \| [^|]+ \| [^|]+ \|$")}
+
+
+def of_work():
+    """The words of 11 with file 0: of README.md, of the definition and of the code."""
+    return [lines_of(path, pattern) for path, pattern in (
+        ("README.md", r"^\| 11 \| [^|]+ \(file 0, for the work space of `kastepuhm_check_mission`: ([^|]+)\) \|"),
+        ("crates/answers/specs/Reasons.antt", r'^short-work = ascii "(.*)"$'),
+        ("crates/answers/src/lib.rt", r'^    put_bytes\(out, at, b"(the work space .*)"\)$'))]
 
 
 def of_definition():
@@ -37,9 +46,13 @@ def listed(table):
 
 def main():
     readme = listed(of_readme())
-    differ = len(readme) != 25
+    differ = len(readme) != 27
     if differ:
-        print("README.md has %d refusal numbers, not 25" % len(readme))
+        print("README.md has %d refusal numbers, not 27" % len(readme))
+    work = of_work()
+    if len(work[0]) != 1 or work != [work[0]] * 3:
+        differ = True
+        print("11 with file 0: %s" % work)
     for path, table in (("crates/answers/specs/Reasons.antt", of_definition()), ("crates/answers/src/lib.rt", of_code())):
         found = list(difflib.unified_diff(readme, listed(table), "README.md", path))
         sys.stdout.writelines(found)

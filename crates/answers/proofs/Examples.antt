@@ -1,14 +1,15 @@
 -- Sentences as they come out, letter by letter. Assumes nothing.
 use mathlib.Core.Path.{_≡_, refl}
-use mathlib.Core.List.{[]}
+use mathlib.Core.List.{[], _∷_}
 use Rattle.terms.specs.Ascii.{ascii}
 use Rattle.number.specs.Decimal.{spell, decimal}
 use Rattle.number.specs.House.{houseInteger}
 use Rattle.scan.specs.Reach.{sameBytes}
 use Rattle.line.specs.Lines.{linesOf, dropCr}
+use Rattle.rows.specs.Lay.{rowAt}
 use Rattle.shown.specs.Shown.{shown-byte, shown, blank, blanks, picture, line-in, byte-from-42, byte-alone, byte-words}
-use Rattle.answers.specs.Reasons.{reason, reasons}
-use Rattle.answers.specs.Answers.{place, detail, why-of, sentence, counted, next}
+use Rattle.answers.specs.Reasons.{reason, reasons, reason-of}
+use Rattle.answers.specs.Answers.{place, detail, why-of, sentence, unplaced, counted, next, goal-number, way-from, no-way, no-start}
 
 a-line : sentence (ascii "n.rndf") (ascii "a\n\tb  c\r\n") 2 12 5 ≡ ascii "n.rndf:2:5: the entry is no declared lane waypoint or perimeter point (12)\n\tb  c\n\t   ^\n"
 unfolding ascii sentence why-of detail place reason reasons houseInteger decimal spell line-in linesOf dropCr picture shown shown-byte blanks blank
@@ -29,3 +30,19 @@ one-lane = refl
 no-lanes : next 0 (ascii "lane") ≡ ascii ", 0 lanes"
 unfolding ascii next counted houseInteger decimal spell
 no-lanes = refl
+
+no-room : unplaced (ascii "m.mdf") 11 ≡ ascii "m.mdf: the work space has fewer rows than points (11)\n"
+unfolding ascii unplaced reason-of houseInteger decimal spell
+no-room = refl
+
+no-point : no-start (ascii "n.rndf") (ascii "1.9.1") ≡ ascii "1.9.1 is no point of n.rndf (30)\n"
+unfolding ascii no-start
+no-point = refl
+
+first-goal : no-way (ascii "1.1.1") (7 ∷ 9 ∷ []) 0 ≡ ascii "goal 7 can't be reached from 1.1.1 (31)\n"
+unfolding ascii no-way way-from goal-number rowAt houseInteger decimal spell
+first-goal = refl
+
+later-goal : no-way (ascii "1.1.1") (7 ∷ 9 ∷ []) 1 ≡ ascii "goal 9 can't be reached from goal 7 (31)\n"
+unfolding ascii no-way way-from goal-number rowAt houseInteger decimal spell
+later-goal = refl

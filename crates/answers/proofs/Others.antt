@@ -2,7 +2,7 @@
 use mathlib.Core.Path.{_≡_, refl, sym, _∙_}
 use mathlib.Core.Bool.{Bool, true, false}
 use mathlib.Core.Logic.{_⊎_, inl, inr, ⊎-elim}
-use Prim.Native.Nat.{ℕ, zero, suc, _+_, _<_, _≤_}
+use Prim.Native.Nat.{ℕ, zero, suc, _+_, _-_, _<_, _≤_}
 use native.Mathlib.Omega.{arith}
 use lib.Dec.{ltb}
 use lib.ListN.{List·getD-eq-default}
@@ -41,11 +41,36 @@ unfolding reason-from reason reasons
 from-one zero = refl
 from-one (suc n) = let l : 1 ≤ suc n = omega arith in rw (le-ltb (suc n) 1 l) refl
 
--- and ends before 26
-behind : (n : ℕ) → 26 ≤ n → reason n ≡ no-reason
+-- it ends before 32
+behind : (n : ℕ) → 32 ≤ n → reason n ≡ no-reason
 unfolding reason reasons
 behind n l = List·getD-eq-default reasons no-reason {n = n} (omega arith)
 
-pub none-behind : (n : ℕ) → reason-from 26 n ≡ no-reason
+-- 26 to 29 wait for their requests
+waits : (k : ℕ) → k < 4 → reason (26 + k) ≡ no-reason
+unfolding reason reasons
+waits zero l = refl
+waits (suc zero) l = refl
+waits (suc (suc zero)) l = refl
+waits (suc (suc (suc zero))) l = refl
+waits (suc (suc (suc (suc k)))) l = absurd (let h : suc (suc (suc (suc k))) < 4 = l in omega arith)
+
+waiting : (n : ℕ) → 26 ≤ n → n < 30 → reason n ≡ no-reason
+waiting n l u =
+    let k : n - 26 < 4 = omega arith in
+    let e : 26 + (n - 26) ≡ n = omega arith in
+    rw e at (waits (n - 26) k)
+
+not-below : (n : ℕ) → n < 30 → reason-from 26 n ≡ no-reason
 unfolding reason-from
-none-behind n = ⊎-elim (λ (l : n < 26). rw (lt-ltb n 26 l) refl) (λ (l : 26 ≤ n). rw (le-ltb n 26 l) (behind n l)) (below-or-not n 26)
+not-below n u = ⊎-elim (λ (l : n < 26). rw (lt-ltb n 26 l) refl) (λ (l : 26 ≤ n). rw (le-ltb n 26 l) (waiting n l u)) (below-or-not n 26)
+
+-- the last part has two numbers
+pub none-else : (n : ℕ) → NoneOf 30 2 n → no-reason ≡ reason-from 26 n
+unfolding reason-from
+none-else n h =
+    sym
+    (⊎-elim
+    (λ (l : n < 30). not-below n l)
+    (λ (l : 32 ≤ n). let k : 26 ≤ n = omega arith in rw (le-ltb n 26 k) (behind n l))
+    (outside 30 2 n h))

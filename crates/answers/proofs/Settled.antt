@@ -1,14 +1,15 @@
 -- THE THEOREM of document 01's "Prove that no second reply or memory would satisfy it", for the sentences: the contract of each public function settles every byte of the lent output and the place that is returned,
 -- for every output, place, name and reply; and some output and place satisfy it. Assumes nothing.
 use mathlib.Core.Path.{_≡_, refl, ap}
+use mathlib.Core.List.{List}
 use Prim.Native.Nat.{ℕ}
 use Rattle.terms.specs.Ascii.{Bytes}
 use Rattle.output.specs.Pen.{Pen, pen, put, Wrote}
 use Rattle.output.proofs.Writing.{wrote-one}
 use Rattle.replies.specs.declared.RndfReply.{RndfReply}
 use Rattle.replies.specs.declared.PairReply.{PairReply}
-use Rattle.answers.specs.Reasons.{reason}
-use Rattle.answers.specs.Answers.{sentence, rndf-answer, pair-answer}
+use Rattle.answers.specs.Reasons.{reason, reason-of}
+use Rattle.answers.specs.Answers.{sentence, rndf-answer, pair-answer, no-start, mission-answer}
 
 -- these bytes were put into the output `before` from this place on, which left `after` and the next place. The shape of all these contracts
 abbrev pub Puts : Bytes → (before : Bytes) (at : ℕ) (after : Bytes) (then : ℕ) → Type 0
@@ -38,6 +39,10 @@ settled bytes = record {
 pub reason-settled : (number : ℕ) → SettledBy (reason number)
 reason-settled number = settled (reason number)
 
+-- `put_reason_of`
+pub reason-of-settled : (file number : ℕ) → SettledBy (reason-of file number)
+reason-of-settled file number = settled (reason-of file number)
+
 -- `put_sentence`
 pub sentence-settled : (name text : Bytes) (line number column : ℕ) → SettledBy (sentence name text line number column)
 sentence-settled name text line number column = settled (sentence name text line number column)
@@ -49,3 +54,11 @@ rndf-answer-settled name text trouble reply = settled (rndf-answer name text tro
 -- `put_pair_answer`
 pub pair-answer-settled : (rndf mdf rndf-text mdf-text : Bytes) (reply : PairReply) → SettledBy (pair-answer rndf mdf rndf-text mdf-text reply)
 pair-answer-settled rndf mdf rndf-text mdf-text reply = settled (pair-answer rndf mdf rndf-text mdf-text reply)
+
+-- `put_no_start`
+pub no-start-settled : (rndf start : Bytes) → SettledBy (no-start rndf start)
+no-start-settled rndf start = settled (no-start rndf start)
+
+-- `put_mission_answer`
+pub mission-answer-settled : (rndf mdf rndf-text mdf-text start : Bytes) (goals : List ℕ) (reply : PairReply) → SettledBy (mission-answer rndf mdf rndf-text mdf-text start goals reply)
+mission-answer-settled rndf mdf rndf-text mdf-text start goals reply = settled (mission-answer rndf mdf rndf-text mdf-text start goals reply)

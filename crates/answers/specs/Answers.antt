@@ -1,11 +1,17 @@
 -- WHAT A READER MUST BELIEVE. What a planner is told of a reply: one sentence, with the names of the files, and of a refusal the line. Assumes nothing.
-use mathlib.Core.List.{[], _++_}
-use Prim.Native.Nat.{ℕ, _-_}
+use mathlib.Core.List.{List, [], _++_}
+use Prim.Native.Nat.{ℕ, suc, _-_}
 use lib.Dec.{eqb, ltb}
 use lib.ListN.{length, drop}
 use Rattle.terms.specs.Ascii.{Bytes, ascii}
 use Rattle.terms.specs.Words.{pick}
+use Rattle.scan.specs.Allowed.{separates}
+use Rattle.scan.specs.Reach.{upTo, fails}
 use Rattle.number.specs.House.{houseInteger}
+use Rattle.rows.specs.Read.{goalAt}
+use Rattle.find_line.specs.FoundLines.{mdfLineIn}
+use Rattle.grammar.specs.MissionStatements.{goal}
+use Rattle.grammar.specs.PlaceRows.{mission-kind-row}
 use Rattle.counts.specs.declared.Counts.{Counts}
 use Rattle.counts.specs.declared.MissionCounts.{MissionCounts}
 use Rattle.refusal.specs.declared.Refusal.{Refusal}
@@ -14,7 +20,7 @@ use Rattle.replies.specs.declared.RndfReply.the-variants as Rndf
 use Rattle.replies.specs.declared.PairReply.{PairReply}
 use Rattle.replies.specs.declared.PairReply.the-variants as Pair
 use Rattle.shown.specs.Shown.{picture, line-in, byte-words}
-use Rattle.answers.specs.Reasons.{reason}
+use Rattle.answers.specs.Reasons.{reason, reason-of}
 
 -- ## A refusal
 -- 01: 1, 11 and 19 have the line 0, and L7: they and 10 the column 0: what is 0 is not named
@@ -33,10 +39,17 @@ why-of line number column = reason number ++ detail line number column ++ ascii 
 unfoldable pub sentence : (name text : Bytes) (line number column : ℕ) → Bytes
 sentence name text line number column = name ++ place line ++ place column ++ ascii ": " ++ why-of (line-in text line) number column
 
--- 01: "Each gives file (1 RNDF, 2 MDF), line, number."; L7: "a column"
+-- a refusal of file 0 is about no line of a text: the reason alone
+unfoldable pub unplaced : (name : Bytes) (number : ℕ) → Bytes
+unplaced name number = name ++ ascii ": " ++ reason-of 0 number ++ ascii " (" ++ houseInteger number ++ ascii ")\n"
+
+-- 01: "Each gives file (1 RNDF, 2 MDF), line, number."; L7: "a column". L5 and L13: file 0, of the mission
 unfoldable pub refused : (rndf mdf rndf-text mdf-text : Bytes) → Refusal → Bytes
 refused rndf mdf rndf-text mdf-text why =
-    pick (eqb (why .file) 1) (sentence rndf rndf-text (why .line) (why .number) (why .column)) (sentence mdf mdf-text (why .line) (why .number) (why .column))
+    pick
+    (eqb (why .file) 1)
+    (sentence rndf rndf-text (why .line) (why .number) (why .column))
+    (pick (eqb (why .file) 0) (unplaced mdf (why .number)) (sentence mdf mdf-text (why .line) (why .number) (why .column)))
 
 -- ## The rows used
 -- `1 lane`, `2 lanes`
@@ -73,3 +86,45 @@ rndf-answer name text trouble (Rndf.Refused why) = sentence name text (why .line
 unfoldable pub pair-answer : (rndf mdf rndf-text mdf-text : Bytes) → PairReply → Bytes
 pair-answer rndf mdf rndf-text mdf-text (Pair.Accepted c file m mission-file) = rndf ++ ascii " with " ++ mdf ++ ascii ": accepted; " ++ network-counts c ++ mission-counts m ++ ascii "\n"
 pair-answer rndf mdf rndf-text mdf-text (Pair.Refused why) = refused rndf mdf rndf-text mdf-text why
+
+-- ## Can the mission be driven? (L13)
+-- start: the point's identifier as it was given; goals: the table of goals as the reader fills it. 31 has "its row in place of the line"
+unfoldable pub goal-number : (goals : List ℕ) (row : ℕ) → ℕ
+goal-number goals row = goalAt goals row .number .0
+
+-- where the way to the goal in a row begins: "the first goal must be reachable from the start .., each later goal from the one before"
+unfoldable pub way-from : (start : Bytes) (goals : List ℕ) (row : ℕ) → Bytes
+way-from start goals row = pick (eqb row 0) start (ascii "goal " ++ houseInteger (goal-number goals (row - 1)))
+
+-- `goal 7 can't be reached from goal 9 (31)`
+unfoldable pub no-way : (start : Bytes) (goals : List ℕ) (row : ℕ) → Bytes
+no-way start goals row = ascii "goal " ++ houseInteger (goal-number goals row) ++ ascii " can't be reached from " ++ way-from start goals row ++ ascii " (31)\n"
+
+-- the line of the goal in a row, and its column: the line's first field
+unfoldable pub goal-line : (text : Bytes) (row : ℕ) → ℕ
+goal-line text row = mdfLineIn text (mission-kind-row goal) row
+
+unfoldable pub goal-column : (text : Bytes) (line : ℕ) → ℕ
+goal-column text line = suc (upTo (fails separates) (line-in text line))
+
+-- with the place in the MDF, and the line with a caret under the goal
+unfoldable pub stuck-at : (name text words : Bytes) (line column : ℕ) → Bytes
+stuck-at name text words line column = name ++ place line ++ place column ++ ascii ": " ++ words ++ picture (line-in text line) column
+
+unfoldable pub stuck : (name text start : Bytes) (goals : List ℕ) (row : ℕ) → Bytes
+stuck name text start goals row = stuck-at name text (no-way start goals row) (goal-line text row) (goal-column text (goal-line text row))
+
+-- `1.9.1 is no point of network.rndf (30)`
+unfoldable pub no-start : (rndf start : Bytes) → Bytes
+no-start rndf start = start ++ ascii " is no point of " ++ rndf ++ ascii " (30)\n"
+
+unfoldable pub not-driven : (rndf mdf rndf-text mdf-text start : Bytes) (goals : List ℕ) → Refusal → Bytes
+not-driven rndf mdf rndf-text mdf-text start goals why =
+    pick
+    (eqb (why .number) 31)
+    (stuck mdf mdf-text start goals (why .line))
+    (pick (eqb (why .number) 30) (no-start rndf start) (refused rndf mdf rndf-text mdf-text why))
+
+unfoldable pub mission-answer : (rndf mdf rndf-text mdf-text start : Bytes) (goals : List ℕ) → PairReply → Bytes
+mission-answer rndf mdf rndf-text mdf-text start goals (Pair.Accepted c file m mission-file) = mdf ++ ascii ": can be driven from " ++ start ++ ascii "\n"
+mission-answer rndf mdf rndf-text mdf-text start goals (Pair.Refused why) = not-driven rndf mdf rndf-text mdf-text start goals why

@@ -1,14 +1,16 @@
 -- WHAT A READER MUST BELIEVE. The words of each refusal number: those of README.md's table. Assumes nothing.
 use mathlib.Core.List.{List, [], _∷_}
 use Prim.Native.Nat.{ℕ}
+use lib.Dec.{eqb}
 use lib.ListN.{getD}
 use Rattle.terms.specs.Ascii.{Bytes, ascii}
+use Rattle.terms.specs.Words.{pick}
 
 -- no reply has such a number
 abbrev pub no-reason : Bytes
 no-reason = ascii "no such refusal"
 
--- 01, "Refusal numbers", and those that the requests add (L4: 20; L5: 21 to 24; L8: 25): from 0, which none has
+-- 01, "Refusal numbers", and those that the requests add (L4: 20; L5: 21 to 24; L8: 25; L13: 30 and 31): from 0, which none has
 unfoldable pub reasons : List Bytes
 reasons =
     no-reason
@@ -37,7 +39,21 @@ reasons =
     ∷ ascii "a goal is not met in order"
     ∷ ascii "the route does not end at the last goal's point"
     ∷ ascii "the spot has no checkpoint"
+    ∷ no-reason
+    ∷ no-reason
+    ∷ no-reason
+    ∷ no-reason
+    ∷ ascii "the start is no declared point"
+    ∷ ascii "a goal can't be reached"
     ∷ []
 
 unfoldable pub reason : ℕ → Bytes
 reason number = getD reasons number no-reason
+
+-- L13: "11 (file 0) for the work space": there it is no table that is short
+abbrev pub short-work : Bytes
+short-work = ascii "the work space has fewer rows than points"
+
+-- the words of a refusal, by its file too
+unfoldable pub reason-of : (file number : ℕ) → Bytes
+reason-of file number = pick (eqb file 0) (pick (eqb number 11) short-work (reason number)) (reason number)

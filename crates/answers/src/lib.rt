@@ -3,26 +3,31 @@
 // for every name, text and reply; nothing is required. Rests on `output` (each put ensures `Wrote`), `shown` and `replies`.
 use counts::Counts;
 use counts::MissionCounts;
+use find_line::mdf_line;
 use output::put_byte;
 use output::put_bytes;
 use output::put_integer;
+use read_rows::goal_at;
 use refusal::Refusal;
 use replies::PairReply;
 use replies::RndfReply;
+use scan::not_separator_from;
 use shown::from_column;
 use shown::line_of;
 use shown::put_byte_words;
 use shown::put_picture;
+use statement::orders;
+ghost use mathlib.Core.Path.{_≡_};
 ghost use mathlib.Core.List.{_++_};
 ghost use Rattle.terms.specs.Ascii.{ascii};
 ghost use Rattle.output.specs.Pen.{pen, Wrote};
-ghost use Rattle.answers.specs.Reasons.{reason};
+ghost use Rattle.answers.specs.Reasons.{reason, reason-of};
 ghost use Rattle.answers.specs.Parts.{reason-from};
-ghost use Rattle.answers.specs.Answers.{place, detail, why-of, sentence, refused, counted, next, network-counts, mission-counts, rndf-accepted, rndf-answer, pair-answer};
+ghost use Rattle.answers.specs.Answers.{place, detail, why-of, sentence, unplaced, refused, counted, next, network-counts, mission-counts, rndf-accepted, rndf-answer, pair-answer, goal-number, way-from, no-way, goal-line, goal-column, stuck-at, stuck, no-start, not-driven, mission-answer};
 
 // ## Refusals
 
-// THE TABLE of reasons, in five parts, each of which hands on the numbers that it does not have: to check a `match` whose arms each call something takes as long as the square of
+// THE TABLE of reasons, in seven parts, each of which hands on the numbers that it does not have: to check a `match` whose arms each call something takes as long as the square of
 // the arms. README.md's table of refusal numbers has the same words (tests/reasons.py).
 
 // 1 to 4: the text's bytes. The others: see below.
@@ -122,14 +127,38 @@ fn put_reason_from_20(out: &mut [u8], at: usize, number: u8) -> usize
     }
 }
 
-// 25: a spot's checkpoint. No reply has another number.
+// 25: a spot's checkpoint.
 fn put_reason_from_25(out: &mut [u8], at: usize, number: u8) -> usize
     ensures { λ r. ⌜ Wrote (pen (now (out .entry)) at) (reason-from 25 number) (pen (now (out .exit)) r) ⌝ }
 {
     match number {
         25 => put_bytes(out, at, b"the spot has no checkpoint"),
+        _ => put_reason_from_26(out, at, number),
+    }
+}
+
+// 30 and 31: whether a mission can be driven. No reply has another number: 26 to 29 wait for their requests.
+fn put_reason_from_26(out: &mut [u8], at: usize, number: u8) -> usize
+    ensures { λ r. ⌜ Wrote (pen (now (out .entry)) at) (reason-from 26 number) (pen (now (out .exit)) r) ⌝ }
+{
+    match number {
+        30 => put_bytes(out, at, b"the start is no declared point"),
+        31 => put_bytes(out, at, b"a goal can't be reached"),
         _ => put_bytes(out, at, b"no such refusal"),
     }
+}
+
+// By the refusal's file too: 11 of file 0 is of a work space.
+pub fn put_reason_of(out: &mut [u8], at: usize, file: u8, number: u8) -> usize
+    ensures { λ r. ⌜ Wrote (pen (now (out .entry)) at) (reason-of file number) (pen (now (out .exit)) r) ⌝ }
+{
+    if file != 0 {
+        return put_reason(out, at, number);
+    }
+    if number != 11 {
+        return put_reason(out, at, number);
+    }
+    put_bytes(out, at, b"the work space has fewer rows than points")
 }
 
 // `:9`, and nothing for 0.
@@ -185,7 +214,19 @@ pub fn put_sentence(
     put_why(out, d, line_of(text, line), number, column)
 }
 
-// The sentence of a pair's refusal, with the name of the file that it is about.
+// The sentence of a refusal that is about no line of a text.
+fn put_unplaced(out: &mut [u8], at: usize, name: &[u8], number: u8) -> usize
+    ensures { λ r. ⌜ Wrote (pen (now (out .entry)) at) (unplaced (now (name .entry)) number) (pen (now (out .exit)) r) ⌝ }
+{
+    let a = put_bytes(out, at, name);
+    let b = put_bytes(out, a, b": ");
+    let c = put_reason_of(out, b, 0, number);
+    let d = put_bytes(out, c, b" (");
+    let e = put_integer(out, d, number as u32);
+    put_bytes(out, e, b")\n")
+}
+
+// The sentence of a pair's refusal, with the name of the file that it is about; file 0: of the mission.
 fn put_refused(
     out: &mut [u8],
     at: usize,
@@ -199,6 +240,9 @@ fn put_refused(
 {
     if why.file == 1 {
         return put_sentence(out, at, rndf, rndf_text, why.line, why.number, why.column);
+    }
+    if why.file == 0 {
+        return put_unplaced(out, at, mdf, why.number);
     }
     put_sentence(out, at, mdf, mdf_text, why.line, why.number, why.column)
 }
@@ -313,5 +357,154 @@ pub fn put_pair_answer(
     match reply {
         PairReply::Accepted(c, _, m, _) => put_pair_accepted(out, at, rndf, mdf, c, m),
         PairReply::Refused(why) => put_refused(out, at, rndf, mdf, rndf_text, mdf_text, why),
+    }
+}
+
+// ## Can the mission be driven? (L13)
+
+// The goal in this row of the filled table.
+fn goal_number(goals: &[u32], row: u32) -> u32
+    ensures { λ r. ⌜ r ≡ goal-number (now (goals .entry)) row ⌝ }
+{
+    let goal = goal_at(goals, row as usize);
+    goal.number.0 as u32
+}
+
+// `goal 9`, or the start.
+fn put_way_from(out: &mut [u8], at: usize, start: &[u8], goals: &[u32], row: u32) -> usize
+    ensures { λ r. ⌜ Wrote (pen (now (out .entry)) at) (way-from (now (start .entry)) (now (goals .entry)) row) (pen (now (out .exit)) r) ⌝ }
+{
+    if row == 0 {
+        return put_bytes(out, at, start);
+    }
+    let a = put_bytes(out, at, b"goal ");
+    put_integer(out, a, goal_number(goals, row - 1))
+}
+
+// `goal 7 can't be reached from goal 9 (31)`
+fn put_no_way(out: &mut [u8], at: usize, start: &[u8], goals: &[u32], row: u32) -> usize
+    ensures { λ r. ⌜ Wrote (pen (now (out .entry)) at) (no-way (now (start .entry)) (now (goals .entry)) row) (pen (now (out .exit)) r) ⌝ }
+{
+    let a = put_bytes(out, at, b"goal ");
+    let b = put_integer(out, a, goal_number(goals, row));
+    let c = put_bytes(out, b, b" can't be reached from ");
+    let d = put_way_from(out, c, start, goals, row);
+    put_bytes(out, d, b" (31)\n")
+}
+
+// The line of the goal in this row.
+fn goal_line(text: &[u8], row: u32) -> u32
+    ensures { λ r. ⌜ r ≡ goal-line (now (text .entry)) row ⌝ }
+{
+    mdf_line(text, orders::GOAL, row)
+}
+
+// The goal is the line's first field.
+fn goal_column(text: &[u8], line: u32) -> u32
+    ensures { λ r. ⌜ r ≡ goal-column (now (text .entry)) line ⌝ }
+{
+    let before = not_separator_from(line_of(text, line), 0);
+    before as u32 + 1
+}
+
+fn put_stuck_at(
+    out: &mut [u8],
+    at: usize,
+    name: &[u8],
+    text: &[u8],
+    start: &[u8],
+    goals: &[u32],
+    row: u32,
+    line: u32,
+    column: u32,
+) -> usize
+    ensures { λ r. ⌜ Wrote (pen (now (out .entry)) at) (stuck-at (now (name .entry)) (now (text .entry)) (no-way (now (start .entry)) (now (goals .entry)) row) line column) (pen (now (out .exit)) r) ⌝ }
+{
+    let a = put_bytes(out, at, name);
+    let b = put_place(out, a, line);
+    let c = put_place(out, b, column);
+    let d = put_bytes(out, c, b": ");
+    let e = put_no_way(out, d, start, goals, row);
+    put_picture(out, e, line_of(text, line), column)
+}
+
+// The sentence of the goal in this row, which can't be reached, with its line of the MDF's text.
+fn put_stuck(
+    out: &mut [u8],
+    at: usize,
+    name: &[u8],
+    text: &[u8],
+    start: &[u8],
+    goals: &[u32],
+    row: u32,
+) -> usize
+    ensures { λ r. ⌜ Wrote (pen (now (out .entry)) at) (stuck (now (name .entry)) (now (text .entry)) (now (start .entry)) (now (goals .entry)) row) (pen (now (out .exit)) r) ⌝ }
+{
+    let line = goal_line(text, row);
+    let column = goal_column(text, line);
+    put_stuck_at(out, at, name, text, start, goals, row, line, column)
+}
+
+// A start that is no declared point.
+pub fn put_no_start(out: &mut [u8], at: usize, rndf: &[u8], start: &[u8]) -> usize
+    ensures { λ r. ⌜ Wrote (pen (now (out .entry)) at) (no-start (now (rndf .entry)) (now (start .entry))) (pen (now (out .exit)) r) ⌝ }
+{
+    let a = put_bytes(out, at, start);
+    let b = put_bytes(out, a, b" is no point of ");
+    let c = put_bytes(out, b, rndf);
+    put_bytes(out, c, b" (30)\n")
+}
+
+fn put_not_driven(
+    out: &mut [u8],
+    at: usize,
+    rndf: &[u8],
+    mdf: &[u8],
+    rndf_text: &[u8],
+    mdf_text: &[u8],
+    start: &[u8],
+    goals: &[u32],
+    why: Refusal,
+) -> usize
+    ensures { λ r. ⌜ Wrote (pen (now (out .entry)) at) (not-driven (now (rndf .entry)) (now (mdf .entry)) (now («rndf_text» .entry)) (now («mdf_text» .entry)) (now (start .entry)) (now (goals .entry)) why) (pen (now (out .exit)) r) ⌝ }
+{
+    if why.number == 31 {
+        return put_stuck(out, at, mdf, mdf_text, start, goals, why.line);
+    }
+    if why.number == 30 {
+        return put_no_start(out, at, rndf, start);
+    }
+    put_refused(out, at, rndf, mdf, rndf_text, mdf_text, why)
+}
+
+// `mission.mdf: can be driven from 1.1.1`
+fn put_driven(out: &mut [u8], at: usize, mdf: &[u8], start: &[u8]) -> usize
+    ensures { λ r. ⌜ Wrote (pen (now (out .entry)) at) (now (mdf .entry) ++ ascii ": can be driven from " ++ now (start .entry) ++ ascii "\n") (pen (now (out .exit)) r) ⌝ }
+{
+    let a = put_bytes(out, at, mdf);
+    let b = put_bytes(out, a, b": can be driven from ");
+    let c = put_bytes(out, b, start);
+    put_byte(out, c, b'\n')
+}
+
+// What a mission gets that is to be driven from the point with this identifier. `goals`: the table of goals as the reader filled it (a refusal leaves none).
+pub fn put_mission_answer(
+    out: &mut [u8],
+    at: usize,
+    rndf: &[u8],
+    mdf: &[u8],
+    rndf_text: &[u8],
+    mdf_text: &[u8],
+    start: &[u8],
+    goals: &[u32],
+    reply: PairReply,
+) -> usize
+    ensures { λ r. ⌜ Wrote (pen (now (out .entry)) at) (mission-answer (now (rndf .entry)) (now (mdf .entry)) (now («rndf_text» .entry)) (now («mdf_text» .entry)) (now (start .entry)) (now (goals .entry)) reply) (pen (now (out .exit)) r) ⌝ }
+{
+    match reply {
+        PairReply::Accepted(_, _, _, _) => put_driven(out, at, mdf, start),
+        PairReply::Refused(why) => {
+            put_not_driven(out, at, rndf, mdf, rndf_text, mdf_text, start, goals, why)
+        }
     }
 }

@@ -1,10 +1,10 @@
--- `answers::put_reason_from_25` meets its contract: an arm for each of its numbers, and the last for those that no refusal has. Assumes nothing.
-use mathlib.Core.Path.{refl, sym, ap, _∙_}
+-- `answers::put_reason_from_25` meets its contract: an arm for each of its numbers, and the last for those that the next part has. Assumes nothing.
+use mathlib.Core.Path.{refl, sym, ap}
 use Rattle.terms.specs.Ascii.{ascii}
 use Rattle.output.proofs.Writing.{same}
 use Rattle.answers.specs.Reasons.{reason, reasons}
 use Rattle.answers.specs.Parts.{reason-from}
-use Rattle.answers.proofs.Others.{handed-on, none-behind}
+use Rattle.answers.proofs.Others.{handed-on}
 use Rattle.answers.proofs.put_reason_from_25.Statement.{statement}
 use Rattle.answers.proofs.put_reason_from_25.Tie as tie
 
@@ -14,11 +14,8 @@ slice-aggregate-put-bytes c = refl
 put-bytes-requires : tie.Need-put-bytes-requires
 put-bytes-requires c κs = tt
 
-slice-aggregate-put-bytes-2 : tie.Need-slice-aggregate-put-bytes-2
-slice-aggregate-put-bytes-2 c = refl
-
-put-bytes-requires-2 : tie.Need-put-bytes-requires-2
-put-bytes-requires-2 c κs = tt
+put-reason-from-26-requires : tie.Need-put-reason-from-26-requires
+put-reason-from-26-requires c κs = tt
 
 same-length : tie.Need-same-length
 same-length c = c .before .before .put-bytes .kept .0
@@ -28,11 +25,10 @@ unfolding ascii reason reasons reason-from
 returns c = same (ap (reason-from 25) (sym (c .before .before .before .before .before .match .keys1))) (c .before .before .put-bytes .ensures)
 
 same-length-2 : tie.Need-same-length-2
-same-length-2 c = c .before .before .put-bytes2 .kept .0
+same-length-2 c = c .before .before .put-reason-from-26 .kept .0
 
 returns-2 : tie.Need-returns-2
-unfolding ascii
-returns-2 c = same (sym (none-behind _) ∙ handed-on 25 1 _ (c .before .before .before .before .before .match .rest)) (c .before .before .put-bytes2 .ensures)
+returns-2 c = same (handed-on 25 1 _ (c .before .before .before .before .match .rest)) (c .before .before .put-reason-from-26 .ensures)
 
 pub put-reason-from-25-spec : {M : Type 1} → statement M
 put-reason-from-25-spec =
@@ -40,8 +36,7 @@ put-reason-from-25-spec =
     (tie.spec
     slice-aggregate-put-bytes
     put-bytes-requires
-    slice-aggregate-put-bytes-2
-    put-bytes-requires-2
+    put-reason-from-26-requires
     same-length
     returns
     same-length-2
