@@ -9,28 +9,28 @@
  *
  * What it does
  *   It reads the text of a route network (RNDF) and of a mission (MDF) in the format of March 14, 2007, or in its edition of December 6, 2006, as document 01 narrows it, and either fills
- *   the tables that you lend and accepts, or refuses with file, line, one number and the column in that line. It also puts the house writing of either file, or a map of the network, into an output that you lend, and tells whether a
- *   route is drivable. That it does so for all texts, all tables, all outputs and all routes is proved of its source (crates/yard, crates/replies/specs/Replies.antt,
- *   crates/writings/specs/Writes.antt, crates/pair_checks/specs/Checks.antt); the compiler, the declarations below and your calls are not part of that proof.
+ *   the tables that you lend and accepts, or refuses with file, line, one number and the column in that line. It also puts the house writing of either file, or a map of the network, into an output that you lend, tells whether a
+ *   route is drivable, and whether a mission can be driven at all. That it does so for all texts, all tables, all outputs, all routes and all work spaces is proved of its source (crates/yard, crates/replies/specs/Replies.antt,
+ *   crates/writings/specs/Writes.antt, crates/pair_checks/specs/Checks.antt, crates/reach_checks/specs/Checks.antt); the compiler, the declarations below and your calls are not part of that proof.
  *
  * What you hand over
  *   Every slice is a pointer and then its length: how many elements it has, not how many rows or bytes. Nothing is asked of what a slice holds, and no length is too short:
- *   a table with too few rows is refusal 11, an output that is too short refusal 19. But a pointer must be what C says it is:
+ *   a table or a work space with too few rows is refusal 11, an output that is too short refusal 19. But a pointer must be what C says it is:
  *   - it is never NULL, also where the length is 0 (any address that fits the type will do then), and it is aligned for its type;
  *   - that many elements can be read there, and written where the pointer is not const;
  *   - a slice that is written overlaps no other slice of the same call. The two texts may overlap: they are only read.
  *
  * Who owns what
  *   Everything is yours before, during and after the call. The library keeps no pointer, allocates nothing, has no state of its own, prints nothing, reads no file and always
- *   returns. Calls in several threads at once do not disturb each other as long as no two of them write the same tables or output; texts may be shared.
+ *   returns. Calls in several threads at once do not disturb each other as long as no two of them write the same tables, work space or output; texts may be shared.
  *
  * Stack, as the kit's compiler builds it (tests/stack.py measures it)
- *   kastepuhm_read_rndf, kastepuhm_write_rndf and kastepuhm_write_map take less than 8 KiB, kastepuhm_read_pair, kastepuhm_write_mdf and kastepuhm_check_route less than 12 KiB: 4,096 bytes
+ *   kastepuhm_read_rndf, kastepuhm_write_rndf and kastepuhm_write_map take less than 8 KiB, kastepuhm_read_pair, kastepuhm_write_mdf, kastepuhm_check_route and kastepuhm_check_mission less than 12 KiB: 4,096 bytes
  *   of marks for each file are in it.
  *   kastepuhm_point_of takes a few words. Give a thread that calls them a stack to match.
  *
  * Time
- *   Linear in the length of the texts, of the lent tables and of the lent output; of kastepuhm_points_of and kastepuhm_check_route, see there.
+ *   Linear in the length of the texts, of the lent tables and of the lent output; of kastepuhm_points_of, kastepuhm_check_route and kastepuhm_check_mission, see there.
  */
 #ifndef KASTEPUHM_H
 #define KASTEPUHM_H
@@ -145,6 +145,9 @@ enum {
     KASTEPUHM_LIMIT_STRIDE
 };
 
+/* The work space of kastepuhm_check_mission, so many words to a row, and a row for each point: work_length / KASTEPUHM_WORK_STRIDE rows. */
+#define KASTEPUHM_WORK_STRIDE 1
+
 #define KASTEPUHM_NO_WIDTH 65535u
 
 enum {
@@ -168,10 +171,10 @@ typedef struct kastepuhm_name {
 /* What a reader answers. Of an RNDF alone the fields of the MDF are 0; of a refusal every field is 0 but for file, line, number and column. */
 typedef struct kastepuhm_answer {
     uint32_t accepted;             /* 1: accepted, 0: refused */
-    uint32_t file;                 /* of a refusal: 1 the RNDF, 2 the MDF, 0 neither (20 to 24); 0 where accepted */
-    uint32_t line;                 /* of a refusal: counted from 1; 0 where there is none, and where accepted; of 22 and 23 see kastepuhm_check_route */
+    uint32_t file;                 /* of a refusal: 1 the RNDF, 2 the MDF, 0 neither (20 to 24, 30, 31, and 11 for the work space); 0 where accepted */
+    uint32_t line;                 /* of a refusal: counted from 1; 0 where there is none, and where accepted; of 22 and 23 see kastepuhm_check_route, of 31 kastepuhm_check_mission */
     uint32_t number;               /* of a refusal: see below; 0 where accepted */
-    uint32_t column;               /* of a refusal: where in its line, counted in bytes from 1 (a tab is one byte); 0 where the line is 0, for 10 and 20 to 24, and where accepted */
+    uint32_t column;               /* of a refusal: where in its line, counted in bytes from 1 (a tab is one byte); 0 where the line is 0, for 10, 20 to 24 and 31, and where accepted */
     uint32_t segments;             /* from here on: the rows used of each table */
     uint32_t lanes;
     uint32_t zones;
@@ -207,7 +210,7 @@ enum {
     KASTEPUHM_BAD_FIELD = 8,           /* a field is not of its kind: spelling, length of a name, boundary word */
     KASTEPUHM_NOT_PERMITTED = 9,       /* a value is not permitted here: range, not the due identifier, a point of another part, minimum above maximum */
     KASTEPUHM_UNENDED = 10,            /* the text ends before end_file (line: its lines + 1) */
-    KASTEPUHM_NO_ROOM = 11,            /* a lent table of that file has fewer rows than needed (line 0) */
+    KASTEPUHM_NO_ROOM = 11,            /* a lent table of that file has fewer rows than needed (line 0); with file 0, after all that the reader refuses: the work space has (kastepuhm_check_mission only) */
     KASTEPUHM_NO_SUCH_ENTRY = 12,      /* an exit's entry is no declared lane waypoint or perimeter point */
     KASTEPUHM_NUMBER_AGAIN = 13,       /* the checkpoint number is already declared */
     KASTEPUHM_OTHER_RNDF = 14,         /* the MDF names another RNDF */
@@ -221,7 +224,9 @@ enum {
     KASTEPUHM_NO_MOVE = 22,            /* a step of the route is no move, the first (line: the place in the route that it leads to, from 0) */
     KASTEPUHM_GOAL_NOT_MET = 23,       /* a goal is not met in order, the first (line: the goal's row, from 0) */
     KASTEPUHM_WRONG_END = 24,          /* the route does not end at the last goal's point (line 0) */
-    KASTEPUHM_BARE_SPOT = 25           /* the spot has no checkpoint (line: its first waypoint's, where that has no fault of 2 to 9) */
+    KASTEPUHM_BARE_SPOT = 25,          /* the spot has no checkpoint (line: its first waypoint's, where that has no fault of 2 to 9) */
+    KASTEPUHM_NO_START = 30,           /* 30 and 31: kastepuhm_check_mission only, after all others, in this order, file 0: the start is no declared point (line 0) */
+    KASTEPUHM_NO_WAY = 31              /* a goal can't be reached, from the start or from the goal before, the first (line: the goal's row, from 0) */
 };
 
 /* An RNDF alone. */
@@ -282,6 +287,40 @@ kastepuhm_answer kastepuhm_check_route(
     uint32_t *limits, size_t limits_length,
     uint32_t start,
     const uint32_t *route, size_t route_length);
+
+/*
+ * Can the mission be driven at all? With the moves of kastepuhm_check_route: the first goal must be reachable from `start`, the row where the tractor stands, by no move or more, each later goal
+ * from the one before by one move or more, so that a goal like the one before needs a round. Given the work space, it is accepted exactly if such chains of moves exist, that is, if
+ * kastepuhm_check_route would accept some route from `start`.
+ *
+ * `work` is work space, a row of KASTEPUHM_WORK_STRIDE words for each row of the point table that is used. It need not be zero before, and is zero afterwards over its whole length, whatever is
+ * answered. It may not overlap a text or a table. As many rows as the lent point table has (points_length / KASTEPUHM_POINT_STRIDE) are always enough.
+ *
+ * The texts are read first, as kastepuhm_read_pair does, and refused as it refuses, 11 with file 1 or 2 among them. Its own refusals come then, with file 0 and column 0, tried in this order: 11
+ * where the work space has fewer rows than the network has points and 30 where the start is no point of the network, both with line 0, and 31 where a goal can't be reached, with the row of the
+ * first such goal, from 0, in place of the line, so a line 0 is the first goal there. After a refusal every number of every lent table is 0. Otherwise the answer and the tables are those of
+ * kastepuhm_read_pair.
+ *
+ * Beside reading the texts and clearing the work space it takes, for each goal, a look through the checkpoints and through the goals before it, and one search for each different goal that is
+ * started from: time in proportion to the points and the exits, to the exits of a lane once for each place where the search enters it, and to the logarithm of the lanes, zones and exits for each
+ * point that an exit leads to.
+ */
+kastepuhm_answer kastepuhm_check_mission(
+    uint32_t edition,
+    const uint8_t *rndf, size_t rndf_length,
+    const uint8_t *mdf, size_t mdf_length,
+    uint32_t *segments, size_t segments_length,
+    uint32_t *lanes, size_t lanes_length,
+    uint32_t *zones, size_t zones_length,
+    uint32_t *spots, size_t spots_length,
+    int32_t *points, size_t points_length,
+    uint32_t *checkpoints, size_t checkpoints_length,
+    uint32_t *stops, size_t stops_length,
+    uint32_t *exits, size_t exits_length,
+    uint32_t *goals, size_t goals_length,
+    uint32_t *limits, size_t limits_length,
+    uint32_t start,
+    uint32_t *work, size_t work_length);
 
 /*
  * The writers. Two put the house writing of a file into `out`: one tab between fields, a line feed after every line, no comment, blank line or carriage return, options in their
