@@ -3,7 +3,7 @@
 # tests/callers.sh --built   the same with the library as it was last built
 #
 # Compared: yard A as a pair and alone, yard A written untidily and with spaces for tabs (its house writing is the same), yard B (every table; its answer was worked out by hand), two damaged texts and a
-# missing file; these in the edition of December 6, 2006 too, with a boundary and a zone that it has not (request L10); routes over yard A (request L5); then document 01's cases and the edges of the summary program's rules (tests/summary_cases.py), and every reply and every lent number of the oracle's corpus and of
+# missing file; these in the edition of December 6, 2006 too, with a boundary and a zone that it has not (request L10); routes over yard A (request L5), and whether its mission can be driven at all (request L13); then document 01's cases and the edges of the summary program's rules (tests/summary_cases.py), and every reply and every lent number of the oracle's corpus and of
 # 2,000 random pairs (tests/callers/corpus.c).
 # The last line is 'N passed, M failed, K skipped'; the status is 0 if none failed.
 #
@@ -130,6 +130,29 @@ route "$work/twice.mdf" 'refused 0 1 23 0' 1 1 0
 route "$work/twice.mdf" "$twice" 1 1 0 1
 # a pair that the reader refuses is refused as it does
 route "$work/goal.mdf" 'refused 2 5 15 1' 0 0 1
+
+# L13: whether the mission can be driven at all, over the same yard, and without its exit
+# drive NETWORK MISSION ANSWER START ROWS
+drive() {
+    echo "$3" >"$work/answer"
+    compare "$1 $2, driven from $4 with $5 rows" "$work/answer" "$1" "$2" drive "$4" "$5"
+}
+sed '/^exit/d' "$a/network.rndf" >"$work/one_way.rndf"
+drive "$a/network.rndf" "$a/mission.mdf" "$once" 0 2
+drive "$a/network.rndf" "$a/mission.mdf" "$once" 0 3
+drive "$a/network.rndf" "$a/mission.mdf" "$once" 1 2
+drive "$a/network.rndf" "$a/mission.mdf" 'refused 0 0 11 0' 0 1
+drive "$a/network.rndf" "$a/mission.mdf" 'refused 0 0 11 0' 2 1
+drive "$a/network.rndf" "$a/mission.mdf" 'refused 0 0 11 0' 0 0
+drive "$a/network.rndf" "$a/mission.mdf" 'refused 0 0 30 0' 2 2
+drive "$a/network.rndf" "$a/mission.mdf" 'refused 0 0 30 0' 4294967295 200
+drive "$a/network.rndf" "$work/twice.mdf" "$twice" 1 2
+drive "$work/one_way.rndf" "$a/mission.mdf" "ok 1 0 1 2 0 1 0 0 1 1" 0 2
+drive "$work/one_way.rndf" "$work/twice.mdf" 'refused 0 1 31 0' 0 2
+drive "$a/network.rndf" "$work/goal.mdf" 'refused 2 5 15 1' 0 1
+drive "$work/entry.rndf" "$a/mission.mdf" 'refused 1 9 12 12' 2 1
+compare 'driven, and solid_yellow, 2006' "$work/yellow" --2006 "$work/yellow.rndf" "$a/mission.mdf" drive 0 2
+compare 'driven, and solid_yellow' "$work/route" "$work/yellow.rndf" "$a/mission.mdf" drive 0 2
 
 # document 01's cases, by the first line that a caller prints
 if command -v python3 >/dev/null; then

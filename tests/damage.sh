@@ -4,12 +4,12 @@
 # Compares the library for C with the independent reader in tests/oracle on pairs of texts, well-formed and damaged: 4,000 of them, or COUNT, or 200,000 (`long`). The pairs come from
 # SEED (1 if not given) and are the same on every machine. Compared are the reply, the names, the row counts and every number of every lent table; the tables are lent full of other
 # numbers, and every text and table ends where the memory ends. As many maps (request L2) are compared byte by byte, and as JSON with what the network says; the output ends where the
-# memory ends too. Half as many routes (request L5) are judged, good ones and damaged ones. Every second pair is read in the edition of December 6, 2006 (request L10) as well,
-# and half of the maps and routes are in it. Printed: how often each refusal number came, how often each kind of damage
+# memory ends too. Half as many routes (request L5) are judged, good ones and damaged ones, and as many missions (request L13). Every second pair is read in the edition of December 6, 2006 (request L10) as well,
+# and half of the maps, routes and missions are in it. Printed: how often each refusal number came, how often each kind of damage
 # (tests/damage/pairs.py), which columns (request L7) and in what lines (led by tabs or spaces, with a comment, with several fields at fault), what the maps showed, and each case that differs, which is
-# kept in target/damage. The last line is 'seed S: N pairs, M RNDFs alone, R routes and L maps (W written), O of them in the older edition, K differ'; the status is 0 if none differs and every number
-# from 1 to 19 and from 21 to 25 came, those of a line also in a line that is led by tabs or spaces, and those that the older edition alone gives.
-# With a SORT, `pairs`, `maps` or `routes`, only that one is compared: `tests/damage.sh 200000 1 routes` judges 100,000 routes (7 minutes of processor time). A fourth SORT, `ends`, is run only
+# kept in target/damage. The last line is 'seed S: N pairs, M RNDFs alone, R routes, Q missions and L maps (W written), O of them in the older edition, K differ'; the status is 0 if none differs and every number
+# from 1 to 19, from 21 to 25, 30 and 31 came, 11 with file 0 too, those of a line also in a line that is led by tabs or spaces, and those that the older edition alone gives.
+# With a SORT, `pairs`, `maps`, `routes` or `missions`, only that one is compared: `tests/damage.sh 200000 1 routes` judges 100,000 routes (7 minutes of processor time). Another SORT, `ends`, is run only
 # where it is named: `tests/damage.sh 265716 1 ends` has every line end of up to five signs of comments, separators and line ends, each at four places of an RNDF.
 #
 # Builds the library first (`rt staticlib yard`), unless --built is given. Needs python3 and a C compiler (Debian: gcc; on Arm gcc-x86-64-linux-gnu, and the kit's emulator runs it);

@@ -1,6 +1,7 @@
 /*
  * A worked caller in C: caller NETWORK [MISSION] reads an RNDF, alone or with its MDF, and prints the summary program's line, what stands in the tables, and then the
- * length and first line of the house writing, and the network's map; caller NETWORK MISSION START [POINT ..] prints whether the route of these points is drivable from there (request L5).
+ * length and first line of the house writing, and the network's map; caller NETWORK MISSION START [POINT ..] prints whether the route of these points is drivable from there (request L5);
+ * caller NETWORK MISSION drive START ROWS whether the mission can be driven from there at all, with so many rows of work space (request L13).
  * With --2006 before all these words the texts are read in the edition of December 6, 2006 (request L10), else in the present one.
  * Texts up to 8,192 bytes, 256 points and 128 rows of every other table, as the summary program has them; all of it lies in this program's own memory.
  */
@@ -38,6 +39,7 @@ static uint32_t goals[ROWS * KASTEPUHM_GOAL_STRIDE];
 static uint32_t limits[ROWS * KASTEPUHM_LIMIT_STRIDE];
 static uint32_t goal_points[ROWS];
 static uint32_t route[STEPS];
+static uint32_t work[POINTS * KASTEPUHM_WORK_STRIDE];
 /* One byte more than a text may have: its last line may come without a line feed. */
 static uint8_t house[MOST_BYTES + 1];
 /* A map may have about seven times its text's bytes; if this is too short, refusal 19 says so. */
@@ -236,9 +238,31 @@ static void print_route(size_t rndf_length, size_t mdf_length, char **words, int
         printf("and the tables are not as they should be\n");
 }
 
+/* The words are the start and how many rows of the work space are lent. */
+static void print_drive(size_t rndf_length, size_t mdf_length, char **words)
+{
+    uint32_t start = (uint32_t)strtoul(words[0], NULL, 10);
+    size_t rows = (size_t)strtoul(words[1], NULL, 10);
+    kastepuhm_answer a;
+    if (rows > POINTS)
+        rows = POINTS;
+    memset(work, 0xAA, sizeof work);
+    a = kastepuhm_check_mission(edition, rndf, rndf_length, mdf, mdf_length, segments, LENGTH(segments), lanes, LENGTH(lanes), zones, LENGTH(zones), spots, LENGTH(spots), points, LENGTH(points),
+                                checkpoints, LENGTH(checkpoints), stops, LENGTH(stops), exits, LENGTH(exits), goals, LENGTH(goals), limits, LENGTH(limits), start, work, rows * KASTEPUHM_WORK_STRIDE);
+    if (a.accepted)
+        print_summary(&a);
+    else
+        printf("refused %" PRIu32 " %" PRIu32 " %" PRIu32 " %" PRIu32 "\n", a.file, a.line, a.number, a.column);
+    if ((a.accepted != 0) == (all_zero(lanes, LENGTH(lanes)) && all_zero(goals, LENGTH(goals))))
+        printf("and the tables are not as they should be\n");
+    if (!all_zero(work, rows * KASTEPUHM_WORK_STRIDE))
+        printf("and the work space is not zero\n");
+}
+
 int main(int count, char **words)
 {
     size_t rndf_length, mdf_length;
+    int drive;
     kastepuhm_answer a;
     kastepuhm_write_answer w;
     if (count > 1 && strcmp(words[1], "--2006") == 0) {
@@ -246,12 +270,17 @@ int main(int count, char **words)
         words++;
         count--;
     }
-    if (count < 2 || count > 4 + STEPS) {
-        fputs("usage: caller [--2006] NETWORK [MISSION [START [POINT ..]]]\n", stderr);
+    drive = count > 3 && strcmp(words[3], "drive") == 0;
+    if (count < 2 || count > 4 + STEPS || (drive && count != 6)) {
+        fputs("usage: caller [--2006] NETWORK [MISSION [START [POINT ..] | drive START ROWS]]\n", stderr);
         return 2;
     }
     if (!load(words[1], rndf, &rndf_length) || (count >= 3 && !load(words[2], mdf, &mdf_length)))
         return 0;
+    if (drive) {
+        print_drive(rndf_length, mdf_length, words + 4);
+        return 0;
+    }
     if (count > 3) {
         print_route(rndf_length, mdf_length, words + 3, count - 3);
         return 0;

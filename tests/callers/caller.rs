@@ -1,5 +1,5 @@
 //! A worked caller in Rust, without crates: `caller NETWORK [MISSION]` reads an RNDF, alone or with its MDF, and prints the summary program's line, what stands in the tables, and
-//! then the length and first line of the house writing, and the network's map; `caller NETWORK MISSION START [POINT ..]` prints whether the route of these points is drivable from there (request L5). With `--2006` before all these words
+//! then the length and first line of the house writing, and the network's map; `caller NETWORK MISSION START [POINT ..]` prints whether the route of these points is drivable from there (request L5), `caller NETWORK MISSION drive START ROWS` whether the mission can be driven from there at all, with so many rows of work space (request L13). With `--2006` before all these words
 //! the texts are read in the edition of December 6, 2006 (request L10), else in the present one. The module `kastepuhm` is what to copy: the declarations and safe functions over them. include/kastepuhm.h says what every column and number means.
 //! Texts up to 8,192 bytes, 256 points and 128 rows of every other table, as the summary program has them.
 use std::io::Read;
@@ -142,6 +142,24 @@ mod kastepuhm {
             route: *const u32, route_length: usize,
         ) -> Answer;
 
+        fn kastepuhm_check_mission(
+            edition: u32,
+            rndf: *const u8, rndf_length: usize,
+            mdf: *const u8, mdf_length: usize,
+            segments: *mut u32, segments_length: usize,
+            lanes: *mut u32, lanes_length: usize,
+            zones: *mut u32, zones_length: usize,
+            spots: *mut u32, spots_length: usize,
+            points: *mut i32, points_length: usize,
+            checkpoints: *mut u32, checkpoints_length: usize,
+            stops: *mut u32, stops_length: usize,
+            exits: *mut u32, exits_length: usize,
+            goals: *mut u32, goals_length: usize,
+            limits: *mut u32, limits_length: usize,
+            start: u32,
+            work: *mut u32, work_length: usize,
+        ) -> Answer;
+
         fn kastepuhm_write_rndf(
             edition: u32,
             text: *const u8, text_length: usize,
@@ -257,6 +275,30 @@ mod kastepuhm {
                 t.limits.as_mut_ptr(), t.limits.len(),
                 start,
                 route.as_ptr(), route.len(),
+            )
+        }
+    }
+
+    /// Whether the mission can be driven from a start at all: as `read_pair`, or refused with 11 (file 0), 30 or 31. The work space has a word for each point and is zero afterwards, whatever is answered.
+    pub fn check_mission(edition: Edition, rndf: &[u8], mdf: &[u8], t: &mut Tables, start: u32, work: &mut [u32]) -> Answer {
+        // Safe: as in `read_rndf`.
+        unsafe {
+            kastepuhm_check_mission(
+                edition as u32,
+                rndf.as_ptr(), rndf.len(),
+                mdf.as_ptr(), mdf.len(),
+                t.segments.as_mut_ptr(), t.segments.len(),
+                t.lanes.as_mut_ptr(), t.lanes.len(),
+                t.zones.as_mut_ptr(), t.zones.len(),
+                t.spots.as_mut_ptr(), t.spots.len(),
+                t.points.as_mut_ptr(), t.points.len(),
+                t.checkpoints.as_mut_ptr(), t.checkpoints.len(),
+                t.stops.as_mut_ptr(), t.stops.len(),
+                t.exits.as_mut_ptr(), t.exits.len(),
+                t.goals.as_mut_ptr(), t.goals.len(),
+                t.limits.as_mut_ptr(), t.limits.len(),
+                start,
+                work.as_mut_ptr(), work.len(),
             )
         }
     }
@@ -456,6 +498,24 @@ fn run_route(edition: Edition, network: &str, mission: &str, start: u32, route: 
     Ok(())
 }
 
+fn run_drive(edition: Edition, network: &str, mission: &str, start: u32, rows: usize) -> Result<(), &'static str> {
+    let (rndf, mdf, mut t) = (load(network)?, load(mission)?, tables());
+    let mut work = vec![0xAAAA_AAAAu32; rows.min(256)];
+    let a = kastepuhm::check_mission(edition, &rndf, &mdf, &mut t, start, &mut work);
+    if a.accepted == 0 {
+        println!("refused {} {} {} {}", a.file, a.line, a.number, a.column);
+    } else {
+        print_summary(&a);
+    }
+    if (a.accepted != 0) == (t.lanes.iter().all(|&word| word == 0) && t.goals.iter().all(|&word| word == 0)) {
+        println!("and the tables are not as they should be");
+    }
+    if work.iter().any(|&word| word != 0) {
+        println!("and the work space is not zero");
+    }
+    Ok(())
+}
+
 fn run(edition: Edition, network: &str, mission: Option<&str>) -> Result<(), &'static str> {
     let rndf = load(network)?;
     let mdf = mission.map(load).transpose()?;
@@ -493,12 +553,17 @@ fn main() {
         edition = Edition::December2006;
         words.remove(1);
     }
+    let drive = words.len() == 6 && words[3] == "drive";
+    if drive {
+        words.remove(3);
+    }
     let numbers: Vec<u32> = words.iter().skip(3).filter_map(|word| word.parse().ok()).collect();
     if words.len() < 2 || (words.len() > 3 && numbers.len() + 3 != words.len()) {
-        eprintln!("usage: caller [--2006] NETWORK [MISSION [START [POINT ..]]]");
+        eprintln!("usage: caller [--2006] NETWORK [MISSION [START [POINT ..] | drive START ROWS]]");
         std::process::exit(2);
     }
     let done = match numbers.split_first() {
+        Some((&start, rows)) if drive => run_drive(edition, &words[1], &words[2], start, rows[0] as usize),
         Some((&start, route)) => run_route(edition, &words[1], &words[2], start, route),
         None => run(edition, &words[1], words.get(2).map(String::as_str)),
     };

@@ -1,8 +1,8 @@
 #!/usr/bin/env python3
 """Compares the library with the oracle on pairs of texts, well-formed and damaged (tests/damage.sh builds everything and runs this).
 
-    compare.py PROGRAM COUNT SEED [SORT]    PROGRAM is tests/damage/reader.c, compiled; COUNT pairs, in blocks that each have their own generator; with a SORT (pairs, maps, routes, ends) only that one
-    compare.py --mutants COUNT SEED [SORT]  no library: do the cases notice each small mistake of tests/oracle/mutate.py (and maps.py, routes.py) in a copy of the oracle?
+    compare.py PROGRAM COUNT SEED [SORT]    PROGRAM is tests/damage/reader.c, compiled; COUNT pairs, in blocks that each have their own generator; with a SORT (pairs, maps, routes, missions, ends) only that one
+    compare.py --mutants COUNT SEED [SORT]  no library: do the cases notice each small mistake of tests/oracle/mutate.py (and maps.py, routes.py, missions.py) in a copy of the oracle?
 
 Of every pair the reply, every name, every row count and every number of every lent table have to be the oracle's; every fourth RNDF is read alone as well. Each reply is counted by
 file and number, each refusal's column (request L7) by what its line is like: whether tabs or spaces lead it, whether it has a comment, whether several of its fields are at fault, and
@@ -16,13 +16,17 @@ properties, positions, the direction and the closing of rings. The cases worked 
 Routes (request L5), half as many as pairs, are judged over pairs that are mostly whole: good by construction, then damaged in none, one or two ways (tests/oracle/routes.py); the
 cases worked out by hand there are in the first block. Reply, names, counts and tables have to be the oracle's.
 
+Missions (request L13), half as many as pairs, over pairs that are mostly whole and yards in which much can't be reached: some have a good route by construction, others have any goals,
+another start, or a start that is no point, and work space with as many rows as points, more or fewer (tests/oracle/missions.py); the cases worked out by hand there are in the first block. The work
+space is lent with other numbers in it, ends where the memory ends and has to be zero afterwards, whatever is answered. tests/missions.sh holds the answers to those for routes.
+
 Line ends (only where SORT is `ends`): COUNT RNDFs with every end that a line can have, of up to so many signs of comments, separators and line ends (pairs.py, end_case).
 
-Every second pair, every fourth RNDF alone and half of the maps and routes are judged in the edition of December 6, 2006 (request L10), whose number is 1; the present one has any
+Every second pair, every fourth RNDF alone and half of the maps, routes and missions are judged in the edition of December 6, 2006 (request L10), whose number is 1; the present one has any
 other number.
 
-A case for the program, little endian: 1 byte mode (1 RNDF alone, 2 pair, 3 map, 4 route); the edition (4 bytes); both texts' lengths (8 bytes each) and how many bytes of each are given (4 each); the ten
-tables' lengths and the output's (4 each); the start and how many points the route has (4 each); both texts' bytes; the route's points (4 each). Its answer: kastepuhm_write_answer (30 words: the column stands behind the number), the lent tables' words, the output's bytes, one word that is 0 if nothing else was written.
+A case for the program, little endian: 1 byte mode (1 RNDF alone, 2 pair, 3 map, 4 route, 5 mission); the edition (4 bytes); both texts' lengths (8 bytes each) and how many bytes of each are given (4 each); the ten
+tables' lengths and the output's (4 each); the start and how many points the route has, or words the work space (4 each); both texts' bytes; the route's points (4 each). Its answer: kastepuhm_write_answer (30 words: the column stands behind the number), the lent tables' words, the output's bytes, one word that is 0 if nothing else was written.
 """
 import array
 import multiprocessing
@@ -41,14 +45,14 @@ from pairs import g, oracle         # noqa: E402
 ROOT = os.path.dirname(os.path.dirname(os.path.dirname(os.path.abspath(__file__))))
 KEPT = os.path.join(ROOT, "target", "damage")
 BLOCK = 500
-NUMBERS = [*range(1, 20), 21, 22, 23, 24, 25]
+NUMBERS = [*range(1, 20), 21, 22, 23, 24, 25, 30, 31]
 OF_A_LINE = [*range(3, 10), *range(12, 19), 25]     # the column hangs on what stands in the line
 REQUESTED = ["9 of L8", "8 of L10", "9 of L10"]     # those that a request gives, at their usual places
 LIKE = ["led", "comment", "several", "field 1", "field 2", "field 3"]
 MOST_KEPT = 20                      # cases that differ, of a block
-RNDF_ALONE, PAIR, MAP, ROUTE = 1, 2, 3, 4
+RNDF_ALONE, PAIR, MAP, ROUTE, MISSION = 1, 2, 3, 4, 5
 OLDER = 16                          # added to a mode: in the edition of December 6, 2006
-LABELS = {PAIR: "pair", RNDF_ALONE: "RNDF alone", MAP: "map", ROUTE: "route"}
+LABELS = {PAIR: "pair", RNDF_ALONE: "RNDF alone", MAP: "map", ROUTE: "route", MISSION: "mission"}
 HEAD = struct.Struct("<30I")        # kastepuhm_write_answer
 ROWS = ["segments", "lanes", "zones", "spots", "points", "checkpoints", "stops", "exits", "goals", "limits"]
 
@@ -72,13 +76,18 @@ def routes_of(rng, number, count):
     return [(ROUTE | OLDER * (k % 2), case) for k, case in enumerate([pairs.route_case(rng) for _ in range(count // 2)] + (pairs.routes_by_hand() if number == 0 else []))]
 
 
+def missions_of(rng, number, count):
+    """Missions, half as many; in the first block also those worked out by hand."""
+    return [(MISSION | OLDER * (k % 2), case) for k, case in enumerate([pairs.mission_case(rng, k % 2) for k in range(count // 2)] + (pairs.missions_by_hand() if number == 0 else []))]
+
+
 def ends_of(rng, number, count):
     """RNDFs alone with every line end that there is, one behind the other."""
     return [(RNDF_ALONE, pairs.end_case(number * BLOCK + k)) for k in range(count)]
 
 
-SORTS = {"pairs": pairs_of, "maps": maps_of, "routes": routes_of, "ends": ends_of}
-USUAL = ["pairs", "maps", "routes"]     # those that are run if none is named
+SORTS = {"pairs": pairs_of, "maps": maps_of, "routes": routes_of, "missions": missions_of, "ends": ends_of}
+USUAL = ["pairs", "maps", "routes", "missions"]     # those that are run if none is named
 
 
 def block_of(seed, number, count, sorts):
@@ -123,11 +132,13 @@ def judge(reader, mode, case):
         return done.reply, done.written or 0, done.output
     if kind_of(mode) == ROUTE:
         return reader.drive(rndf, mdf, case.room, case.start, case.route, edition), 0, b""
+    if kind_of(mode) == MISSION:
+        return reader.can_drive(rndf, mdf, case.room, case.start, len(case.route), edition), 0, b""
     return reader.read_pair(rndf, mdf, case.room, edition) if has_mdf(mode) else reader.read_rndf(rndf, case.room, edition), 0, b""
 
 
 def has_mdf(mode):
-    return kind_of(mode) in (PAIR, ROUTE)
+    return kind_of(mode) in (PAIR, ROUTE, MISSION)
 
 
 def lent(mode, case):
@@ -144,7 +155,7 @@ def answer_size(mode, case):
 
 def encode(mode, case):
     mdf, mdf_length = (case.mdf, case.mdf_length) if has_mdf(mode) else (b"", 0)
-    start, route = (case.start, case.route) if kind_of(mode) == ROUTE else (0, [])
+    start, route = (case.start, case.route) if kind_of(mode) in (ROUTE, MISSION) else (0, [])
     edition = 1 if mode & OLDER else (0, 2, 257, 0xFFFFFFFF)[len(case.rndf) % 4]
     head = struct.pack("<BI2Q2I13I", kind_of(mode), edition, case.rndf_length, mdf_length, len(case.rndf), len(mdf), *lent(mode, case), lent_output(mode, case), start, len(route))
     return head + case.rndf + mdf + struct.pack("<%dI" % len(route), *route)
@@ -210,6 +221,8 @@ def keep(seed, number, k, mode, case, want, got):
                 case.rndf_length, case.mdf_length, dict(zip(ROWS, lent(mode, case))), lent_output(mode, case)))
         if kind_of(mode) == ROUTE:
             f.write("start %d, route %s\n" % (case.start, case.route))
+        if kind_of(mode) == MISSION:
+            f.write("start %d, %d words of work space\n" % (case.start, len(case.route)))
         f.write("\nthe oracle:\n%s\n\nthe library:\n%s\n" % (oracles, ours))
     first = next(((a, b) for a, b in zip(oracles.splitlines(), ours.splitlines()) if a != b), ("the same", "the same, but it wrote elsewhere too"))
     return "DIFFERS %s (%s)\n  oracle:  %s\n  library: %s" % ((os.path.relpath(path, ROOT), ", ".join(case.kinds)) + tuple(x.strip()[:300] for x in first))
@@ -309,13 +322,14 @@ def print_counts(replies, kinds, shapes, columns):
     def of(mode, key):
         return replies.get((mode, key), 0)
     for older, edition in (0, "present edition"), (OLDER, "December 6, 2006"):
-        pair, alone, drawn, route = (kind | older for kind in (PAIR, RNDF_ALONE, MAP, ROUTE))
-        print("\n%-16s %10s %10s %12s %8s %8s" % (edition, "pair: RNDF", "pair: MDF", "RNDF alone", "map", "route"))
-        print("%-16s %21d %12d %8d %8d" % ("accepted", of(pair, "ok"), of(alone, "ok"), of(drawn, "ok"), of(route, "ok")))
+        pair, alone, drawn, route, mission = (kind | older for kind in (PAIR, RNDF_ALONE, MAP, ROUTE, MISSION))
+        print("\n%-16s %10s %10s %12s %8s %8s %8s" % (edition, "pair: RNDF", "pair: MDF", "RNDF alone", "map", "route", "mission"))
+        print("%-16s %21d %12d %8d %8d %8d" % ("accepted", of(pair, "ok"), of(alone, "ok"), of(drawn, "ok"), of(route, "ok"), of(mission, "ok")))
         for number in NUMBERS:
-            print("%-16d %10d %10d %12d %8d %8d" % (number, of(pair, (1, number)), of(pair, (2, number)), of(alone, (1, number)), of(drawn, (1, number)),
-                                                    sum(of(route, (file, number)) for file in (0, 1, 2))))
-    for mode in (PAIR, ROUTE):
+            print("%-16d %10d %10d %12d %8d %8d %8d" % (number, of(pair, (1, number)), of(pair, (2, number)), of(alone, (1, number)), of(drawn, (1, number)),
+                                                    *(sum(of(one, (file, number)) for file in (0, 1, 2)) for one in (route, mission))))
+        print("%-16s %61d" % ("11, file 0", of(mission, (0, 11))))
+    for mode in (PAIR, ROUTE, MISSION):
         print("\n%-28s %8s %8s" % ("damage (%ss)" % LABELS[mode], "drawn", "accepted"))
         for (_, kind), (drawn, taken) in sorted(item for item in kinds.items() if item[0][0] == mode):
             print("%-28s %8d %8d" % (kind[:28], drawn, taken))
@@ -352,11 +366,12 @@ def compare(program, count, seed, sorts):
     missing += ["%d in a line led by tabs or spaces" % n for n in OF_A_LINE if not columns.get((n, "led"))]
     missing += [which for which in REQUESTED if not any(one == which for one, _ in columns)]
     missing = missing if sorts == USUAL else []
+    missing += ["%d with file 0" % n for n in (11, 30, 31) if "missions" in sorts and not any(key == (0, n) for _, key in replies)]
     if missing:
         print("never came: " + ", ".join(map(str, missing)))
-    counts = [sum(n for (mode, _), n in replies.items() if kind_of(mode) == one) for one in (PAIR, RNDF_ALONE, ROUTE, MAP)]
+    counts = [sum(n for (mode, _), n in replies.items() if kind_of(mode) == one) for one in (PAIR, RNDF_ALONE, ROUTE, MISSION, MAP)]
     counts += [sum(replies.get((mode, "ok"), 0) for mode in (MAP, MAP | OLDER)), sum(n for (mode, _), n in replies.items() if mode & OLDER)]
-    print("\nseed %d: %d pairs, %d RNDFs alone, %d routes and %d maps (%d written), %d of them in the older edition, %d differ" % (seed, *counts, differing))
+    print("\nseed %d: %d pairs, %d RNDFs alone, %d routes, %d missions and %d maps (%d written), %d of them in the older edition, %d differ" % (seed, *counts, differing))
     return 1 if differing or missing else 0
 
 
@@ -373,7 +388,7 @@ def mutants(count, seed, sorts):
     right = [told(oracle, *c) for c in cases]
     source = open(oracle.__file__).read()
     survive = 0
-    mistakes = [mistake for sort in sorts for mistake in {"pairs": mutate.MUTANTS, "maps": maps.MUTANTS, "routes": pairs.routes.MUTANTS}[sort]]
+    mistakes = [mistake for sort in sorts for mistake in {"pairs": mutate.MUTANTS, "maps": maps.MUTANTS, "routes": pairs.routes.MUTANTS, "missions": pairs.missions.MUTANTS}[sort]]
     for old, new in mistakes:
         assert old in source, old
         mutant = types.ModuleType("mutant")

@@ -11,6 +11,7 @@ sys.path.insert(0, os.path.join(os.path.dirname(os.path.dirname(os.path.abspath(
 import generate as g    # noqa: E402
 import maps             # noqa: E402
 import oracle           # noqa: E402
+import missions         # noqa: E402
 import routes           # noqa: E402
 
 LARGEST = oracle.LARGEST_TEXT
@@ -337,7 +338,7 @@ def label(kind):
 
 class Case:
     """Two texts, how long each is said to be, how many numbers each table has (`room`), what was done to the texts, how many bytes are lent for the map (`out`), and a
-    route with its start."""
+    route with its start, or a work space."""
     __slots__ = ("rndf", "mdf", "rndf_length", "mdf_length", "room", "kinds", "out", "start", "route")
 
 
@@ -523,6 +524,10 @@ def end_case(k):
 def route_case(rng):
     """A route over a pair, one pair in twenty damaged."""
     made, start, route, kinds = routes.random_case(rng)
+    return over_pair(rng, made, start, route, kinds)
+
+
+def over_pair(rng, made, start, route, kinds):
     lines = {1: made.rndf_lines, 2: made.mdf_lines}
     if rng.random() < 0.05:
         file = rng.choice([1, 2])
@@ -534,6 +539,7 @@ def route_case(rng):
     if rng.random() < 0.02:
         short = rng.choice([t for t in rows if rows[t]])
         room[short] = oracle.STRIDE[short] * rows[short] - 1
+        kinds = kinds + ["a table too short"]
     rough = rng.choice([0, 0, 0.3])
     case = text_case(g.render(rng, lines[1], rough), g.render(rng, lines[2], rough), room, kinds or ["none"])
     case.start, case.route = start, route
@@ -545,5 +551,28 @@ def routes_by_hand():
     for _, rndf, mdf, start, route, _ in routes.HAND:
         case = text_case(rndf, mdf, {t: 40 * oracle.STRIDE[t] for t in oracle.TABLES}, ["by hand"])
         case.start, case.route = start, route
+        cases.append(case)
+    return cases
+
+
+# ---- missions (request L13): the case's route is the work space, with other numbers in it
+
+def mission_case(rng, older):
+    """A mission over a pair, one pair in twenty damaged. In the older edition zones have spots, mostly."""
+    made, start, rows, kinds = missions.random_case(rng, not older or rng.random() < 0.1)
+    likely = [0, 1, 2, max(rows - 1, 0), rows, rng.randrange(rows + 2), 1 << 31, routes.LARGEST]
+    case = over_pair(rng, made, start, [rng.choice(likely) for _ in range(rows)], kinds)
+    if rng.random() < 0.005:
+        file = rng.choice(["rndf_length", "mdf_length"])
+        setattr(case, file, LARGEST + rng.choice([1, 2, 1 << 20, (1 << 32) - LARGEST]))
+        case.kinds = case.kinds + ["a text too long"]
+    return case
+
+
+def missions_by_hand():
+    cases = []
+    for _, rndf, mdf, start, rows, _ in missions.HAND:
+        case = text_case(rndf, mdf, {t: 40 * oracle.STRIDE[t] for t in oracle.TABLES}, ["by hand"])
+        case.start, case.route = start, [5] * rows
         cases.append(case)
     return cases

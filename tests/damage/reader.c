@@ -2,7 +2,7 @@
  * Runs pairs of texts through the library, as many as stand on standard input, and writes what it answered and left in the lent tables (tests/damage/compare.py has the formats).
  *
  * Each text, each table, the output and the route is lent with nothing behind it: the memory ends there, so that a reader that goes one byte too far is stopped at once. Tables and
- * output are lent full of other numbers, with one before them that must stay; texts and route must stay too. A text may be lent longer than it is given here, up to MOST_BYTES, which
+ * output are lent full of other numbers, with one before them that must stay; texts and route must stay too. Of a mission the route is the work space, which must be zero afterwards. A text may be lent longer than it is given here, up to MOST_BYTES, which
  * costs no memory.
  */
 #define _GNU_SOURCE
@@ -13,7 +13,7 @@
 #include <string.h>
 #include <sys/mman.h>
 
-enum { RNDF_ALONE = 1, PAIR, MAP, ROUTE };
+enum { RNDF_ALONE = 1, PAIR, MAP, ROUTE, MISSION };
 enum { SEGMENTS, LANES, ZONES, SPOTS, POINTS, CHECKPOINTS, STOPS, EXITS, GOALS, LIMITS, TABLES };
 
 #define MOST_BYTES ((size_t)1 << 33)
@@ -104,6 +104,10 @@ static kastepuhm_write_answer answer(int mode)
         return kastepuhm_write_map(edition, TEXT(0), NETWORK, output_end - output_length, output_length);
     case ROUTE:
         read.answer = kastepuhm_check_route(edition, TEXT(0), TEXT(1), NETWORK, LENT(GOALS), LENT(LIMITS), start, route(), route_length);
+        return read;
+    case MISSION:
+        read.answer = kastepuhm_check_mission(edition, TEXT(0), TEXT(1), NETWORK, LENT(GOALS), LENT(LIMITS), start, route(), route_length);
+        memset(given_route, 0, route_length * sizeof *given_route);
         return read;
     default:
         exit(2);

@@ -1262,6 +1262,78 @@ def drive(rndf, mdf, room, start, route, edition=PRESENT):
     return reply
 
 
+# ---------------------------------------------------------------- missions
+
+def moves_from(network, a):
+    """The points to which one move leads from the point a (L5)."""
+    found = []
+    # "A move goes from a waypoint to the next in its lane;"
+    for first, points, *_ in network.lanes:
+        if first <= a and a + 1 < first + points:
+            found.append(a + 1)
+    # "along an exit;"
+    for exit_point, entry in network.exits:
+        if exit_point == a:
+            found.append(entry)
+    # "or, in one zone, between any two different points among perimeter and
+    # spots."
+    for first, points, _, spots, _ in network.zones:
+        zone = range(first, first + points + 2 * spots)
+        if a in zone:
+            found += [b for b in zone if b != a]
+    return found
+
+
+def led_to(network, begin):
+    """The points to which no move or more lead from some point of begin."""
+    found, due = set(), list(begin)
+    while due:
+        a = due.pop(0)
+        if a not in found:
+            found.add(a)
+            due += moves_from(network, a)
+    return found
+
+
+def check_mission(network, mission, start, rows):
+    """L13: None where the mission can be driven, else (file 0, 0 or the goal's
+    row, number, column 0).  rows: those of the lent work space."""
+    # "Work space is lent, one row a point"; "11 (file 0) for the work space"
+    if rows < len(network.points):
+        return 0, 0, 11, 0
+    # "30 start is no declared point"
+    if start >= len(network.points):
+        return 0, 0, 30, 0
+    points = dict(network.checkpoints)
+    before = None                       # the point of the goal before
+    for row, (number,) in enumerate(mission.goals):
+        if row == 0:
+            # "the first goal must be reachable from the start by no move or
+            # more,"
+            near = led_to(network, [start])
+        else:
+            # "each later goal from the one before by one move or more"
+            near = led_to(network, moves_from(network, before))
+        # "refused with the first goal that has none"; "31 a goal that can't be
+        # reached, its row in place of the line"
+        if points[number] not in near:
+            return 0, row, 31, 0
+        before = points[number]
+    return None
+
+
+def can_drive(rndf, mdf, room, start, rows, edition=PRESENT):
+    """Over a pair: the texts are read first and refused as the reader does; a
+    refusal leaves every lent table zero.  rows: those of the work space, which
+    "is zero afterwards either way"."""
+    reply = read_pair(rndf, mdf, room, edition)
+    if reply.accepted:
+        fault = check_mission(network_of(reply, rndf), mission_of(reply, mdf), start, rows)
+        if fault is not None:
+            refuse(reply, Refused(*fault), room, TABLES)
+    return reply
+
+
 # ----------------------------------------------------------------- summary
 
 SUMMARY_LARGEST = 8192              # "each up to 8,192 bytes"

@@ -15,6 +15,7 @@ import casefile
 import generate
 import lists
 import maps
+import missions
 import oracle
 import routes
 from oracle import (RNDF_TABLES, STRIDE, TABLES, drive, house_mdf, house_rndf, lookup,
@@ -329,7 +330,7 @@ class Routes(unittest.TestCase):
             if before.accepted:
                 network, mission = network_of(before, r), mission_of(before, m)
                 naive = routes.naive(network, mission.goals, start, route)
-                self.assertEqual(want if naive == "ok" else "0 %d %d" % naive, want, label)
+                self.assertEqual("ok" if naive == "ok" else "0 %d %d" % naive, want, label)
 
     def test_moves(self):
         """Every pair of rows, and rows that are none."""
@@ -379,6 +380,65 @@ class Routes(unittest.TestCase):
             r, m = generate.render(rng, made.rndf_lines, 1), generate.render(rng, made.mdf_lines, 1)
             reply = drive(r, m, room, start, route)
             self.assertEqual(reply.refusal, oracle.check_route(made.network, made.mission, start, route))
+
+
+class Missions(unittest.TestCase):
+    """L13."""
+
+    def test_by_hand(self):
+        for label, r, m, start, rows, want in missions.HAND:
+            reply = oracle.can_drive(r, m, WIDE, start, rows)
+            got = "ok" if reply.accepted else "%d %d %d" % reply.refusal[:3]
+            self.assertEqual(got, want, label)
+            before = read_pair(r, m, WIDE)
+            if want == "ok":
+                self.assertEqual(vars(reply), vars(before))
+            else:
+                self.assertEqual(reply.tables, {t: [0] * WIDE[t] for t in TABLES})
+            if before.accepted:
+                naive = missions.naive(network_of(before, r), mission_of(before, m).goals, start, rows)
+                self.assertEqual("ok" if naive == "ok" else "0 %d %d" % naive, want, label)
+
+    def test_moves(self):
+        """moves_from and is_move say the same."""
+        rng = random.Random(16)
+        for _ in range(60):
+            network = missions.yard(rng, True)[0].network
+            for a in range(len(network.points)):
+                onward = oracle.moves_from(network, a)
+                self.assertEqual([b for b in range(len(network.points) + 2) if oracle.is_move(network, a, b)], sorted(set(onward)))
+
+    def test_random(self):
+        """As the naive reading says; and "L5 has a good route exactly when this,
+        given the room, accepts": one by legs where it does, and none of the 200
+        shortest where it doesn't."""
+        rng = random.Random(17)
+        count = {}
+        for k in range(1500):
+            made, start, rows, _ = missions.random_case(rng, True, 0)
+            got = oracle.check_mission(made.network, made.mission, start, rows)
+            naive = missions.naive(made.network, made.mission.goals, start, rows)
+            self.assertEqual("ok" if got is None else got[1:3], naive)
+            count[got and got[2]] = count.get(got and got[2], 0) + 1
+            if got is None:
+                route = missions.legs(made.network, made.mission.goals, start)
+                self.assertIsNone(oracle.check_route(made.network, made.mission, start, route))
+            elif got[2] == 31:
+                walks = [[start]]
+                for _ in range(200):
+                    route = walks.pop(0)
+                    self.assertIsNotNone(oracle.check_route(made.network, made.mission, start, route))
+                    walks += [route + [b] for b in oracle.moves_from(made.network, route[-1])]
+                    if not walks:
+                        break
+        for number in (None, 11, 30, 31):
+            self.assertGreater(count[number], 30, count)
+
+    def test_route_by_construction(self):
+        rng = random.Random(18)
+        for _ in range(300):
+            made, start, _ = routes.good(rng, 0)
+            self.assertIsNone(oracle.check_mission(made.network, made.mission, start, len(made.network.points)))
 
 
 class Places(unittest.TestCase):
