@@ -2,6 +2,7 @@
 pub mod SameRows
 pub mod Entries
 pub mod SameTables
+pub mod Rooms
 -- Names.
 pub mod NamesStand
 -- References.

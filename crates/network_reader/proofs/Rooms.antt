@@ -1,56 +1,20 @@
 -- The test of room is right: it holds exactly if no table has fewer rows than needed. Assumes nothing.
-use mathlib.Core.Path.{_≡_, refl, sym, ap, _∙_}
+use mathlib.Core.Path.{_≡_, refl, sym}
 use mathlib.Core.Bool.{Bool, true, false}
-use Prim.Native.Nat.{ℕ}
-use lib.ListN.{length}
-use native.Mathlib.Omega.{arith}
-use borrow.Author.Tests.{leb-true, le-leb}
 use Rattle.terms.specs.Words.{pick}
 use Rattle.terms.proofs.Tests.{clash}
-use Rattle.rows.specs.Lay.{rowsOf}
-use Rattle.room.specs.Room.{fits}
 use Rattle.fill.specs.Counts.{Counts}
 use Rattle.table_words.specs.Words.{Lent, HasRoom}
-use Rattle.network_reader.specs.Reading.{all-four, partsFit, marksFit, room}
+use Rattle.law_tables.proofs.Rooms.{parts, marks, fit, parts-there, marks-there}
+use Rattle.network_reader.specs.Reading.{room}
 use Rattle.network_reader.specs.Replies.{rows-used}
-
-all-true : {R : Type 0} (a b c d : Bool) → all-four a b c d ≡ true → (a ≡ true → b ≡ true → c ≡ true → d ≡ true → R) → R
-all-true true true true true e k = k refl refl refl refl
-all-true true true true false e k = k refl refl refl e
-all-true true true false d e k = clash (sym e)
-all-true true false c d e k = clash (sym e)
-all-true false b c d e k = clash (sym e)
 
 both-true : {R : Type 0} (a b : Bool) → pick a b false ≡ true → (a ≡ true → b ≡ true → R) → R
 both-true true b e k = k refl e
 both-true false b e k = clash (sym e)
 
 pub has-room : (c : Counts) (t : Lent) → room (rows-used c) t ≡ true → HasRoom c t
-unfolding partsFit marksFit
-has-room c t e =
-    both-true (partsFit (rows-used c) (length (t .segments)) (length (t .lanes)) (length (t .zones)) (length (t .spots))) (marksFit (rows-used c) (length (t .points)) (length (t .checkpoints)) (length (t .stops)) (length (t .exits))) e
-    (λ p q. all-true (fits (c .segments) (length (t .segments)) 4) (fits (c .lanes) (length (t .lanes)) 5) (fits (c .zones) (length (t .zones)) 6) (fits (c .spots) (length (t .spots)) 2) p
-    (λ sg ln zn sp. all-true (fits (c .points) (length (t .points)) 2) (fits (c .checkpoints) (length (t .checkpoints)) 2) (fits (c .stops) (length (t .stops)) 1) (fits (c .exits) (length (t .exits)) 2) q
-    (λ pt ck st ex. record {
-      segments = leb-true (c .segments) (rowsOf (length (t .segments)) 4) sg;
-      lanes = leb-true (c .lanes) (rowsOf (length (t .lanes)) 5) ln;
-      zones = leb-true (c .zones) (rowsOf (length (t .zones)) 6) zn;
-      spots = leb-true (c .spots) (rowsOf (length (t .spots)) 2) sp;
-      points = leb-true (c .points) (rowsOf (length (t .points)) 2) pt;
-      checkpoints = leb-true (c .checkpoints) (rowsOf (length (t .checkpoints)) 2) ck;
-      stops = leb-true (c .stops) (rowsOf (length (t .stops)) 1) st;
-      exits = leb-true (c .exits) (rowsOf (length (t .exits)) 2) ex;
-    })))
+has-room c t e = both-true (parts c t) (marks c t) e (fit c t)
 
 pub room-there : (c : Counts) (t : Lent) → HasRoom c t → room (rows-used c) t ≡ true
-unfolding partsFit marksFit
-room-there c t h = rw (
-  le-leb (c .segments) (rowsOf (length (t .segments)) 4) (h .segments),
-  le-leb (c .lanes) (rowsOf (length (t .lanes)) 5) (h .lanes),
-  le-leb (c .zones) (rowsOf (length (t .zones)) 6) (h .zones),
-  le-leb (c .spots) (rowsOf (length (t .spots)) 2) (h .spots),
-  le-leb (c .points) (rowsOf (length (t .points)) 2) (h .points),
-  le-leb (c .checkpoints) (rowsOf (length (t .checkpoints)) 2) (h .checkpoints),
-  le-leb (c .stops) (rowsOf (length (t .stops)) 1) (h .stops),
-  le-leb (c .exits) (rowsOf (length (t .exits)) 2) (h .exits),
-) refl
+room-there c t h = λ i. pick (parts-there c t h i) (marks-there c t h i) false

@@ -22,7 +22,8 @@ use Rattle.refusal.specs.Shapes.{fault}
 use Rattle.counts.specs.declared.Counts.{Counts}
 use Rattle.network_reader.specs.declared.NetworkReply as DP
 use Rattle.network_reader.specs.declared.NetworkReply.the-variants as Reply
-use Rattle.network_reader.specs.Reading.{exit-line, checkpoint-line, faultLine, Referred, referred, joined, countsOf, partsFit, marksFit, room, referOf, answeredOf, outcome, tables-of, from-referred, judgedOf, from-filled, readOf}
+use Rattle.room.specs.Room.{partsFit, marksFit}
+use Rattle.network_reader.specs.Reading.{exit-line, checkpoint-line, faultLine, Referred, referred, joined, countsOf, room, referOf, answeredOf, outcome, tables-of, from-referred, judgedOf, from-filled, readOf}
 
 -- where an entry is not found, what the exits hold does not matter
 pub joined-told : (text : Bytes) (u k : DR.FirstRow) (ex : List ℕ) → referred (faultLine text u k) ex ≡ joined text (told u ex) k

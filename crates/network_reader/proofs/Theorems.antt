@@ -48,7 +48,8 @@ use Rattle.fault_lines.proofs.RndfFaults.{undeclared-in, repeated-in, exit-line
 use Rattle.refusal.specs.declared.References.the-variants as References
 use Rattle.refusal.specs.Shapes as Shape
 use Rattle.counts.specs.declared.Counts.{Counts}
-use Rattle.network_reader.specs.Reading.{most, partsFit, marksFit, room, countsOf, faultLine, Referred, right, wrong, referred, joined, referOf, Read, refused, accepted, tables-of, from-referred, judgedOf, from-filled, empty, readOf}
+use Rattle.room.specs.Room.{partsFit, marksFit}
+use Rattle.network_reader.specs.Reading.{most, room, countsOf, faultLine, Referred, right, wrong, referred, joined, referOf, Read, refused, accepted, tables-of, from-referred, judgedOf, from-filled, empty, readOf}
 use Rattle.network_reader.specs.Replies.{rows-used, AcceptsRndfIn, RefusesRndfIn, too-long, bad-line, unended, no-room, bad-reference}
 use Rattle.network_reader.proofs.Rooms.{has-room, room-there}
 use Rattle.network_reader.proofs.Referring.{refers}

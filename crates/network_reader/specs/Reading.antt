@@ -6,8 +6,7 @@ use lib.ListN.{length}
 use lib.Dec.{ltb}
 use Rattle.terms.specs.Ascii.{Bytes}
 use Rattle.terms.specs.Words.{pick}
-use Rattle.room.specs.Room.{fits, fitted}
-use Rattle.rows.specs.Strides.{segmentStride, laneStride, zoneStride, spotStride, pointStride, checkpointStride, stopStride, exitStride}
+use Rattle.room.specs.Room.{fitted, partsFit, marksFit}
 use Rattle.rows.specs.declared.FileRow.{FileRow}
 use Rattle.law.specs.Tables.{Lent, lent, zeros}
 use Rattle.grammar.specs.Editions.{Edition}
@@ -33,15 +32,6 @@ pub use Rattle.refusal.specs.Size.{most}
 -- ## Room
 unfoldable pub countsOf : Progress → Counts
 countsOf p = record { segments = p .segments; lanes = p .lanes; zones = p .zones; spots = p .spots; points = fitted (p .first + p .within); checkpoints = p .checkpoints; stops = p .stops; exits = p .exits }
-
-abbrev pub all-four : Bool → Bool → Bool → Bool → Bool
-all-four a b c d = pick a (pick b (pick c d false) false) false
-
-unfoldable pub partsFit : Counts → (segments lanes zones spots : ℕ) → Bool
-partsFit c sg ln zn sp = all-four (fits (c .segments) sg segmentStride) (fits (c .lanes) ln laneStride) (fits (c .zones) zn zoneStride) (fits (c .spots) sp spotStride)
-
-unfoldable pub marksFit : Counts → (points checkpoints stops exits : ℕ) → Bool
-marksFit c pt ck st ex = all-four (fits (c .points) pt pointStride) (fits (c .checkpoints) ck checkpointStride) (fits (c .stops) st stopStride) (fits (c .exits) ex exitStride)
 
 abbrev pub room : Counts → Lent → Bool
 room c t = pick (partsFit c (length (t .segments)) (length (t .lanes)) (length (t .zones)) (length (t .spots))) (marksFit c (length (t .points)) (length (t .checkpoints)) (length (t .stops)) (length (t .exits))) false

@@ -17,23 +17,16 @@ use references::resolve_exits;
 use refusal::Fault;
 use refusal::References;
 use room::clear_tables;
-use room::fits;
 use room::in_word;
-use rows::CHECKPOINT_STRIDE;
-use rows::EXIT_STRIDE;
+use room::marks_fit;
+use room::parts_fit;
 use rows::FileRow;
-use rows::LANE_STRIDE;
-use rows::POINT_STRIDE;
-use rows::SEGMENT_STRIDE;
-use rows::SPOT_STRIDE;
-use rows::STOP_STRIDE;
-use rows::ZONE_STRIDE;
 use statement::kinds;
 ghost use mathlib.Core.Path.{_≡_};
 ghost use Rattle.edition.specs.Editions.{inner};
 ghost use Rattle.network.specs.Storing.{memory};
 ghost use Rattle.law.specs.Tables.{lent};
-ghost use Rattle.network_reader.specs.Reading.{partsFit, marksFit, countsOf, faultLine, referred, referOf, answeredOf, outcome, judgedOf, readOf};
+ghost use Rattle.network_reader.specs.Reading.{countsOf, faultLine, referred, referOf, answeredOf, outcome, judgedOf, readOf};
 
 // The rows used and the file's own row; or what is at fault.
 pub enum NetworkReply {
@@ -102,32 +95,6 @@ fn refer(
     );
     let repeated = first_repeat(checkpoints, gained.checkpoints);
     fault_line(text, undeclared, repeated)
-}
-
-fn parts_fit(c: Counts, segments: usize, lanes: usize, zones: usize, spots: usize) -> bool
-    ensures { λ r. ⌜ r ≡ partsFit c segments lanes zones spots ⌝ }
-{
-    if fits(c.segments, segments, SEGMENT_STRIDE) {
-        if fits(c.lanes, lanes, LANE_STRIDE) {
-            if fits(c.zones, zones, ZONE_STRIDE) {
-                return fits(c.spots, spots, SPOT_STRIDE);
-            }
-        }
-    }
-    false
-}
-
-fn marks_fit(c: Counts, points: usize, checkpoints: usize, stops: usize, exits: usize) -> bool
-    ensures { λ r. ⌜ r ≡ marksFit c points checkpoints stops exits ⌝ }
-{
-    if fits(c.points, points, POINT_STRIDE) {
-        if fits(c.checkpoints, checkpoints, CHECKPOINT_STRIDE) {
-            if fits(c.stops, stops, STOP_STRIDE) {
-                return fits(c.exits, exits, EXIT_STRIDE);
-            }
-        }
-    }
-    false
 }
 
 // A number that does not fit into 32 bits is the largest that does. No text that is taken has so many points.

@@ -7,8 +7,8 @@ use Rattle.network_reader.proofs.judge_rows.Tie as tie
 use Rattle.network_reader.proofs.judge_rows.Reads as reads
 use Rattle.network_reader.proofs.judge_rows.Lts as lts
 use Rattle.network_reader.proofs.answered.Reads as answered-reads
-use Rattle.network_reader.proofs.marks_fit.Reads as marks-fit-reads
-use Rattle.network_reader.proofs.parts_fit.Reads as parts-fit-reads
+use Rattle.room.proofs.marks_fit.Reads as marks-fit-reads
+use Rattle.room.proofs.parts_fit.Reads as parts-fit-reads
 use Rattle.network_reader.proofs.refer.Reads as refer-reads
 use Rattle.network_reader.proofs.rows_used.Reads as rows-used-reads
 
