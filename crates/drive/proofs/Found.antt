@@ -16,9 +16,9 @@ use Rattle.reach_law.proofs.Legs.{LaterStuck, Stuck}
 use Rattle.reach_law.proofs.Settled.{refused-at}
 use Rattle.legs.specs.Legs.{first-stuck}
 use Rattle.legs.proofs.Told.{Tells, So, first-so}
-use Rattle.reach.specs.declared.Verdict.{Verdict}
-use Rattle.reach.specs.declared.Verdict.the-variants as Verdict
-use Rattle.reach.specs.Judged.{verdict}
+use Rattle.drive.specs.declared.Verdict.{Verdict}
+use Rattle.drive.specs.declared.Verdict.the-variants as Verdict
+use Rattle.drive.specs.Verdict.{verdict}
 
 -- the first goal that has no chain is one of them
 later-below : (Move : ℕ → ℕ → Type 0) (p : ℕ) (goals : List ℕ) (k : ℕ) → LaterStuck Move p goals k → k < length goals

@@ -1,0 +1,2 @@
+-- What a mission gets, executable.
+pub mod Verdict
