@@ -1,4 +1,4 @@
--- A text that spells a network has one house writing and one map, one that spells a mission has one house writing; it fits an output, or it does not; and what the reader accepted spells one. Assumes nothing.
+-- A text that spells a network has one house writing, one map and one packed form, one that spells a mission has one house writing; it fits an output, or it does not; and what the reader accepted spells one. Assumes nothing.
 use mathlib.Core.Path.{_≡_, refl, sym, ap, _∙_}
 use mathlib.Core.Logic.{_⊎_, inl, inr}
 use Prim.Native.Nat.{ℕ}
@@ -12,6 +12,7 @@ use Rattle.text.proofs.Theorems.{one-rndf-in, one-mdf}
 use Rattle.law_spelling.proofs.Texts.{rndf-back-in, mdf-back-in}
 use Rattle.editions.proofs.Later.{later}
 use Rattle.map_law.specs.Map.{geojson}
+use Rattle.packed_law.specs.Packed.{packed-form}
 use Rattle.house_text.specs.House.{HouseRndf, HouseMdf}
 use Rattle.house_text.specs.HouseText.{house-rndf, house-mdf}
 use Rattle.house_text.proofs.Lawful.{house-rndf-only, house-rndf-is, house-mdf-only, house-mdf-is}
@@ -28,7 +29,7 @@ use Rattle.replies.specs.declared.RndfReply.the-variants as Reply
 use Rattle.replies.specs.declared.PairReply.the-variants as Pair
 use Rattle.replies.specs.Replies.{ReadsRndf, ReadsPair}
 use Rattle.replies.proofs.Said.{accepted-filled, pair-accepted-filled}
-use Rattle.writings.specs.Writes.{MapOf}
+use Rattle.writings.specs.Writes.{MapOf, PackedOf}
 
 -- ## Writings
 -- a writing of the network that a text spells
@@ -63,6 +64,13 @@ pub map-one : (ed : Edition) → OneWriting ed MapOf
 map-one ed = record {
   there = λ n text s. record { net = n; writing = geojson n; spelled = s; house = refl };
   same = λ text x y. x .house ∙ ap geojson (one-net ed text x y) ∙ sym (y .house);
+}
+
+-- a packed form is too
+pub packed-one : (ed : Edition) → OneWriting ed PackedOf
+packed-one ed = record {
+  there = λ n text s. record { net = n; writing = packed-form n; spelled = s; house = refl };
+  same = λ text x y. x .house ∙ ap packed-form (one-net ed text x y) ∙ sym (y .house);
 }
 
 pub mdf-writing-one : (ed : Edition) (mdf : Bytes) (x y : MdfWriting ed mdf) → x .writing ≡ y .writing

@@ -1,4 +1,4 @@
--- THE THEOREM of document 01's "Prove that no second reply or memory would satisfy it", for the writers of an RNDF's network: the contract settles the reply, every lent word and every byte of the lent output, for all texts, tables and outputs; and some reply and memory satisfy it. For every writing that an accepted network has exactly one of: the house writing (`rndf-write-..`) and the map (`map-..`). Assumes nothing.
+-- THE THEOREM of document 01's "Prove that no second reply or memory would satisfy it", for the writers of an RNDF's network: the contract settles the reply, every lent word and every byte of the lent output, for all texts, tables and outputs; and some reply and memory satisfy it. For every writing that an accepted network has exactly one of: the house writing (`rndf-write-..`), the map (`map-..`) and the packed form (`packed-..`). Assumes nothing.
 use mathlib.Core.Path.{_≡_, refl, sym, ap, ap₂, subst, _∙_}
 use mathlib.Core.Logic.{_⊎_, inl, inr}
 use Prim.Native.Nat.{ℕ}
@@ -16,13 +16,13 @@ use Rattle.replies.proofs.Settled.{rndf-settled, rndf-some}
 use Rattle.replies.proofs.Said.{never-both}
 use Rattle.writings.specs.declared.WriteReply.{WriteReply}
 use Rattle.writings.specs.declared.WriteReply.the-variants as Write
-use Rattle.writings.specs.Writes.{Writes, WritesRndf, MapOf, WritesMap}
+use Rattle.writings.specs.Writes.{Writes, WritesRndf, MapOf, WritesMap, PackedOf, WritesPacked}
 use Rattle.writings.specs.Writes as W
 use Rattle.house_text.specs.House.{HouseRndf}
 use Rattle.line.specs.Content.{Field}
 use Rattle.grammar.specs.Editions.{Edition, law-of}
 use Rattle.law.specs.Network.{Network, reading}
-use Rattle.writings.proofs.OneWriting.{WritingOf, OneWriting, house-one, map-one, fits-or-not, accepted-written}
+use Rattle.writings.proofs.OneWriting.{WritingOf, OneWriting, house-one, map-one, packed-one, fits-or-not, accepted-written}
 
 -- what the writer replies to a text that the reader replied so to, if it writes so many bytes
 abbrev reply-of : ℕ → RndfReply → WriteReply
@@ -69,7 +69,7 @@ module _ (ed : Edition) (Writing : Network Field → Bytes → Type 0) (one : On
   pub write-some : Some
   write-some = let x = rndf-some ed text t in by-reply (x .0) (x .1) (x .2)
 
--- ## The house writing, and the map
+-- ## The house writing, the map and the packed form
 module _ (ed : Edition) (text : Bytes) (t : Lent) (lent : ℕ) where
   abbrev pub RndfSome : Type 0
   RndfSome = Some ed HouseRndf (house-one ed) text t lent
@@ -88,3 +88,12 @@ module _ (ed : Edition) (text : Bytes) (t : Lent) (lent : ℕ) where
 
   pub map-some : MapSome
   map-some = write-some ed MapOf (map-one ed) text t lent
+
+  pub packed-settled : (r r′ : WriteReply) (l l′ : Lent) (o o′ : Bytes) → WritesPacked (reading (law-of ed)) text t lent r l o → WritesPacked (reading (law-of ed)) text t lent r′ l′ o′ → (r ≡ r′) × (l ≡ l′) × (o ≡ o′)
+  packed-settled = write-settled ed PackedOf (packed-one ed) text t lent
+
+  abbrev pub PackedSome : Type 0
+  PackedSome = Some ed PackedOf (packed-one ed) text t lent
+
+  pub packed-some : PackedSome
+  packed-some = write-some ed PackedOf (packed-one ed) text t lent

@@ -5,6 +5,7 @@ use Rattle.law.specs.Network.{Network, Mission, Rules, SpellsNetwork, SpellsMis
 use Rattle.law.specs.Tables.{Lent, MissionLent, mission-zeros}
 use Rattle.law.specs.Tables as Tables
 use Rattle.map_law.specs.Map.{geojson}
+use Rattle.packed_law.specs.Packed.{packed-form}
 use Rattle.house_text.specs.House.{HouseRndf, HouseMdf}
 use Rattle.output.specs.Output.{zeros, Fits, filled}
 use Rattle.rows.specs.declared.FileRow.{FileRow}
@@ -41,6 +42,13 @@ MapOf n writing = writing ≡ geojson n
 
 abbrev pub WritesMap : Rules → (text : Bytes) → Lent → (lent : ℕ) → WriteReply → (left : Lent) → (out : Bytes) → Type 0
 WritesMap rules = Writes rules MapOf
+
+-- L11: "Pack an accepted network"
+abbrev pub PackedOf : Network Field → Bytes → Type 0
+PackedOf n writing = writing ≡ packed-form n
+
+abbrev pub WritesPacked : Rules → (text : Bytes) → Lent → (lent : ℕ) → WriteReply → (left : Lent) → (out : Bytes) → Type 0
+WritesPacked rules = Writes rules PackedOf
 
 -- ## The MDF of a pair. u: the goals and limits as they were lent
 pub data WritesMdf (rules : Rules) (rndf mdf : Bytes) (t : Lent) (u : MissionLent) (lent : ℕ) (reply : WriteMdfReply) (left : Lent) (mission-left : MissionLent) (out : Bytes) : Type 0 where

@@ -1,9 +1,9 @@
-// What the writers `write_rndf`, `write_map` and `write_mdf` reply, and their contracts, apart from the code that keeps them. One contract, `Writes`, serves every writing of a network. There is no code here.
+// What the writers `write_rndf`, `write_map`, `write_packed` and `write_mdf` reply, and their contracts, apart from the code that keeps them. One contract, `Writes`, serves every writing of a network. There is no code here.
 //
 // specs/Writes: the contracts, what a reader must believe. proofs/Settled, proofs/MdfSettled: no second reply and no second memory satisfies them, and one does, for all texts, tables
-// and outputs; from the readers' contracts (`replies`) and proofs/OneWriting: a text has one house writing and one map.
+// and outputs; from the readers' contracts (`replies`) and proofs/OneWriting: a text has one house writing, one map and one packed form.
 //
-// Rests on `replies`, `house_text`, `map_law`, `output` and what they rest on.
+// Rests on `replies`, `house_text`, `map_law`, `packed_law`, `output` and what they rest on.
 use counts::Counts;
 use counts::MissionCounts;
 use refusal::Refusal;
