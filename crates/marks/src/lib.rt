@@ -3,7 +3,7 @@
 // Each test goes once over each table. It keeps a mark for each number from 1 to 32,768, eight to a byte; the marks are its own, cleared before it begins.
 //
 // specs/Rows and specs/Tests are what others cite: what rows say, and each test over the numbers that were there; neither knows of marks. specs/Marks: the marks, which
-// only contracts of private functions here cite. Only that file, proofs/Marks, `mark` and `is_marked` with their proofs, and the marks' type below know how marks are kept.
+// only contracts of `is_marked`, `mark` and private functions here cite (`packed_parts` marks the numbers of packed checkpoints). Only that file, proofs/Marks, `mark` and `is_marked` with their proofs, and the marks' type below know how marks are kept.
 // proofs/Seen: the marks say what is among the numbers before. proofs/Walked: the loops' laws. proofs/Rows: what rows say over tables of given rows, for the crates above.
 //
 // Rests on `fill` (the first fault of a list), `read_rows`, `rows`, `units` and `terms`, and on what `fill` rests on.
@@ -34,7 +34,7 @@ pub enum BadLimit {
 
 // ## Marks
 // Only the numbers 1 to 32,768 have a mark; that of a number is bit (number - 1) % 8, the lowest bit first, of byte (number - 1) / 8.
-fn is_marked(marks: &[u8; 4096], number: u16) -> bool
+pub fn is_marked(marks: &[u8; 4096], number: u16) -> bool
     ensures { λ r. ⌜ r ≡ isMarked (now (marks .entry)) number ⌝ }
 {
     if 1 <= number {
@@ -47,7 +47,7 @@ fn is_marked(marks: &[u8; 4096], number: u16) -> bool
     false
 }
 
-fn mark(marks: &mut [u8; 4096], number: u16)
+pub fn mark(marks: &mut [u8; 4096], number: u16)
     ensures { λ _. ⌜ now (marks .exit) ≡ withMark (now (marks .entry)) number ⌝ }
 {
     if 1 <= number {

@@ -1,0 +1,4 @@
+-- The laws of the loops.
+pub mod NumberLaws
+pub mod EntryLaws
+pub mod PartLaws
