@@ -1,0 +1,2 @@
+-- What is judged.
+pub mod Judgement
