@@ -1,0 +1,2 @@
+-- The laws of the loops.
+pub mod Storing

@@ -1,0 +1,2 @@
+-- What the program does, as the contract says it.
+pub mod Steps

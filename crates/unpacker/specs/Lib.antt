@@ -1,0 +1,2 @@
+-- What is told of bytes.
+pub mod Telling
