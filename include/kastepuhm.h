@@ -9,9 +9,10 @@
  *
  * What it does
  *   It reads the text of a route network (RNDF) and of a mission (MDF) in the format of March 14, 2007, or in its edition of December 6, 2006, as document 01 narrows it, and either fills
- *   the tables that you lend and accepts, or refuses with file, line, one number and the column in that line. It also puts the house writing of either file, or a map of the network, into an output that you lend, tells whether a
- *   route is drivable, and whether a mission can be driven at all. That it does so for all texts, all tables, all outputs, all routes and all work spaces is proved of its source (crates/yard, crates/replies/specs/Replies.antt,
- *   crates/writings/specs/Writes.antt, crates/pair_checks/specs/Checks.antt, crates/reach_checks/specs/Checks.antt); the compiler, the declarations below and your calls are not part of that proof.
+ *   the tables that you lend and accepts, or refuses with file, line, one number and the column in that line. It also puts the house writing of either file, a map of the network, or the network packed for a radio, into an output
+ *   that you lend, and fills the tables from a packed network; and it tells whether a route is drivable, and whether a mission can be driven at all. That it does so for all texts, all packed bytes, all tables, all outputs, all
+ *   routes and all work spaces is proved of its source (crates/yard, crates/replies/specs/Replies.antt, crates/writings/specs/Writes.antt, crates/unpackings/specs/Unpacks.antt, crates/pair_checks/specs/Checks.antt,
+ *   crates/reach_checks/specs/Checks.antt); the compiler, the declarations below and your calls are not part of that proof.
  *
  * What you hand over
  *   Every slice is a pointer and then its length: how many elements it has, not how many rows or bytes. Nothing is asked of what a slice holds, and no length is too short:
@@ -22,15 +23,15 @@
  *
  * Who owns what
  *   Everything is yours before, during and after the call. The library keeps no pointer, allocates nothing, has no state of its own, prints nothing, reads no file and always
- *   returns. Calls in several threads at once do not disturb each other as long as no two of them write the same tables, work space or output; texts may be shared.
+ *   returns. Calls in several threads at once do not disturb each other as long as no two of them write the same tables, work space or output; texts and packed bytes may be shared.
  *
  * Stack, as the kit's compiler builds it (tests/stack.py measures it)
- *   kastepuhm_read_rndf, kastepuhm_write_rndf and kastepuhm_write_map take less than 8 KiB, kastepuhm_read_pair, kastepuhm_write_mdf, kastepuhm_check_route and kastepuhm_check_mission less than 12 KiB: 4,096 bytes
- *   of marks for each file are in it.
+ *   kastepuhm_read_rndf, kastepuhm_write_rndf, kastepuhm_write_map, kastepuhm_write_packed and kastepuhm_read_packed take less than 8 KiB, kastepuhm_read_pair, kastepuhm_write_mdf, kastepuhm_check_route and
+ *   kastepuhm_check_mission less than 12 KiB: 4,096 bytes of marks for each file, or for the packed bytes, are in it.
  *   kastepuhm_point_of takes a few words. Give a thread that calls them a stack to match.
  *
  * Time
- *   Linear in the length of the texts, of the lent tables and of the lent output; of kastepuhm_points_of, kastepuhm_check_route and kastepuhm_check_mission, see there.
+ *   Linear in the length of the texts, of the lent tables and of the lent output; of kastepuhm_points_of, kastepuhm_check_route, kastepuhm_check_mission and kastepuhm_read_packed, see there.
  */
 #ifndef KASTEPUHM_H
 #define KASTEPUHM_H
@@ -42,7 +43,7 @@
 extern "C" {
 #endif
 
-/* A longer text is refusal 1. */
+/* A longer text is refusal 1, and so are longer packed bytes. */
 #define KASTEPUHM_LONGEST_TEXT 16777215u
 
 /*
@@ -161,7 +162,7 @@ enum {
 /*
  * A name: its bytes are text[start] to text[start + length - 1] of the text that you lent (an accepted name lies wholly inside it; no 0 byte ends it), 1 to 128 of them.
  * A missing name is 0, 0. Print one by printf("%.*s", (int)name.length, (const char *)text + name.start). Names last as long as you keep that text. There is no function to ask for
- * a name, since the library cannot return a part of your text.
+ * a name, since the library cannot return a part of your text. Of a network that kastepuhm_read_packed gave back, the packed bytes take the text's place: a name is bytes + start.
  */
 typedef struct kastepuhm_name {
     uint32_t start;
@@ -171,7 +172,7 @@ typedef struct kastepuhm_name {
 /* What a reader answers. Of an RNDF alone the fields of the MDF are 0; of a refusal every field is 0 but for file, line, number and column. */
 typedef struct kastepuhm_answer {
     uint32_t accepted;             /* 1: accepted, 0: refused */
-    uint32_t file;                 /* of a refusal: 1 the RNDF, 2 the MDF, 0 neither (20 to 24, 30, 31, and 11 for the work space); 0 where accepted */
+    uint32_t file;                 /* of a refusal: 1 the RNDF (1 and 11 of a packed one too), 2 the MDF, 0 neither (20 to 24, 27 to 31, and 11 for the work space); 0 where accepted */
     uint32_t line;                 /* of a refusal: counted from 1; 0 where there is none, and where accepted; of 22 and 23 see kastepuhm_check_route, of 31 kastepuhm_check_mission */
     uint32_t number;               /* of a refusal: see below; 0 where accepted */
     uint32_t column;               /* of a refusal: where in its line, counted in bytes from 1 (a tab is one byte); 0 where the line is 0, for 10, 20 to 24 and 31, and where accepted */
@@ -185,7 +186,7 @@ typedef struct kastepuhm_answer {
     uint32_t exits;
     uint32_t goals;
     uint32_t limits;
-    kastepuhm_name rndf_name;      /* in the RNDF's text */
+    kastepuhm_name rndf_name;      /* in the RNDF's text, or in the packed bytes */
     kastepuhm_name rndf_version;   /* format_version; may be missing */
     kastepuhm_name rndf_date;      /* creation_date; may be missing */
     kastepuhm_name mdf_name;       /* in the MDF's text */
@@ -200,7 +201,7 @@ typedef struct kastepuhm_answer {
  * where a field begins: the first one for 5, 6, 7, 18 and 25, the one at fault, leftmost first, for 8, 9 and 12 to 17 (the maximum where it is below the minimum).
  */
 enum {
-    KASTEPUHM_TEXT_TOO_LONG = 1,       /* the text is over 16,777,215 bytes (line 0) */
+    KASTEPUHM_TEXT_TOO_LONG = 1,       /* the text, or the packed bytes, are over 16,777,215 bytes (line 0) */
     KASTEPUHM_LINE_TOO_LONG = 2,       /* the line is over 512 bytes */
     KASTEPUHM_BAD_COMMENT = 3,         /* the comment is not closed, or something other than tabs and spaces follows it */
     KASTEPUHM_BAD_BYTE = 4,            /* a byte that is not allowed */
@@ -225,6 +226,9 @@ enum {
     KASTEPUHM_GOAL_NOT_MET = 23,       /* a goal is not met in order, the first (line: the goal's row, from 0) */
     KASTEPUHM_WRONG_END = 24,          /* the route does not end at the last goal's point (line 0) */
     KASTEPUHM_BARE_SPOT = 25,          /* the spot has no checkpoint (line: its first waypoint's, where that has no fault of 2 to 9) */
+    KASTEPUHM_OTHER_VERSION = 27,      /* 27 to 29: kastepuhm_read_packed only, behind 1 and before 11, in this order, file 0, line 0: there are no bytes, or they are of another version than 1 */
+    KASTEPUHM_WRONG_LENGTH = 28,       /* the first length is cut short or is not the count of bytes behind it, or a record runs past the end */
+    KASTEPUHM_NO_NETWORK = 29,         /* the records are not the packed form of a network */
     KASTEPUHM_NO_START = 30,           /* 30 and 31: kastepuhm_check_mission only, after all others, in this order, file 0: the start is no declared point (line 0) */
     KASTEPUHM_NO_WAY = 31              /* a goal can't be reached, from the start or from the goal before, the first (line: the goal's row, from 0) */
 };
@@ -324,7 +328,8 @@ kastepuhm_answer kastepuhm_check_mission(
 
 /*
  * The writers. Two put the house writing of a file into `out`: one tab between fields, a line feed after every line, no comment, blank line or carriage return, options in their
- * listed order, no sign before 0.000000. What was written is read again as the same network or mission. One puts the map of a network there, as GeoJSON: see kastepuhm_write_map.
+ * listed order, no sign before 0.000000. What was written is read again as the same network or mission. One puts the map of a network there, as GeoJSON: see kastepuhm_write_map. One puts the packed network there: see
+ * kastepuhm_write_packed.
  *
  * A writer reads the texts first, as the reader of the same texts does, and refuses as it does. Where it accepts, the tables hold what that reader leaves, and the answer has its
  * counts and names; these names are still places in the text that you lent, not in `out`.
@@ -335,7 +340,8 @@ kastepuhm_answer kastepuhm_check_mission(
  *
  * How long it has to be: a house writing has at most one byte more than its text (the line feed of an unfinished last line; all else only becomes shorter). Lend
  * text_length + 1 bytes and refusal 19 only comes where the writing itself has over 16,777,215. This bound is not part of what is proved. A map is longer than its text, often
- * several times: lend 16,777,215 bytes, and refusal 19 only comes where it has more.
+ * several times: lend 16,777,215 bytes, and refusal 19 only comes where it has more. A packed network is shorter than its text: lend text_length bytes, and refusal 19 never comes. That is
+ * counted by hand from the format and not proved.
  */
 typedef struct kastepuhm_write_answer {
     kastepuhm_answer answer;       /* as the reader of these texts answers, or refusal 19 */
@@ -373,6 +379,23 @@ kastepuhm_write_answer kastepuhm_write_map(
     uint32_t *exits, size_t exits_length,
     uint8_t *out, size_t out_length);
 
+/*
+ * The network of an RNDF, packed for a radio: a version byte, 1, the length of all that follows, and then a record for the file and for each row of each table. docs/PACKED.md lays its bytes
+ * down. One network has one packed form: how its text is written, and in which edition it is read, leaves no trace. kastepuhm_read_packed gives the network back.
+ */
+kastepuhm_write_answer kastepuhm_write_packed(
+    uint32_t edition,
+    const uint8_t *text, size_t text_length,
+    uint32_t *segments, size_t segments_length,
+    uint32_t *lanes, size_t lanes_length,
+    uint32_t *zones, size_t zones_length,
+    uint32_t *spots, size_t spots_length,
+    int32_t *points, size_t points_length,
+    uint32_t *checkpoints, size_t checkpoints_length,
+    uint32_t *stops, size_t stops_length,
+    uint32_t *exits, size_t exits_length,
+    uint8_t *out, size_t out_length);
+
 /* The house writing of the MDF of a pair. The RNDF is read too, and not written. */
 kastepuhm_write_answer kastepuhm_write_mdf(
     uint32_t edition,
@@ -389,6 +412,30 @@ kastepuhm_write_answer kastepuhm_write_mdf(
     uint32_t *goals, size_t goals_length,
     uint32_t *limits, size_t limits_length,
     uint8_t *out, size_t out_length);
+
+/*
+ * A packed network, as kastepuhm_write_packed makes it (docs/PACKED.md). It answers and fills the tables as kastepuhm_read_rndf does for the text that was packed, but the names lie in the packed
+ * bytes: a name is bytes + start. The fields of the MDF are 0. There is no edition: what the older one accepts, the present one accepts too, so the present rules serve both.
+ *
+ * Refusals, tried in this order: 1 (file 1) for over 16,777,215 bytes; then, with file 0, 27 for no bytes or another version, 28 for a length that is not right, so also for bytes that are missing
+ * or left over at the end, 29 for records that are not the packed form of a network; then 11 (file 1) where a table has fewer rows than needed. Line and column are 0, and every number of
+ * every lent table is 0 then. What is accepted is the packed form of a network that some text spells, all ranges and references right; the text itself may be too long for a reader. But a form
+ * carries no check sum: bytes that a radio changed into the form of another network are accepted as that network.
+ *
+ * No table needs more rows than bytes_length / 6: each row has a record, and the shortest has six bytes. (That too is counted by hand and not proved.)
+ *
+ * Time is linear in the length of the bytes and of the lent tables, but for the exits: each takes the logarithm of the number of spots besides.
+ */
+kastepuhm_answer kastepuhm_read_packed(
+    const uint8_t *bytes, size_t bytes_length,
+    uint32_t *segments, size_t segments_length,
+    uint32_t *lanes, size_t lanes_length,
+    uint32_t *zones, size_t zones_length,
+    uint32_t *spots, size_t spots_length,
+    int32_t *points, size_t points_length,
+    uint32_t *checkpoints, size_t checkpoints_length,
+    uint32_t *stops, size_t stops_length,
+    uint32_t *exits, size_t exits_length);
 
 /* Where no row has the number. */
 #define KASTEPUHM_NO_POINT 4294967295u

@@ -3,7 +3,7 @@
 # tests/callers.sh --built   the same with the library as it was last built
 #
 # Compared: yard A as a pair and alone, yard A written untidily and with spaces for tabs (its house writing is the same), yard B (every table; its answer was worked out by hand), two damaged texts and a
-# missing file; these in the edition of December 6, 2006 too, with a boundary and a zone that it has not (request L10); routes over yard A (request L5), and whether its mission can be driven at all (request L13); then document 01's cases and the edges of the summary program's rules (tests/summary_cases.py), and every reply and every lent number of the oracle's corpus and of
+# missing file; these in the edition of December 6, 2006 too, with a boundary and a zone that it has not (request L10); routes over yard A (request L5), and whether its mission can be driven at all (request L13); yards A and B packed and unpacked, with too few rows and with damaged bytes (request L11); then document 01's cases and the edges of the summary program's rules (tests/summary_cases.py), and every reply and every lent number of the oracle's corpus and of
 # 2,000 random pairs (tests/callers/corpus.c).
 # The last line is 'N passed, M failed, K skipped'; the status is 0 if none failed.
 #
@@ -153,6 +153,55 @@ drive "$a/network.rndf" "$work/goal.mdf" 'refused 2 5 15 1' 0 1
 drive "$work/entry.rndf" "$a/mission.mdf" 'refused 1 9 12 12' 2 1
 compare 'driven, and solid_yellow, 2006' "$work/yellow" --2006 "$work/yellow.rndf" "$a/mission.mdf" drive 0 2
 compare 'driven, and solid_yellow' "$work/route" "$work/yellow.rndf" "$a/mission.mdf" drive 0 2
+
+# L11: yard A packed (docs/PACKED.md has these 111 bytes) and unpacked: what a caller prints of the text's tables, names from the packed bytes
+# octets: the bytes of hexadecimal words
+octets() { for octet in $(cat); do printf "\\$(printf %o "0x$octet")"; done; }
+# unpacked LABEL ANSWER FORM [ROWS ..]
+unpacked() {
+    echo "$2" >"$work/answer"
+    what=$1 form=$3
+    shift 3
+    compare "$what" "$work/answer" "$form" unpack "$@"
+}
+# tables: of what is printed of a reader's answer, what is left without the MDF, the writings and the map
+tables() { sed -e '1s/[0-9]* [0-9]*$/0 0/' -e '/^mission/d' -e '/^goal/d' -e '/^limit/d' -e '/^house writing/d' -e '/^map of/d' "$1"; }
+compare 'yard A, packed' "$here/expected/yard_a_packed" "$a/network.rndf" pack
+compare 'yard A, untidy, packed' "$here/expected/yard_a_packed" "$work/untidy.rndf" pack
+compare 'yard A, packed, 2006' "$here/expected/yard_a_packed" --2006 "$a/network.rndf" pack
+compare 'yard A with an entry 1.1.3, packed' "$work/entry" "$work/entry.rndf" pack
+compare 'solid_yellow, packed, 2006' "$work/yellow" --2006 "$work/yellow.rndf" pack
+octets <"$here/expected/yard_a_packed" >"$work/a.packed"
+tables "$here/expected/yard_a_alone" >"$work/a.tables"
+compare 'yard A, unpacked' "$work/a.tables" "$work/a.packed" unpack
+compare 'yard A, unpacked into just enough rows' "$work/a.tables" "$work/a.packed" unpack 1 1 0 0 2 1 0 1
+for rows in '0 1 0 0 2 1 0 1' '1 0 0 0 2 1 0 1' '1 1 0 0 1 1 0 1' '1 1 0 0 2 0 0 1' '1 1 0 0 2 1 0 0'; do
+    # shellcheck disable=SC2086
+    unpacked "yard A, unpacked into $rows rows" 'refused 1 0 11 0' "$work/a.packed" $rows
+done
+tables "$here/expected/yard_b" >"$work/b.tables"
+for packer in $callers; do
+    ${emulator:+"$emulator"} "$work/$packer" "$here/yard_b/network.rndf" pack | octets >"$work/$packer.packed"
+    compare "yard B, packed by $packer and unpacked" "$work/b.tables" "$work/$packer.packed" unpack
+    compare "yard B, packed by $packer and unpacked into just enough rows" "$work/b.tables" "$work/$packer.packed" unpack 2 3 2 2 14 4 2 5
+    for rows in '1 3 2 2 14 4 2 5' '2 2 2 2 14 4 2 5' '2 3 1 2 14 4 2 5' '2 3 2 1 14 4 2 5' '2 3 2 2 13 4 2 5' '2 3 2 2 14 3 2 5' '2 3 2 2 14 4 1 5' '2 3 2 2 14 4 2 4'; do
+        # shellcheck disable=SC2086
+        unpacked "yard B, packed by $packer, unpacked into $rows rows" 'refused 1 0 11 0' "$work/$packer.packed" $rows
+    done
+done
+# damaged: no bytes, another version, one byte too few and too many, the entry 2 of 2 points; the last is found before that there is no row
+: >"$work/empty.packed"
+sed 's/^01/02/' "$here/expected/yard_a_packed" | octets >"$work/version.packed"
+head -c 110 "$work/a.packed" >"$work/short.packed"
+{ cat "$work/a.packed"; printf '\000'; } >"$work/long.packed"
+sed 's/00$/02/' "$here/expected/yard_a_packed" | octets >"$work/entry.packed"
+unpacked 'no bytes, unpacked' 'refused 0 0 27 0' "$work/empty.packed"
+unpacked 'yard A, version 2, unpacked' 'refused 0 0 27 0' "$work/version.packed"
+unpacked 'yard A, its text, unpacked' 'refused 0 0 27 0' "$a/network.rndf"
+unpacked 'yard A, a byte too few, unpacked' 'refused 0 0 28 0' "$work/short.packed"
+unpacked 'yard A, a byte too many, unpacked' 'refused 0 0 28 0' "$work/long.packed"
+unpacked 'yard A, entry 2, unpacked' 'refused 0 0 29 0' "$work/entry.packed"
+unpacked 'yard A, entry 2, unpacked into no rows' 'refused 0 0 29 0' "$work/entry.packed" 0 0 0 0 0 0 0 0
 
 # document 01's cases, by the first line that a caller prints
 if command -v python3 >/dev/null; then

@@ -1,7 +1,8 @@
 /*
  * A worked caller in C: caller NETWORK [MISSION] reads an RNDF, alone or with its MDF, and prints the summary program's line, what stands in the tables, and then the
  * length and first line of the house writing, and the network's map; caller NETWORK MISSION START [POINT ..] prints whether the route of these points is drivable from there (request L5);
- * caller NETWORK MISSION drive START ROWS whether the mission can be driven from there at all, with so many rows of work space (request L13).
+ * caller NETWORK MISSION drive START ROWS whether the mission can be driven from there at all, with so many rows of work space (request L13);
+ * caller NETWORK pack the bytes of the packed network, and caller FILE unpack [ROWS ..] what stands in the tables of such bytes, with so many rows lent of the first tables (request L11).
  * With --2006 before all these words the texts are read in the edition of December 6, 2006 (request L10), else in the present one.
  * Texts up to 8,192 bytes, 256 points and 128 rows of every other table, as the summary program has them; all of it lies in this program's own memory.
  */
@@ -44,6 +45,8 @@ static uint32_t work[POINTS * KASTEPUHM_WORK_STRIDE];
 static uint8_t house[MOST_BYTES + 1];
 /* A map may have about seven times its text's bytes; if this is too short, refusal 19 says so. */
 static uint8_t map[8 * MOST_BYTES];
+/* A packed network is shorter than its text. */
+static uint8_t packed[MOST_BYTES];
 
 /* Whether the file could be taken; if not, why is printed. */
 static int load(const char *path, uint8_t *text, size_t *length)
@@ -140,21 +143,22 @@ static void print_spots(uint32_t zone, const uint32_t *row)
     }
 }
 
-static void print_network(const kastepuhm_answer *a)
+/* Names lie in the text, or in the packed bytes. */
+static void print_network(const kastepuhm_answer *a, const uint8_t *text)
 {
-    print_file("network", rndf, a->rndf_name, a->rndf_version, a->rndf_date);
+    print_file("network", text, a->rndf_name, a->rndf_version, a->rndf_date);
     printf("\n");
     for (uint32_t i = 0; i < a->segments; i++) {
         const uint32_t *row = segments + (size_t)i * KASTEPUHM_SEGMENT_STRIDE;
         printf("segment %" PRIu32, i + 1);
-        print_name(rndf, row[KASTEPUHM_SEGMENT_NAME_START], row[KASTEPUHM_SEGMENT_NAME_LENGTH]);
+        print_name(text, row[KASTEPUHM_SEGMENT_NAME_START], row[KASTEPUHM_SEGMENT_NAME_LENGTH]);
         printf("\n");
         print_lanes(i + 1, row);
     }
     for (uint32_t i = 0; i < a->zones; i++) {
         const uint32_t *row = zones + (size_t)i * KASTEPUHM_ZONE_STRIDE;
         printf("zone %" PRIu32, a->segments + i + 1);
-        print_name(rndf, row[KASTEPUHM_ZONE_NAME_START], row[KASTEPUHM_ZONE_NAME_LENGTH]);
+        print_name(text, row[KASTEPUHM_ZONE_NAME_START], row[KASTEPUHM_ZONE_NAME_LENGTH]);
         printf(" points %" PRIu32 " first", row[KASTEPUHM_ZONE_POINTS]);
         print_point(row[KASTEPUHM_ZONE_FIRST_POINT]);
         printf("\n");
@@ -259,6 +263,42 @@ static void print_drive(size_t rndf_length, size_t mdf_length, char **words)
         printf("and the work space is not zero\n");
 }
 
+static void print_packed(size_t rndf_length)
+{
+    kastepuhm_write_answer w = kastepuhm_write_packed(edition, rndf, rndf_length, segments, LENGTH(segments), lanes, LENGTH(lanes), zones, LENGTH(zones), spots, LENGTH(spots), points, LENGTH(points),
+                                                      checkpoints, LENGTH(checkpoints), stops, LENGTH(stops), exits, LENGTH(exits), packed, LENGTH(packed));
+    if (!w.answer.accepted) {
+        printf("refused %" PRIu32 " %" PRIu32 " %" PRIu32 " %" PRIu32 "\n", w.answer.file, w.answer.line, w.answer.number, w.answer.column);
+        return;
+    }
+    for (uint32_t i = 0; i < w.length; i++)
+        printf(i + 1 < w.length ? "%02x " : "%02x\n", (unsigned)packed[i]);
+}
+
+/* The words are how many rows are lent of the first tables, in the order of the call; of the others all. The packed bytes stand where a text would. */
+static void print_unpacked(size_t length, char **words, int count)
+{
+    size_t rows[8] = {ROWS, ROWS, ROWS, ROWS, POINTS, ROWS, ROWS, ROWS};
+    kastepuhm_answer a;
+    for (int i = 0; i < count && i < 8; i++) {
+        size_t lent = (size_t)strtoul(words[i], NULL, 10);
+        if (lent < rows[i])
+            rows[i] = lent;
+    }
+    memset(lanes, 0xAA, sizeof lanes);
+    a = kastepuhm_read_packed(rndf, length, segments, rows[0] * KASTEPUHM_SEGMENT_STRIDE, lanes, rows[1] * KASTEPUHM_LANE_STRIDE, zones, rows[2] * KASTEPUHM_ZONE_STRIDE,
+                              spots, rows[3] * KASTEPUHM_SPOT_STRIDE, points, rows[4] * KASTEPUHM_POINT_STRIDE, checkpoints, rows[5] * KASTEPUHM_CHECKPOINT_STRIDE,
+                              stops, rows[6] * KASTEPUHM_STOP_STRIDE, exits, rows[7] * KASTEPUHM_EXIT_STRIDE);
+    if (a.accepted) {
+        print_summary(&a);
+        print_network(&a, rndf);
+    } else {
+        printf("refused %" PRIu32 " %" PRIu32 " %" PRIu32 " %" PRIu32 "\n", a.file, a.line, a.number, a.column);
+    }
+    if ((a.accepted != 0) == all_zero(lanes, rows[1] * KASTEPUHM_LANE_STRIDE))
+        printf("and the tables are not as they should be\n");
+}
+
 int main(int count, char **words)
 {
     size_t rndf_length, mdf_length;
@@ -272,10 +312,20 @@ int main(int count, char **words)
     }
     drive = count > 3 && strcmp(words[3], "drive") == 0;
     if (count < 2 || count > 4 + STEPS || (drive && count != 6)) {
-        fputs("usage: caller [--2006] NETWORK [MISSION [START [POINT ..] | drive START ROWS]]\n", stderr);
+        fputs("usage: caller [--2006] NETWORK [MISSION [START [POINT ..] | drive START ROWS] | pack | unpack [ROWS ..]]\n", stderr);
         return 2;
     }
-    if (!load(words[1], rndf, &rndf_length) || (count >= 3 && !load(words[2], mdf, &mdf_length)))
+    if (!load(words[1], rndf, &rndf_length))
+        return 0;
+    if (count == 3 && strcmp(words[2], "pack") == 0) {
+        print_packed(rndf_length);
+        return 0;
+    }
+    if (count >= 3 && strcmp(words[2], "unpack") == 0) {
+        print_unpacked(rndf_length, words + 3, count - 3);
+        return 0;
+    }
+    if (count >= 3 && !load(words[2], mdf, &mdf_length))
         return 0;
     if (drive) {
         print_drive(rndf_length, mdf_length, words + 4);
@@ -296,7 +346,7 @@ int main(int count, char **words)
         return 0;
     }
     print_summary(&a);
-    print_network(&a);
+    print_network(&a, rndf);
     if (count == 3)
         print_mission(&a);
     w = kastepuhm_write_rndf(edition, rndf, rndf_length, segments, LENGTH(segments), lanes, LENGTH(lanes), zones, LENGTH(zones), spots, LENGTH(spots), points, LENGTH(points),

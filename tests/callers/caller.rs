@@ -1,5 +1,5 @@
 //! A worked caller in Rust, without crates: `caller NETWORK [MISSION]` reads an RNDF, alone or with its MDF, and prints the summary program's line, what stands in the tables, and
-//! then the length and first line of the house writing, and the network's map; `caller NETWORK MISSION START [POINT ..]` prints whether the route of these points is drivable from there (request L5), `caller NETWORK MISSION drive START ROWS` whether the mission can be driven from there at all, with so many rows of work space (request L13). With `--2006` before all these words
+//! then the length and first line of the house writing, and the network's map; `caller NETWORK MISSION START [POINT ..]` prints whether the route of these points is drivable from there (request L5), `caller NETWORK MISSION drive START ROWS` whether the mission can be driven from there at all, with so many rows of work space (request L13), `caller NETWORK pack` the bytes of the packed network, and `caller FILE unpack [ROWS ..]` what stands in the tables of such bytes, with so many rows lent of the first tables (request L11). With `--2006` before all these words
 //! the texts are read in the edition of December 6, 2006 (request L10), else in the present one. The module `kastepuhm` is what to copy: the declarations and safe functions over them. include/kastepuhm.h says what every column and number means.
 //! Texts up to 8,192 bytes, 256 points and 128 rows of every other table, as the summary program has them.
 use std::io::Read;
@@ -12,7 +12,7 @@ mod kastepuhm {
         December2006 = 1,
     }
 
-    /// A name: its start and length in the text that was lent; a missing one is 0, 0.
+    /// A name: its start and length in the text, or the packed bytes, that were lent; a missing one is 0, 0.
     #[repr(C)]
     #[derive(Clone, Copy)]
     pub struct Name {
@@ -188,6 +188,20 @@ mod kastepuhm {
             out: *mut u8, out_length: usize,
         ) -> WriteAnswer;
 
+        fn kastepuhm_write_packed(
+            edition: u32,
+            text: *const u8, text_length: usize,
+            segments: *mut u32, segments_length: usize,
+            lanes: *mut u32, lanes_length: usize,
+            zones: *mut u32, zones_length: usize,
+            spots: *mut u32, spots_length: usize,
+            points: *mut i32, points_length: usize,
+            checkpoints: *mut u32, checkpoints_length: usize,
+            stops: *mut u32, stops_length: usize,
+            exits: *mut u32, exits_length: usize,
+            out: *mut u8, out_length: usize,
+        ) -> WriteAnswer;
+
         fn kastepuhm_write_mdf(
             edition: u32,
             rndf: *const u8, rndf_length: usize,
@@ -204,6 +218,18 @@ mod kastepuhm {
             limits: *mut u32, limits_length: usize,
             out: *mut u8, out_length: usize,
         ) -> WriteAnswer;
+
+        fn kastepuhm_read_packed(
+            bytes: *const u8, bytes_length: usize,
+            segments: *mut u32, segments_length: usize,
+            lanes: *mut u32, lanes_length: usize,
+            zones: *mut u32, zones_length: usize,
+            spots: *mut u32, spots_length: usize,
+            points: *mut i32, points_length: usize,
+            checkpoints: *mut u32, checkpoints_length: usize,
+            stops: *mut u32, stops_length: usize,
+            exits: *mut u32, exits_length: usize,
+        ) -> Answer;
 
         fn kastepuhm_point_of(checkpoints: *const u32, checkpoints_length: usize, number: u32) -> u32;
 
@@ -343,6 +369,26 @@ mod kastepuhm {
         }
     }
 
+    /// The packed network of an RNDF.
+    pub fn write_packed(edition: Edition, text: &[u8], t: &mut Tables, out: &mut [u8]) -> WriteAnswer {
+        // Safe: as in `read_rndf`.
+        unsafe {
+            kastepuhm_write_packed(
+                edition as u32,
+                text.as_ptr(), text.len(),
+                t.segments.as_mut_ptr(), t.segments.len(),
+                t.lanes.as_mut_ptr(), t.lanes.len(),
+                t.zones.as_mut_ptr(), t.zones.len(),
+                t.spots.as_mut_ptr(), t.spots.len(),
+                t.points.as_mut_ptr(), t.points.len(),
+                t.checkpoints.as_mut_ptr(), t.checkpoints.len(),
+                t.stops.as_mut_ptr(), t.stops.len(),
+                t.exits.as_mut_ptr(), t.exits.len(),
+                out.as_mut_ptr(), out.len(),
+            )
+        }
+    }
+
     /// The house writing of the MDF of a pair.
     pub fn write_mdf(edition: Edition, rndf: &[u8], mdf: &[u8], t: &mut Tables, out: &mut [u8]) -> WriteAnswer {
         // Safe: as in `read_rndf`.
@@ -362,6 +408,24 @@ mod kastepuhm {
                 t.goals.as_mut_ptr(), t.goals.len(),
                 t.limits.as_mut_ptr(), t.limits.len(),
                 out.as_mut_ptr(), out.len(),
+            )
+        }
+    }
+
+    /// A packed network: as `read_rndf` of the text that was packed, names in the packed bytes, or refused with 1, 27, 28, 29 or 11.
+    pub fn read_packed(bytes: &[u8], t: &mut Tables) -> Answer {
+        // Safe: as in `read_rndf`.
+        unsafe {
+            kastepuhm_read_packed(
+                bytes.as_ptr(), bytes.len(),
+                t.segments.as_mut_ptr(), t.segments.len(),
+                t.lanes.as_mut_ptr(), t.lanes.len(),
+                t.zones.as_mut_ptr(), t.zones.len(),
+                t.spots.as_mut_ptr(), t.spots.len(),
+                t.points.as_mut_ptr(), t.points.len(),
+                t.checkpoints.as_mut_ptr(), t.checkpoints.len(),
+                t.stops.as_mut_ptr(), t.stops.len(),
+                t.exits.as_mut_ptr(), t.exits.len(),
             )
         }
     }
@@ -516,6 +580,46 @@ fn run_drive(edition: Edition, network: &str, mission: &str, start: u32, rows: u
     Ok(())
 }
 
+fn run_pack(edition: Edition, network: &str) -> Result<(), &'static str> {
+    let (rndf, mut t) = (load(network)?, tables());
+    // A packed network is shorter than its text.
+    let mut out = vec![0; rndf.len()];
+    let w = kastepuhm::write_packed(edition, &rndf, &mut t, &mut out);
+    if w.answer.accepted == 0 {
+        println!("refused {} {} {} {}", w.answer.file, w.answer.line, w.answer.number, w.answer.column);
+        return Ok(());
+    }
+    let bytes: Vec<String> = out[..w.length as usize].iter().map(|byte| format!("{byte:02x}")).collect();
+    println!("{}", bytes.join(" "));
+    Ok(())
+}
+
+/// `rows`: how many are lent of the first tables, in the order of the call; of the others all.
+fn run_unpack(file: &str, rows: &[usize]) -> Result<(), &'static str> {
+    let (bytes, mut t) = (load(file)?, tables());
+    let lent = |i: usize, stride: usize| rows.get(i).map_or(usize::MAX, |rows| rows * stride);
+    t.segments.truncate(lent(0, 4));
+    t.lanes.truncate(lent(1, 5));
+    t.zones.truncate(lent(2, 6));
+    t.spots.truncate(lent(3, 2));
+    t.points.truncate(lent(4, 2));
+    t.checkpoints.truncate(lent(5, 2));
+    t.stops.truncate(lent(6, 1));
+    t.exits.truncate(lent(7, 2));
+    t.lanes.fill(0xAAAA_AAAA);
+    let a = kastepuhm::read_packed(&bytes, &mut t);
+    if a.accepted == 0 {
+        println!("refused {} {} {} {}", a.file, a.line, a.number, a.column);
+    } else {
+        print_summary(&a);
+        print_network(&a, &t, &bytes);
+    }
+    if (a.accepted != 0) == t.lanes.iter().all(|&word| word == 0) {
+        println!("and the tables are not as they should be");
+    }
+    Ok(())
+}
+
 fn run(edition: Edition, network: &str, mission: Option<&str>) -> Result<(), &'static str> {
     let rndf = load(network)?;
     let mdf = mission.map(load).transpose()?;
@@ -557,12 +661,16 @@ fn main() {
     if drive {
         words.remove(3);
     }
+    let pack = words.len() == 3 && words[2] == "pack";
+    let unpack = words.len() >= 3 && words[2] == "unpack";
     let numbers: Vec<u32> = words.iter().skip(3).filter_map(|word| word.parse().ok()).collect();
     if words.len() < 2 || (words.len() > 3 && numbers.len() + 3 != words.len()) {
-        eprintln!("usage: caller [--2006] NETWORK [MISSION [START [POINT ..] | drive START ROWS]]");
+        eprintln!("usage: caller [--2006] NETWORK [MISSION [START [POINT ..] | drive START ROWS] | pack | unpack [ROWS ..]]");
         std::process::exit(2);
     }
     let done = match numbers.split_first() {
+        _ if pack => run_pack(edition, &words[1]),
+        _ if unpack => run_unpack(&words[1], &numbers.iter().map(|&rows| rows as usize).collect::<Vec<_>>()),
         Some((&start, rows)) if drive => run_drive(edition, &words[1], &words[2], start, rows[0] as usize),
         Some((&start, route)) => run_route(edition, &words[1], &words[2], start, route),
         None => run(edition, &words[1], words.get(2).map(String::as_str)),

@@ -4,5 +4,6 @@ pub mod PointSettled
 pub mod ListSettled
 pub mod RouteSettled
 pub mod MissionSettled
+pub mod UnpackSettled
 pub mod MissionAgreed
 pub mod Whole

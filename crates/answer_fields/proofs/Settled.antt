@@ -11,13 +11,13 @@ use Rattle.law.specs.Tables.{Lent, MissionLent}
 use Rattle.replies.proofs.Settled.{rndf-settled, rndf-some}
 use Rattle.replies.proofs.Settled.{pair-settled, pair-some}
 use Rattle.house_text.specs.House.{HouseRndf}
-use Rattle.writings.specs.Writes.{MapOf}
-use Rattle.writings.proofs.OneWriting.{OneWriting, house-one, map-one}
+use Rattle.writings.specs.Writes.{MapOf, PackedOf}
+use Rattle.writings.proofs.OneWriting.{OneWriting, house-one, map-one, packed-one}
 use Rattle.writings.proofs.Settled.{write-settled, write-some}
 use Rattle.writings.proofs.MdfSettled.{mdf-write-settled, mdf-write-some}
 use Rattle.answer_fields.specs.declared.Answer.{Answer}
 use Rattle.answer_fields.specs.declared.WriteAnswer.{WriteAnswer}
-use Rattle.answer_fields.specs.Answers.{rndf-answer, pair-answer, write-answer, write-mdf-answer, AnswersRndf, AnswersPair, AnswersWrite, AnswersWriteRndf, AnswersWriteMap, AnswersWriteMdf}
+use Rattle.answer_fields.specs.Answers.{rndf-answer, pair-answer, write-answer, write-mdf-answer, AnswersRndf, AnswersPair, AnswersWrite, AnswersWriteRndf, AnswersWriteMap, AnswersWritePacked, AnswersWriteMdf}
 
 -- no second answer, and no second memory
 pub rndf-answer-settled : (e : Edition) (text : Bytes) (t : Lent) (a a′ : Answer) (l l′ : Lent) → AnswersRndf e text t a l → AnswersRndf e text t a′ l′ → (a ≡ a′) × (l ≡ l′)
@@ -55,7 +55,7 @@ module _ (e : Edition) (Writing : Network Field → Bytes → Type 0) (one : One
       let x = write-some (inner e) Writing one text t lent in
       (write-answer (x .reply), x .left, x .out, record { reply = x .reply; writes = x .writes; told = refl })
 
--- the house writing, and the map
+-- the house writing, the map and the packed form
 module _ (e : Edition) (text : Bytes) (t : Lent) (lent : ℕ) where
   pub write-answer-settled : (a a′ : WriteAnswer) (l l′ : Lent) (o o′ : Bytes) → AnswersWriteRndf e text t lent a l o → AnswersWriteRndf e text t lent a′ l′ o′ → (a ≡ a′) × (l ≡ l′) × (o ≡ o′)
   write-answer-settled = any-answer-settled e HouseRndf (house-one (inner e)) text t lent
@@ -68,6 +68,12 @@ module _ (e : Edition) (text : Bytes) (t : Lent) (lent : ℕ) where
 
   pub map-answer-some : (a : WriteAnswer) × (l : Lent) × (o : Bytes) × AnswersWriteMap e text t lent a l o
   map-answer-some = any-answer-some e MapOf (map-one (inner e)) text t lent
+
+  pub packed-answer-settled : (a a′ : WriteAnswer) (l l′ : Lent) (o o′ : Bytes) → AnswersWritePacked e text t lent a l o → AnswersWritePacked e text t lent a′ l′ o′ → (a ≡ a′) × (l ≡ l′) × (o ≡ o′)
+  packed-answer-settled = any-answer-settled e PackedOf (packed-one (inner e)) text t lent
+
+  pub packed-answer-some : (a : WriteAnswer) × (l : Lent) × (o : Bytes) × AnswersWritePacked e text t lent a l o
+  packed-answer-some = any-answer-some e PackedOf (packed-one (inner e)) text t lent
 
 -- the MDF of a pair
 pub write-mdf-answer-settled : (e : Edition) (rndf mdf : Bytes) (t : Lent) (u : MissionLent) (lent : ℕ) (a a′ : WriteAnswer) (l l′ : Lent) (k k′ : MissionLent) (o o′ : Bytes)

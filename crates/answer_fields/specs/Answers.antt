@@ -25,7 +25,8 @@ use Rattle.writings.specs.declared.WriteReply.the-variants as Write
 use Rattle.writings.specs.declared.WriteMdfReply.{WriteMdfReply}
 use Rattle.writings.specs.declared.WriteMdfReply.the-variants as WriteMdf
 use Rattle.house_text.specs.House.{HouseRndf}
-use Rattle.writings.specs.Writes.{Writes, MapOf, WritesMdf}
+use Rattle.writings.specs.Writes.{Writes, MapOf, PackedOf, WritesMdf}
+use Rattle.unpackings.specs.Unpacks.{Unpacks}
 use Rattle.pair_checks.specs.Checks.{ChecksRoute}
 use Rattle.reach_checks.specs.Checks.{ChecksMission}
 use Rattle.answer_fields.specs.declared.Name.{Name}
@@ -142,11 +143,21 @@ AnswersWriteRndf edition = AnswersWrite edition HouseRndf
 abbrev pub AnswersWriteMap : Edition → (text : Bytes) → Lent → (lent : ℕ) → WriteAnswer → (left : Lent) → (out : Bytes) → Type 0
 AnswersWriteMap edition = AnswersWrite edition MapOf
 
+-- its packed form. Request L11
+abbrev pub AnswersWritePacked : Edition → (text : Bytes) → Lent → (lent : ℕ) → WriteAnswer → (left : Lent) → (out : Bytes) → Type 0
+AnswersWritePacked edition = AnswersWrite edition PackedOf
+
 -- ## The house writing of the MDF of a pair
 pub record AnswersWriteMdf (edition : Edition) (rndf mdf : Bytes) (t : Lent) (u : MissionLent) (lent : ℕ) (given : WriteAnswer) (left : Lent) (mission-left : MissionLent) (out : Bytes) : Type 0 where
   pub reply : WriteMdfReply
   pub writes : WritesMdf (rules-of edition) rndf mdf t u lent reply left mission-left out
   pub told : given ≡ write-mdf-answer reply
+
+-- ## A packed network. Request L11: the fields of a reader's reply. No edition: the present rules
+pub record AnswersUnpack (bytes : Bytes) (t : Lent) (given : Answer) (left : Lent) : Type 0 where
+  pub reply : RndfReply
+  pub unpacks : Unpacks bytes t reply left
+  pub told : given ≡ rndf-answer reply
 
 -- ## The look-up of a list of checkpoint numbers. Request L4. t: the table; numbers: the list; lent: the length of the lent list of points; left: what it then holds
 abbrev pub list-answer : ListReply → ListAnswer

@@ -2,11 +2,11 @@
 // `edition` is the number of `edition`/specs/Editions: 1 reads by the edition of December 6, 2006, any other number by the present one.
 // Every function here takes plain slices (C hands over a pointer, then how many elements) and numbers, requires nothing of them, keeps nothing and allocates nothing.
 //
-// The answers and the contracts are `answer_fields`, with their laws; what a reader must believe beside them: replies/specs/Replies, writings/specs/Writes, pair_checks/specs/Checks, reach_checks/specs/Checks, look_up/specs/LookUp, Listed.
+// The answers and the contracts are `answer_fields`, with their laws; what a reader must believe beside them: replies/specs/Replies, writings/specs/Writes, unpackings/specs/Unpacks, pair_checks/specs/Checks, reach_checks/specs/Checks, look_up/specs/LookUp, Listed.
 //
-// Left out: asking for a name (`rows::name_of`), since a part of a slice cannot be returned to C. There a name is `text + start` for `length` bytes.
+// Left out: asking for a name (`rows::name_of`), since a part of a slice cannot be returned to C. There a name is `text + start`, of a packed network `bytes + start`, for `length` bytes.
 //
-// Rests on `answer_fields`, `edition`, `reader`, `writer`, `map_writer`, `route`, `reach`, `look_up` and what they rest on.
+// Rests on `answer_fields`, `edition`, `reader`, `writer`, `map_writer`, `packer`, `unpacker`, `route`, `reach`, `look_up` and what they rest on.
 use answer_fields::Answer;
 use answer_fields::ListAnswer;
 use answer_fields::Name;
@@ -18,6 +18,7 @@ use look_up::ListReply;
 use look_up::point_of_word;
 use look_up::points_of;
 use map_writer::write_map;
+use packer::write_packed;
 use reach::check_mission;
 use reader::read_pair;
 use reader::read_rndf;
@@ -28,6 +29,7 @@ use route::check_route;
 use rows::FileRow;
 use rows::MissionFileRow;
 use rows::Stretch;
+use unpacker::read_packed;
 use writer::write_mdf;
 use writer::write_rndf;
 use writings::WriteMdfReply;
@@ -37,7 +39,7 @@ ghost use lib.ListN.{length};
 ghost use Rattle.law.specs.Tables.{lent, mission-lent};
 ghost use Rattle.edition.specs.Editions.{numbered};
 ghost use Rattle.look_up.specs.LookUp.{PointOf};
-ghost use Rattle.answer_fields.specs.Answers.{named, laid-out, taken, refused, rndf-answer, pair-answer, write-answer, write-mdf-answer, list-answer, AnswersRndf, AnswersPair, AnswersRoute, AnswersMission, AnswersWriteRndf, AnswersWriteMap, AnswersWriteMdf, AnswersList};
+ghost use Rattle.answer_fields.specs.Answers.{named, laid-out, taken, refused, rndf-answer, pair-answer, write-answer, write-mdf-answer, list-answer, AnswersRndf, AnswersPair, AnswersRoute, AnswersMission, AnswersWriteRndf, AnswersWriteMap, AnswersWritePacked, AnswersWriteMdf, AnswersUnpack, AnswersList};
 
 fn named(s: Stretch) -> Name
     ensures { λ r. ⌜ r ≡ named s ⌝ }
@@ -426,6 +428,40 @@ pub extern "C" fn kastepuhm_write_map(
     write_answer(reply)
 }
 
+// The packed form of an RNDF's network, into `out`.
+#[no_mangle]
+pub extern "C" fn kastepuhm_write_packed(
+    edition: u32,
+    text: &[u8],
+    segments: &mut [u32],
+    lanes: &mut [u32],
+    zones: &mut [u32],
+    spots: &mut [u32],
+    points: &mut [i32],
+    checkpoints: &mut [u32],
+    stops: &mut [u32],
+    exits: &mut [u32],
+    out: &mut [u8],
+) -> WriteAnswer
+    ensures { λ r. ⌜ AnswersWritePacked (numbered edition) (now (text .entry)) (lent (now (segments .entry)) (now (lanes .entry)) (now (zones .entry)) (now (spots .entry)) (now (points .entry)) (now (checkpoints .entry)) (now (stops .entry)) (now (exits .entry))) (length (now (out .entry))) r (lent (now (segments .exit)) (now (lanes .exit)) (now (zones .exit)) (now (spots .exit)) (now (points .exit)) (now (checkpoints .exit)) (now (stops .exit)) (now (exits .exit))) (now (out .exit)) ⌝ }
+{
+    let by = edition_of(edition);
+    let reply = write_packed(
+        by,
+        text,
+        segments,
+        lanes,
+        zones,
+        spots,
+        points,
+        checkpoints,
+        stops,
+        exits,
+        out,
+    );
+    write_answer(reply)
+}
+
 // The house writing of the MDF of a pair, into `out`.
 #[no_mangle]
 pub extern "C" fn kastepuhm_write_mdf(
@@ -464,6 +500,35 @@ pub extern "C" fn kastepuhm_write_mdf(
         out,
     );
     write_mdf_answer(reply)
+}
+
+// A packed network: names have their places in the packed bytes.
+#[no_mangle]
+pub extern "C" fn kastepuhm_read_packed(
+    bytes: &[u8],
+    segments: &mut [u32],
+    lanes: &mut [u32],
+    zones: &mut [u32],
+    spots: &mut [u32],
+    points: &mut [i32],
+    checkpoints: &mut [u32],
+    stops: &mut [u32],
+    exits: &mut [u32],
+) -> Answer
+    ensures { λ r. ⌜ AnswersUnpack (now (bytes .entry)) (lent (now (segments .entry)) (now (lanes .entry)) (now (zones .entry)) (now (spots .entry)) (now (points .entry)) (now (checkpoints .entry)) (now (stops .entry)) (now (exits .entry))) r (lent (now (segments .exit)) (now (lanes .exit)) (now (zones .exit)) (now (spots .exit)) (now (points .exit)) (now (checkpoints .exit)) (now (stops .exit)) (now (exits .exit))) ⌝ }
+{
+    let reply = read_packed(
+        bytes,
+        segments,
+        lanes,
+        zones,
+        spots,
+        points,
+        checkpoints,
+        stops,
+        exits,
+    );
+    rndf_answer(reply)
 }
 
 // The point of the first row with that checkpoint number, or 4,294,967,295.
