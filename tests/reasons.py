@@ -1,6 +1,6 @@
 #!/usr/bin/env python3
-"""Compares the reasons of refusals: the table of README.md, the definition (crates/answers/specs/Reasons.antt) and the code's table
-(crates/answers/src/lib.rt, put_reason); and the words of 11 with file 0 (README.md: in brackets; the definition: short-work; the code: put_reason_of). Prints the lines that
+"""Compares the reasons of refusals: the table of README.md, the definition (crates/reasons/specs/Reasons.antt) and the code's table
+(crates/reasons/src/lib.rt, put_reason); and the words of 11 with file 0 (README.md: in brackets; the definition: short-work; the code: put_reason_of). Prints the lines that
 differ; the status is 1 if any does.
 
 That code and definition agree is proved; README.md is held to them here.
@@ -27,17 +27,17 @@ def of_work():
     """The words of 11 with file 0: of README.md, of the definition and of the code."""
     return [lines_of(path, pattern) for path, pattern in (
         ("README.md", r"^\| 11 \| [^|]+ \(file 0, for the work space of `kastepuhm_check_mission`: ([^|]+)\) \|"),
-        ("crates/answers/specs/Reasons.antt", r'^short-work = ascii "(.*)"$'),
-        ("crates/answers/src/lib.rt", r'^    put_bytes\(out, at, b"(the work space .*)"\)$'))]
+        ("crates/reasons/specs/Reasons.antt", r'^short-work = ascii "(.*)"$'),
+        ("crates/reasons/src/lib.rt", r'^    put_bytes\(out, at, b"(the work space .*)"\)$'))]
 
 
 def of_definition():
-    rows = lines_of("crates/answers/specs/Reasons.antt", r'^    ∷ (?:ascii "(.*)"|no-reason)$')
+    rows = lines_of("crates/reasons/specs/Reasons.antt", r'^    ∷ (?:ascii "(.*)"|no-reason)$')
     return {number: words for number, (words,) in enumerate(rows, 1) if words is not None}
 
 
 def of_code():
-    return {int(number): words for number, words in lines_of("crates/answers/src/lib.rt", r'^        (\d+) => put_bytes\(\s*out,\s*at,\s*b"(.*)",?\s*\),$')}
+    return {int(number): words for number, words in lines_of("crates/reasons/src/lib.rt", r'^        (\d+) => put_bytes\(\s*out,\s*at,\s*b"(.*)",?\s*\),$')}
 
 
 def listed(table):
@@ -46,14 +46,14 @@ def listed(table):
 
 def main():
     readme = listed(of_readme())
-    differ = len(readme) != 27
+    differ = len(readme) != 30
     if differ:
-        print("README.md has %d refusal numbers, not 27" % len(readme))
+        print("README.md has %d refusal numbers, not 30" % len(readme))
     work = of_work()
     if len(work[0]) != 1 or work != [work[0]] * 3:
         differ = True
         print("11 with file 0: %s" % work)
-    for path, table in (("crates/answers/specs/Reasons.antt", of_definition()), ("crates/answers/src/lib.rt", of_code())):
+    for path, table in (("crates/reasons/specs/Reasons.antt", of_definition()), ("crates/reasons/src/lib.rt", of_code())):
         found = list(difflib.unified_diff(readme, listed(table), "README.md", path))
         sys.stdout.writelines(found)
         differ = differ or bool(found)

@@ -19,7 +19,6 @@ use Rattle.number.specs.House.{houseInteger}
 use Rattle.counts.specs.declared.Counts.{Counts}
 use Rattle.refusal.specs.declared.Refusal.{Refusal}
 use Rattle.shown.specs.Shown.{byte-words, picture, line-in}
-use Rattle.answers.specs.Reasons.{reason, reason-of, short-work}
 use Rattle.answers.specs.Answers.{place, detail, sentence, unplaced, refused, counted, network-counts, rndf-accepted, goal-number, way-from, no-way, goal-line, goal-column, stuck-at, stuck, no-start, not-driven}
 
 -- ## 0, and every other line or column
@@ -49,24 +48,6 @@ one n word e = rw (eq-eqb n 1 e)
 pub many : (n : ℕ) (word : Bytes) → (n ≡ 1 → ⊥) → houseInteger n ++ ascii " " ++ word ++ ascii "s" ≡ counted n word
 unfolding counted
 many n word d = rw (ne-eqb n 1 d)
-
--- ## 11 of file 0, and every other
-module _ (file number : ℕ) where
-  pub of-a-file : (file ≡ 0 → ⊥) → reason number ≡ reason-of file number
-  unfolding reason-of
-  of-a-file d = rw (ne-eqb file 0 d)
-
-  pub of-another : (number ≡ 11 → ⊥) → reason number ≡ reason-of file number
-  unfolding reason-of
-  of-another d = rw (ne-eqb number 11 d) (go (eqb file 0))
-    where
-      go : (x : Bool) → reason number ≡ pick x (reason number) (reason number)
-      go true = refl
-      go false = refl
-
-  pub of-work : file ≡ 0 → number ≡ 11 → short-work ≡ reason-of file number
-  unfolding reason-of
-  of-work e f = rw (eq-eqb file 0 e, eq-eqb number 11 f)
 
 -- ## File 1, 0 and the other
 module _ (rndf mdf rndf-text mdf-text : Bytes) (why : Refusal) where

@@ -7,9 +7,11 @@ use Rattle.number.specs.House.{houseInteger}
 use Rattle.scan.specs.Reach.{sameBytes}
 use Rattle.line.specs.Lines.{linesOf, dropCr}
 use Rattle.rows.specs.Lay.{rowAt}
+use Rattle.replies.specs.Replies.{refusal}
+use Rattle.replies.specs.declared.RndfReply.the-variants as Rndf
 use Rattle.shown.specs.Shown.{shown-byte, shown, blank, blanks, picture, line-in, byte-from-42, byte-alone, byte-words}
-use Rattle.answers.specs.Reasons.{reason, reasons, reason-of}
-use Rattle.answers.specs.Answers.{place, detail, why-of, sentence, unplaced, counted, next, goal-number, way-from, no-way, no-start}
+use Rattle.reasons.specs.Reasons.{reason, reasons, reason-of}
+use Rattle.answers.specs.Answers.{place, detail, why-of, sentence, unplaced, counted, next, rndf-answer, goal-number, way-from, no-way, no-start}
 
 a-line : sentence (ascii "n.rndf") (ascii "a\n\tb  c\r\n") 2 12 5 ≡ ascii "n.rndf:2:5: the entry is no declared lane waypoint or perimeter point (12)\n\tb  c\n\t   ^\n"
 unfolding ascii sentence why-of detail place reason reasons houseInteger decimal spell line-in linesOf dropCr picture shown shown-byte blanks blank
@@ -46,3 +48,8 @@ first-goal = refl
 later-goal : no-way (ascii "1.1.1") (7 ∷ 9 ∷ []) 1 ≡ ascii "goal 9 can't be reached from goal 7 (31)\n"
 unfolding ascii no-way way-from goal-number rowAt houseInteger decimal spell
 later-goal = refl
+
+-- of packed bytes: no line is named, and no text is shown
+no-network : rndf-answer (ascii "yard.packed") [] [] (Rndf.Refused (refusal 0 0 29 0)) ≡ ascii "yard.packed: the records are not the packed form of a network (29)\n"
+unfolding ascii rndf-answer sentence why-of detail place reason reasons houseInteger decimal spell picture
+no-network = refl

@@ -8,7 +8,7 @@ use Rattle.output.specs.Pen.{Pen, pen, put, Wrote}
 use Rattle.output.proofs.Writing.{wrote-one}
 use Rattle.replies.specs.declared.RndfReply.{RndfReply}
 use Rattle.replies.specs.declared.PairReply.{PairReply}
-use Rattle.answers.specs.Reasons.{reason, reason-of}
+use Rattle.reasons.specs.Reasons.{reason, reason-of}
 use Rattle.answers.specs.Answers.{sentence, rndf-answer, pair-answer, no-start, mission-answer}
 
 -- these bytes were put into the output `before` from this place on, which left `after` and the next place. The shape of all these contracts

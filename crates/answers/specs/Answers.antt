@@ -20,7 +20,7 @@ use Rattle.replies.specs.declared.RndfReply.the-variants as Rndf
 use Rattle.replies.specs.declared.PairReply.{PairReply}
 use Rattle.replies.specs.declared.PairReply.the-variants as Pair
 use Rattle.shown.specs.Shown.{picture, line-in, byte-words}
-use Rattle.answers.specs.Reasons.{reason, reason-of}
+use Rattle.reasons.specs.Reasons.{reason, reason-of}
 
 -- ## A refusal
 -- 01: 1, 11 and 19 have the line 0, and L7: they and 10 the column 0: what is 0 is not named

@@ -1,4 +1,2 @@
--- The words of refusals, and the sentences that planners get.
-pub mod Reasons
+-- The sentences that planners get.
 pub mod Answers
-pub mod Parts

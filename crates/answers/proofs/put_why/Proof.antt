@@ -8,7 +8,7 @@ use Rattle.answers.proofs.put_why.Tie as tie
 use Rattle.answers.proofs.put_why.Reads as reads
 use Rattle.answers.proofs.put_why.Lts as lts
 use Rattle.answers.proofs.put_detail.Reads as put-detail-reads
-use Rattle.answers.proofs.put_reason.Reads as put-reason-reads
+use Rattle.reasons.proofs.put_reason.Reads as put-reason-reads
 use Rattle.output.proofs.put_bytes.Reads as put-bytes-reads
 use Rattle.output.proofs.put_integer.Reads as put-integer-reads
 use Rattle.shown.proofs.put_picture.Reads as put-picture-reads

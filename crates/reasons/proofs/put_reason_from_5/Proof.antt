@@ -1,14 +1,14 @@
--- `answers::put_reason_from_5` meets its contract: an arm for each of its numbers, and the last hands the others on. Assumes nothing.
+-- `reasons::put_reason_from_5` meets its contract: an arm for each of its numbers, and the last hands the others on. Assumes nothing.
 use mathlib.Core.Path.{refl, sym, ap, _∙_}
 use Rattle.terms.specs.Ascii.{ascii}
 use Rattle.output.proofs.Writing.{same}
-use Rattle.answers.specs.Reasons.{reason, reasons}
-use Rattle.answers.specs.Parts.{reason-from}
-use Rattle.answers.proofs.Others.{handed-on}
-use Rattle.answers.proofs.put_reason_from_5.Statement.{statement}
-use Rattle.answers.proofs.put_reason_from_5.Tie as tie
-use Rattle.answers.proofs.put_reason_from_5.Reads as reads
-use Rattle.answers.proofs.put_reason_from_5.Lts as lts
+use Rattle.reasons.specs.Reasons.{reason, reasons}
+use Rattle.reasons.specs.Parts.{reason-from}
+use Rattle.reasons.proofs.Others.{handed-on}
+use Rattle.reasons.proofs.put_reason_from_5.Statement.{statement}
+use Rattle.reasons.proofs.put_reason_from_5.Tie as tie
+use Rattle.reasons.proofs.put_reason_from_5.Reads as reads
+use Rattle.reasons.proofs.put_reason_from_5.Lts as lts
 use Rattle.output.proofs.put_bytes.Reads as put-bytes-reads
 
 slice-aggregate-put-bytes : tie.Need-slice-aggregate-put-bytes

@@ -1,14 +1,15 @@
--- A number that one part of the table of reasons does not have, as its last arm meets it: the next part has it, or none. Assumes nothing.
+-- A number that one part of the table of reasons does not have, as its last arm meets it: the next part has it, or none; and the two cases of 11. Assumes nothing.
 use mathlib.Core.Path.{_≡_, refl, sym, _∙_}
 use mathlib.Core.Bool.{Bool, true, false}
 use mathlib.Core.Logic.{_⊎_, inl, inr, ⊎-elim}
 use Prim.Native.Nat.{ℕ, zero, suc, _+_, _-_, _<_, _≤_}
 use native.Mathlib.Omega.{arith}
-use lib.Dec.{ltb}
+use lib.Dec.{eqb, ltb}
 use lib.ListN.{List·getD-eq-default}
-use borrow.Author.Tests.{ltb-true, ltb-false, lt-ltb, le-ltb}
-use Rattle.answers.specs.Reasons.{reason, reasons, no-reason}
-use Rattle.answers.specs.Parts.{reason-from}
+use borrow.Author.Tests.{eq-eqb, ne-eqb, ltb-true, ltb-false, lt-ltb, le-ltb}
+use Rattle.terms.specs.Words.{pick}
+use Rattle.reasons.specs.Reasons.{reason, reasons, no-reason, reason-of, short-work}
+use Rattle.reasons.specs.Parts.{reason-from}
 
 -- none of so many numbers from this one on
 abbrev pub NoneOf : (first many n : ℕ) → Type 0
@@ -46,31 +47,39 @@ behind : (n : ℕ) → 32 ≤ n → reason n ≡ no-reason
 unfolding reason reasons
 behind n l = List·getD-eq-default reasons no-reason {n = n} (omega arith)
 
--- 26 to 29 wait for their requests
-waits : (k : ℕ) → k < 4 → reason (26 + k) ≡ no-reason
-unfolding reason reasons
-waits zero l = refl
-waits (suc zero) l = refl
-waits (suc (suc zero)) l = refl
-waits (suc (suc (suc zero))) l = refl
-waits (suc (suc (suc (suc k)))) l = absurd (let h : suc (suc (suc (suc k))) < 4 = l in omega arith)
+-- 26 waits for its request
+not-below : (n : ℕ) → n < 27 → reason-from 26 n ≡ no-reason
+unfolding reason-from reason reasons
+not-below n u =
+    ⊎-elim
+    (λ (l : n < 26). rw (lt-ltb n 26 l) refl)
+    (λ (l : 26 ≤ n). let e : n ≡ 26 = omega arith in rw e refl)
+    (below-or-not n 26)
 
-waiting : (n : ℕ) → 26 ≤ n → n < 30 → reason n ≡ no-reason
-waiting n l u =
-    let k : n - 26 < 4 = omega arith in
-    let e : 26 + (n - 26) ≡ n = omega arith in
-    rw e at (waits (n - 26) k)
-
-not-below : (n : ℕ) → n < 30 → reason-from 26 n ≡ no-reason
-unfolding reason-from
-not-below n u = ⊎-elim (λ (l : n < 26). rw (lt-ltb n 26 l) refl) (λ (l : 26 ≤ n). rw (le-ltb n 26 l) (waiting n l u)) (below-or-not n 26)
-
--- the last part has two numbers
-pub none-else : (n : ℕ) → NoneOf 30 2 n → no-reason ≡ reason-from 26 n
+-- the last part has five numbers
+pub none-else : (n : ℕ) → NoneOf 27 5 n → no-reason ≡ reason-from 26 n
 unfolding reason-from
 none-else n h =
     sym
     (⊎-elim
-    (λ (l : n < 30). not-below n l)
+    (λ (l : n < 27). not-below n l)
     (λ (l : 32 ≤ n). let k : 26 ≤ n = omega arith in rw (le-ltb n 26 k) (behind n l))
-    (outside 30 2 n h))
+    (outside 27 5 n h))
+
+-- ## 11 of file 0, and every other
+module _ (file number : ℕ) where
+  pub of-a-file : (file ≡ 0 → ⊥) → reason number ≡ reason-of file number
+  unfolding reason-of
+  of-a-file d = rw (ne-eqb file 0 d)
+
+  pub of-another : (number ≡ 11 → ⊥) → reason number ≡ reason-of file number
+  unfolding reason-of
+  of-another d = rw (ne-eqb number 11 d) (go (eqb file 0))
+    where
+      go : (x : Bool) → reason number ≡ pick x (reason number) (reason number)
+      go true = refl
+      go false = refl
+
+  pub of-work : file ≡ 0 → number ≡ 11 → short-work ≡ reason-of file number
+  unfolding reason-of
+  of-work e f = rw (eq-eqb file 0 e, eq-eqb number 11 f)

@@ -3,7 +3,7 @@ use Prim.Native.Nat.{ℕ}
 use lib.Dec.{ltb}
 use Rattle.terms.specs.Ascii.{Bytes}
 use Rattle.terms.specs.Words.{pick}
-use Rattle.answers.specs.Reasons.{no-reason, reason}
+use Rattle.reasons.specs.Reasons.{no-reason, reason}
 
 unfoldable pub reason-from : (first number : ℕ) → Bytes
 reason-from first number = pick (ltb number first) no-reason (reason number)

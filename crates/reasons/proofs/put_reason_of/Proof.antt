@@ -1,10 +1,10 @@
--- `answers::put_reason_of` meets its contract: 11 of file 0, and all others. Assumes nothing.
+-- `reasons::put_reason_of` meets its contract: 11 of file 0, and all others. Assumes nothing.
 use mathlib.Core.Path.{refl}
 use Rattle.terms.specs.Ascii.{ascii}
 use Rattle.output.proofs.Writing.{same}
-use Rattle.answers.proofs.Cases.{of-a-file, of-another, of-work}
-use Rattle.answers.proofs.put_reason_of.Statement.{statement}
-use Rattle.answers.proofs.put_reason_of.Tie as tie
+use Rattle.reasons.proofs.Others.{of-a-file, of-another, of-work}
+use Rattle.reasons.proofs.put_reason_of.Statement.{statement}
+use Rattle.reasons.proofs.put_reason_of.Tie as tie
 
 put-reason-requires : tie.Need-put-reason-requires
 put-reason-requires c κs = tt

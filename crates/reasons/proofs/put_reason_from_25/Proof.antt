@@ -1,12 +1,12 @@
--- `answers::put_reason_from_25` meets its contract: an arm for each of its numbers, and the last for those that the next part has. Assumes nothing.
+-- `reasons::put_reason_from_25` meets its contract: an arm for each of its numbers, and the last for those that the next part has. Assumes nothing.
 use mathlib.Core.Path.{refl, sym, ap}
 use Rattle.terms.specs.Ascii.{ascii}
 use Rattle.output.proofs.Writing.{same}
-use Rattle.answers.specs.Reasons.{reason, reasons}
-use Rattle.answers.specs.Parts.{reason-from}
-use Rattle.answers.proofs.Others.{handed-on}
-use Rattle.answers.proofs.put_reason_from_25.Statement.{statement}
-use Rattle.answers.proofs.put_reason_from_25.Tie as tie
+use Rattle.reasons.specs.Reasons.{reason, reasons}
+use Rattle.reasons.specs.Parts.{reason-from}
+use Rattle.reasons.proofs.Others.{handed-on}
+use Rattle.reasons.proofs.put_reason_from_25.Statement.{statement}
+use Rattle.reasons.proofs.put_reason_from_25.Tie as tie
 
 slice-aggregate-put-bytes : tie.Need-slice-aggregate-put-bytes
 slice-aggregate-put-bytes c = refl

@@ -1,0 +1,3 @@
+-- The words of refusals.
+pub mod Reasons
+pub mod Parts
