@@ -1,0 +1,2 @@
+-- What the contract of this program says of packed bytes.
+pub mod Told
