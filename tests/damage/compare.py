@@ -1,8 +1,9 @@
 #!/usr/bin/env python3
 """Compares the library with the oracle on pairs of texts, well-formed and damaged (tests/damage.sh builds everything and runs this).
 
-    compare.py PROGRAM COUNT SEED [SORT]    PROGRAM is tests/damage/reader.c, compiled; COUNT pairs, in blocks that each have their own generator; with a SORT (pairs, maps, routes, missions, ends) only that one
-    compare.py --mutants COUNT SEED [SORT]  no library: do the cases notice each small mistake of tests/oracle/mutate.py (and maps.py, routes.py, missions.py) in a copy of the oracle?
+    compare.py PROGRAM COUNT SEED [SORT]    PROGRAM is tests/damage/reader.c, compiled; COUNT pairs, in blocks that each have their own generator; with a SORT (pairs, maps, routes, missions, packed, ends, packed-bytes) only that one
+    compare.py --judgements COUNT SEED [SORT]   no library: does the oracle judge packed forms as the second judgement of tests/oracle/packed.py does?
+    compare.py --mutants COUNT SEED [SORT]  no library: do the cases notice each small mistake of tests/oracle/mutate.py (and maps.py, routes.py, missions.py, packed.py) in a copy of the oracle?
 
 Of every pair the reply, every name, every row count and every number of every lent table have to be the oracle's; every fourth RNDF is read alone as well. Each reply is counted by
 file and number, each refusal's column (request L7) by what its line is like: whether tabs or spaces lead it, whether it has a comment, whether several of its fields are at fault, and
@@ -20,12 +21,18 @@ Missions (request L13), half as many as pairs, over pairs that are mostly whole 
 another start, or a start that is no point, and work space with as many rows as points, more or fewer (tests/oracle/missions.py); the cases worked out by hand there are in the first block. The work
 space is lent with other numbers in it, ends where the memory ends and has to be zero afterwards, whatever is answered. tests/missions.sh holds the answers to those for routes.
 
+Packed forms (request L11): as many as pairs are unpacked, of generated networks, each good or damaged by one to three of the kinds in tests/oracle/packed.py (rows, numbers, names, counts,
+references; bytes, lengths, ends), and a quarter as many RNDFs are packed, with an output that is often a byte too short. The cases worked out by hand are in the first block, forms with
+32,768 of something in every fortieth, forms of 16,777,215 bytes and one whose text would have more in the fifth, a network's form of 16,777,215 bytes in the forty-first. Beside reply, tables and output: the second judgement of packed.py has to agree with the oracle on each form; what
+was unpacked, damaged or not, is packed again by the oracle from the program's answer and has to give the same bytes; what was packed is unpacked by the oracle as the same network. Every prefix and every change of
+one byte of two yards' forms, each with tables for it and with fewer, are unpacked where SORT is `packed-bytes`.
+
 Line ends (only where SORT is `ends`): COUNT RNDFs with every end that a line can have, of up to so many signs of comments, separators and line ends (pairs.py, end_case).
 
-Every second pair, every fourth RNDF alone and half of the maps, routes and missions are judged in the edition of December 6, 2006 (request L10), whose number is 1; the present one has any
+Every second pair, every fourth RNDF alone and half of the maps, routes, missions and packings are judged in the edition of December 6, 2006 (request L10), whose number is 1; the present one has any
 other number.
 
-A case for the program, little endian: 1 byte mode (1 RNDF alone, 2 pair, 3 map, 4 route, 5 mission); the edition (4 bytes); both texts' lengths (8 bytes each) and how many bytes of each are given (4 each); the ten
+A case for the program, little endian: 1 byte mode (1 RNDF alone, 2 pair, 3 map, 4 route, 5 mission, 8 packing, 9 unpacking: the bytes stand in place of the RNDF); the edition (4 bytes); both texts' lengths (8 bytes each) and how many bytes of each are given (4 each); the ten
 tables' lengths and the output's (4 each); the start and how many points the route has, or words the work space (4 each); both texts' bytes; the route's points (4 each). Its answer: kastepuhm_write_answer (30 words: the column stands behind the number), the lent tables' words, the output's bytes, one word that is 0 if nothing else was written.
 """
 import array
@@ -40,6 +47,7 @@ import types
 sys.dont_write_bytecode = True
 import pairs                        # noqa: E402
 import maps                         # noqa: E402  (tests/oracle, by way of pairs)
+import packed                       # noqa: E402
 from pairs import g, oracle         # noqa: E402
 
 ROOT = os.path.dirname(os.path.dirname(os.path.dirname(os.path.abspath(__file__))))
@@ -51,8 +59,10 @@ REQUESTED = ["9 of L8", "8 of L10", "9 of L10"]     # those that a request gives
 LIKE = ["led", "comment", "several", "field 1", "field 2", "field 3"]
 MOST_KEPT = 20                      # cases that differ, of a block
 RNDF_ALONE, PAIR, MAP, ROUTE, MISSION = 1, 2, 3, 4, 5
+PACKING, UNPACKING = 8, 9           # request L11
 OLDER = 16                          # added to a mode: in the edition of December 6, 2006
-LABELS = {PAIR: "pair", RNDF_ALONE: "RNDF alone", MAP: "map", ROUTE: "route", MISSION: "mission"}
+LABELS = {PAIR: "pair", RNDF_ALONE: "RNDF alone", MAP: "map", ROUTE: "route", MISSION: "mission", PACKING: "packing", UNPACKING: "unpacking"}
+OF_PACKED = [(PACKING, n) for n in (11, 19)] + [(UNPACKING, n) for n in (1, 11, 27, 28, 29)]    # those that have to come
 HEAD = struct.Struct("<30I")        # kastepuhm_write_answer
 ROWS = ["segments", "lanes", "zones", "spots", "points", "checkpoints", "stops", "exits", "goals", "limits"]
 
@@ -86,8 +96,30 @@ def ends_of(rng, number, count):
     return [(RNDF_ALONE, pairs.end_case(number * BLOCK + k)) for k in range(count)]
 
 
-SORTS = {"pairs": pairs_of, "maps": maps_of, "routes": routes_of, "missions": missions_of, "ends": ends_of}
-USUAL = ["pairs", "maps", "routes", "missions"]     # those that are run if none is named
+def packed_of(rng, number, count):
+    """Forms to be unpacked, and a quarter as many RNDFs to be packed; in the first block also those worked out by hand, in some those of the largest sizes."""
+    forms = [pairs.unpacking_case(rng) for _ in range(count)]
+    texts = [pairs.packing_case(rng) for _ in range(count // 4)]
+    if number % 40 == 0 and count == BLOCK:
+        forms += pairs.large_forms(rng)
+        texts += pairs.large_packings(rng)
+    if number == 0:
+        forms += pairs.forms_by_hand()
+    if number == 4:
+        forms += pairs.forms_of_edge_size()
+    if number == 40:
+        forms.append(pairs.form_of_largest_size())
+    return [(UNPACKING, case) for case in forms] + [(PACKING | OLDER * (k % 2), case) for k, case in enumerate(texts)]
+
+
+def packed_bytes_of(rng, number, count):
+    """Every prefix and every change of one byte of two forms, each twice; there are 2 * packed.ONE_BYTE_FORMS."""
+    first = number * BLOCK
+    return [(UNPACKING, pairs.one_byte_case(*packed.one_byte_form(k // 2), k)) for k in range(first, min(first + count, 2 * packed.ONE_BYTE_FORMS))]
+
+
+SORTS = {"pairs": pairs_of, "maps": maps_of, "routes": routes_of, "missions": missions_of, "packed": packed_of, "ends": ends_of, "packed-bytes": packed_bytes_of}
+USUAL = ["pairs", "maps", "routes", "missions", "packed"]     # those that are run if none is named
 
 
 def block_of(seed, number, count, sorts):
@@ -97,16 +129,16 @@ def block_of(seed, number, count, sorts):
         rng = random.Random("%s %d %d" % (sort.replace("pairs", "damage"), seed, number))    # the pairs are those of before there were sorts
         cases = [(mode, pairs.aged(case) if mode & OLDER and rng.random() < 0.75 else case) for mode, case in SORTS[sort](rng, number, count)]
         for mode, case in cases:
-            if kind_of(mode) == MAP:
-                lend_output(rng, case)
+            if kind_of(mode) in (MAP, PACKING):
+                lend_output(rng, mode, case)
         out += cases
     return out
 
 
-def lend_output(rng, case):
-    """As many bytes as the map has, or a little more or less; now and then far more, or none."""
+def lend_output(rng, mode, case):
+    """As many bytes as the map or the packed form has, or a little more or less; now and then far more, or none."""
     reply = oracle.read_rndf(said(case.rndf, case.rndf_length), case.room)
-    size = len(oracle.geojson(oracle.network_of(reply, case.rndf))) if reply.accepted else 100
+    size = len((oracle.geojson if kind_of(mode) == MAP else oracle.pack)(oracle.network_of(reply, case.rndf))) if reply.accepted else 100
     case.out = max(0, min(size, oracle.LARGEST_TEXT + 5) + rng.choice([0, 0, 0, 0, 0, 0, 1, 1, 2, 3, 7, 300, -1, -1, -size // 2, -size]))
 
 
@@ -127,9 +159,11 @@ def judge(reader, mode, case):
     """The reader's reply, and what the output then holds: its bytes in use, and all of them."""
     rndf, mdf = said(case.rndf, case.rndf_length), said(case.mdf, case.mdf_length)
     edition = reader.DECEMBER_2006 if mode & OLDER else reader.PRESENT
-    if kind_of(mode) == MAP:
-        done = reader.write_map(rndf, case.room, case.out, edition)
+    if kind_of(mode) in (MAP, PACKING):
+        done = (reader.write_map if kind_of(mode) == MAP else reader.write_packed)(rndf, case.room, case.out, edition)
         return done.reply, done.written or 0, done.output
+    if kind_of(mode) == UNPACKING:
+        return reader.unpack(rndf, case.room), 0, b""
     if kind_of(mode) == ROUTE:
         return reader.drive(rndf, mdf, case.room, case.start, case.route, edition), 0, b""
     if kind_of(mode) == MISSION:
@@ -146,7 +180,7 @@ def lent(mode, case):
 
 
 def lent_output(mode, case):
-    return case.out if kind_of(mode) == MAP else 0
+    return case.out if kind_of(mode) in (MAP, PACKING) else 0
 
 
 def answer_size(mode, case):
@@ -210,7 +244,7 @@ def answers(program, cases):
 def keep(seed, number, k, mode, case, want, got):
     os.makedirs(KEPT, exist_ok=True)
     path = os.path.join(KEPT, "case-%d-%d-%d" % (seed, number, k))
-    with open(path + ".rndf", "wb") as f:
+    with open(path + (".packed" if kind_of(mode) == UNPACKING else ".rndf"), "wb") as f:
         f.write(case.rndf)
     if has_mdf(mode):
         with open(path + ".mdf", "wb") as f:
@@ -239,6 +273,45 @@ def map_said(judged, mode, case, got):
         return maps.differences(got[at:at + written], network), maps.shapes(network)
     except (ValueError, KeyError, TypeError, AttributeError) as wrong:
         return ["%s: %s" % (type(wrong).__name__, wrong)], {}
+
+
+def network_said(answer, mode, case):
+    """The network of an accepting answer, its names from the bytes that were lent."""
+    head, at = HEAD.unpack_from(answer), HEAD.size
+    reply = oracle.Reply()
+    reply.used, reply.file, reply.tables = dict(zip(ROWS, head[5:15])), head[15:21], {}
+    for table, length in zip(ROWS, lent(mode, case)):
+        reply.tables[table] = struct.unpack_from("<%d%s" % (length, "i" if table == "points" else "I"), answer, at)
+        at += 4 * length
+    return oracle.network_of(reply, case.rndf)
+
+
+def packed_said(judged, mode, case, got):
+    """What the second judgement, packing again or unpacking say otherwise of a form, and what is counted of it. `got` is the program's answer."""
+    reply, written, _ = judged
+    wrong, count = [], {}
+    if kind_of(mode) == UNPACKING:
+        number = 0 if reply.accepted else reply.refusal[2]
+        second = packed.judged(said(case.rndf, case.rndf_length))
+        if second != (0 if number == 11 else number):
+            wrong.append("the oracle says %d, the second judgement %d" % (number, second))
+        damaged = not {"none", "by hand"} & set(case.kinds)
+        if number in (0, 11) and "by hand" not in case.kinds:
+            count["forms %s, %s" % ("damaged" if damaged else "as they were packed", "good" if number == 0 else "good, too few rows")] = 1
+        if reply.accepted and len(got) == answer_size(mode, case):
+            try:
+                if oracle.pack(network_said(got, mode, case)) != case.rndf:
+                    wrong.append("packed again it is another form")
+                count["forms packed again"] = 1
+            except (OverflowError, IndexError, TypeError, ValueError) as fault:
+                wrong.append("what was unpacked can't be packed: %s" % fault)
+    elif kind_of(mode) == PACKING and reply.accepted and len(got) == answer_size(mode, case):
+        form = got[HEAD.size + 4 * sum(lent(mode, case)):][:written]
+        again = oracle.unpack(form, packed.rows_needed(form) if packed.judged(form) == 0 else {t: 0 for t in oracle.RNDF_TABLES})
+        if not again.accepted or oracle.network_of(again, form) != oracle.network_of(reply, case.rndf):
+            wrong.append("what was packed is unpacked otherwise")
+        count["bytes of texts packed"], count["bytes of their forms"], count["networks packed"] = len(case.rndf), written, 1
+    return wrong, count
 
 
 def requested(refusal, rndf):
@@ -305,16 +378,20 @@ def run_block(job):
             for which in [reply.refusal[2]] + requested(reply.refusal, case.rndf):
                 for key in [reply.refusal[3]] + line_like(reply.refusal, case):
                     columns[which, key] = columns.get((which, key), 0) + 1
-        for kind in set(case.kinds) if has_mdf(mode) else ():
+        for kind in set(case.kinds) if has_mdf(mode) or kind_of(mode) == UNPACKING else ():
             drawn, taken = kinds.get((kind_of(mode), kind), (0, 0))
             kinds[kind_of(mode), kind] = (drawn + 1, taken + reply.accepted)
         by_json, more = map_said(judged, mode, case, got)
+        by_packing, counted = packed_said(judged, mode, case, got)
+        more.update(counted)
         for shape, n in more.items():
             shapes[shape] = shapes.get(shape, 0) + n
         if want != got:
             differing.append(keep(seed, number, k, mode, case, want, got) if len(differing) < MOST_KEPT else "DIFFERS")
         if by_json:
             differing.append("DIFFERS by json, case %d of block %d: %s" % (k, number, "; ".join(by_json)[:300]))
+        if by_packing:
+            differing.append("DIFFERS by packing or unpacking, case %d of block %d (%s): %s" % (k, number, ", ".join(case.kinds), "; ".join(by_packing)[:300]))
     return replies, kinds, shapes, columns, differing
 
 
@@ -329,7 +406,11 @@ def print_counts(replies, kinds, shapes, columns):
             print("%-16d %10d %10d %12d %8d %8d %8d" % (number, of(pair, (1, number)), of(pair, (2, number)), of(alone, (1, number)), of(drawn, (1, number)),
                                                     *(sum(of(one, (file, number)) for file in (0, 1, 2)) for one in (route, mission))))
         print("%-16s %61d" % ("11, file 0", of(mission, (0, 11))))
-    for mode in (PAIR, ROUTE, MISSION):
+    print("\n%-16s %16s %16s %10s" % ("packed forms", "packing: present", "December 6, 2006", "unpacking"))
+    for key, number in [("ok", "accepted")] + [(n, n) for n in (*range(1, 14), 19, 25, 27, 28, 29)]:
+        both = [sum(n for (one, reply), n in replies.items() if one == mode and (reply == key or reply[1:] == (key,))) for mode in (PACKING, PACKING | OLDER, UNPACKING)]
+        print("%-16s %16d %16d %10d" % (number, *both))
+    for mode in (PAIR, ROUTE, MISSION, UNPACKING):
         print("\n%-28s %8s %8s" % ("damage (%ss)" % LABELS[mode], "drawn", "accepted"))
         for (_, kind), (drawn, taken) in sorted(item for item in kinds.items() if item[0][0] == mode):
             print("%-28s %8d %8d" % (kind[:28], drawn, taken))
@@ -338,7 +419,7 @@ def print_counts(replies, kinds, shapes, columns):
         found = sorted(((n, column) for (one, column), n in columns.items() if one == number and column not in LIKE), reverse=True)
         print("%-8s %8d %8d %s  %s" % (number, sum(n for n, _ in found), len(found), " ".join("%8d" % columns.get((number, like), 0) for like in LIKE),
                                        ", ".join("%d: %d" % (column, n) for n, column in found[:5])))
-    print("\n%-40s %8s" % ("on the maps", "came"))
+    print("\n%-40s %8s" % ("on the maps, and of packed forms", "came"))
     for shape, n in sorted(shapes.items()):
         print("%-40s %8d" % (shape, n))
 
@@ -367,12 +448,56 @@ def compare(program, count, seed, sorts):
     missing += [which for which in REQUESTED if not any(one == which for one, _ in columns)]
     missing = missing if sorts == USUAL else []
     missing += ["%d with file 0" % n for n in (11, 30, 31) if "missions" in sorts and not any(key == (0, n) for _, key in replies)]
+    if "packed" in sorts:
+        missing += ["%d of %s" % (n, LABELS[mode]) for mode, n in OF_PACKED if not any(kind_of(one) == mode and key[1:] == (n,) for one, key in replies)]
     if missing:
         print("never came: " + ", ".join(map(str, missing)))
     counts = [sum(n for (mode, _), n in replies.items() if kind_of(mode) == one) for one in (PAIR, RNDF_ALONE, ROUTE, MISSION, MAP)]
     counts += [sum(replies.get((mode, "ok"), 0) for mode in (MAP, MAP | OLDER)), sum(n for (mode, _), n in replies.items() if mode & OLDER)]
-    print("\nseed %d: %d pairs, %d RNDFs alone, %d routes, %d missions and %d maps (%d written), %d of them in the older edition, %d differ" % (seed, *counts, differing))
+    forms = [sum(n for (mode, key), n in replies.items() if kind_of(mode) == one and key in keys) for one in (PACKING, UNPACKING) for keys in ({key for _, key in replies}, {"ok"})]
+    print("\nseed %d: %d pairs, %d RNDFs alone, %d routes, %d missions and %d maps (%d written), %d packings (%d packed) and %d unpackings (%d unpacked), %d of them in the older edition, %d differ"
+          % (seed, *counts[:6], *forms, counts[6], differing))
     return 1 if differing or missing else 0
+
+
+def judge_block(job):
+    """Of a block's forms, without a library: replies by kind of damage, and where the second judgement differs."""
+    seed, number, count, sorts = job
+    replies, wrong = {}, []
+    for mode, case in block_of(seed, number, count, sorts):
+        if kind_of(mode) == UNPACKING:
+            judged = judge(oracle, mode, case)
+            key = "good" if judged[0].accepted else judged[0].refusal[2]
+            more, _ = packed_said(judged, mode, case, words(judged, mode, case))
+        elif kind_of(mode) == PACKING:
+            judged = judge(oracle, mode, case)
+            key = "packed" if judged[0].accepted else "packing refused"
+            more, _ = packed_said(judged, mode, case, words(judged, mode, case))
+        else:
+            continue
+        for kind in ["", *set(case.kinds)] if kind_of(mode) == UNPACKING else [""]:
+            replies[kind, key] = replies.get((kind, key), 0) + 1
+        wrong += ["DIFFERS, block %d (%s): %s; %s" % (number, ", ".join(case.kinds), "; ".join(more), case.rndf[:2000].hex())] if more else []
+    return replies, wrong
+
+
+def judgements(count, seed, sorts):
+    jobs = [(seed, b, min(BLOCK, count - b * BLOCK), sorts) for b in range(-(-count // BLOCK))]
+    replies, differing = {}, 0
+    with multiprocessing.Pool(len(os.sched_getaffinity(0))) as pool:
+        for more, wrong in pool.imap_unordered(judge_block, jobs):
+            for key, n in more.items():
+                replies[key] = replies.get(key, 0) + n
+            for line in wrong:
+                print(line, flush=True)
+            differing += len(wrong)
+    keys = ["good", 11, 1, 27, 28, 29]
+    print("%-32s %s" % ("damage", " ".join("%8s" % key for key in keys)))
+    for kind in sorted({kind for kind, _ in replies}):
+        print("%-32s %s" % (kind or "all", " ".join("%8d" % replies.get((kind, key), 0) for key in keys)))
+    forms = sum(replies.get(("", key), 0) for key in keys)
+    print("seed %d: %d forms, %d networks packed and %d packings refused, %d judged otherwise" % (seed, forms, replies.get(("", "packed"), 0), replies.get(("", "packing refused"), 0), differing))
+    return 1 if differing else 0
 
 
 def mutants(count, seed, sorts):
@@ -388,7 +513,7 @@ def mutants(count, seed, sorts):
     right = [told(oracle, *c) for c in cases]
     source = open(oracle.__file__).read()
     survive = 0
-    mistakes = [mistake for sort in sorts for mistake in {"pairs": mutate.MUTANTS, "maps": maps.MUTANTS, "routes": pairs.routes.MUTANTS, "missions": pairs.missions.MUTANTS}[sort]]
+    mistakes = [mistake for sort in sorts for mistake in {"pairs": mutate.MUTANTS, "maps": maps.MUTANTS, "routes": pairs.routes.MUTANTS, "missions": pairs.missions.MUTANTS, "packed": packed.MUTANTS}[sort]]
     for old, new in mistakes:
         assert old in source, old
         mutant = types.ModuleType("mutant")
@@ -403,4 +528,6 @@ def mutants(count, seed, sorts):
 if __name__ == "__main__":
     program, count, seed = sys.argv[1], int(sys.argv[2]), int(sys.argv[3])
     sorts = sys.argv[4:] or USUAL
+    if program == "--judgements":
+        sys.exit(judgements(count, seed, sys.argv[4:] or ["packed"]))
     sys.exit(mutants(count, seed, sorts) if program == "--mutants" else compare(program, count, seed, sorts))

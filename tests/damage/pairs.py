@@ -12,6 +12,7 @@ import generate as g    # noqa: E402
 import maps             # noqa: E402
 import oracle           # noqa: E402
 import missions         # noqa: E402
+import packed           # noqa: E402
 import routes           # noqa: E402
 
 LARGEST = oracle.LARGEST_TEXT
@@ -576,3 +577,81 @@ def missions_by_hand():
         case.start, case.route = start, [5] * rows
         cases.append(case)
     return cases
+
+
+# ---- packed forms (request L11)
+
+def packing_case(rng):
+    """An RNDF to be packed, whole or damaged."""
+    return map_case(rng) if rng.random() < 0.6 else make_case(rng)
+
+
+def form_case(form, room, kinds):
+    """Bytes to be unpacked: they stand in place of the RNDF."""
+    return text_case(form, b"", {**dict.fromkeys(oracle.TABLES, 0), **room}, list(kinds))
+
+
+def unpacking_case(rng, network=None, times=None):
+    """A form, good or damaged; one in a hundred and fifty is said to be over 16,777,215 bytes."""
+    form, room, kinds = packed.random_form(rng, network, times)
+    case = form_case(form, room, kinds or ["none"])
+    if rng.random() < 0.007:
+        case.kinds.append("too long")
+        case.rndf_length = rng.choice([LARGEST + 1, LARGEST + 1, LARGEST + 2, 1 << 25, 1 << 32, (1 << 32) + len(form), rng.randint(LARGEST + 1, 1 << 33)])
+    return case
+
+
+def large_packings(rng):
+    """RNDFs in which one part comes 32,768 times, to be packed."""
+    return [make_case(rng, 0, wide_pair)]
+
+
+def large_forms(rng):
+    """Forms of networks in which one part comes 32,768 times, one of them damaged; and one more checkpoint where all 32,768 numbers are taken."""
+    cases = []
+    for times, which in ((0, None), (1, None), (0, "checkpoints")):
+        network = oracle.network_of_text(g.render(rng, wide_pair(rng, which)[0][1], 0))
+        if which:
+            network.checkpoints.append((rng.randint(1, 32768), 0))
+        cases.append(unpacking_case(rng, network, times))
+        cases[-1].kinds.append("all numbers taken" if which else "wide")
+    return cases
+
+
+def forms_by_hand():
+    """The forms worked out by hand: with tables for as many rows as it takes, and with none at all."""
+    enough = {t: 20 * oracle.STRIDE[t] for t in oracle.RNDF_TABLES}
+    none = dict.fromkeys(enough, 0)
+    short = [(packed.FORM_Z, dict(packed.rows_needed(packed.FORM_Z), **{t: n - 1})) for t, n in packed.rows_needed(packed.FORM_Z).items()]
+    return ([form_case(form, room, ["by hand"]) for _, form, _ in packed.HAND if len(form) < 1 << 20 for room in (enough, none)]
+            + [form_case(form, room, ["by hand, a number short"]) for form, room in short])
+
+
+def forms_of_edge_size():
+    """Forms with 32,768 of a part and with one more; of 16,777,215 bytes, in which 28 and 29 are soon found; and a network's whose text has over 16,777,215 bytes."""
+    cases = []
+    for which, n in packed.MANY:
+        form = packed.many(which, n)
+        cases.append(form_case(form, packed.rows_needed(form), ["%d %s" % (n, which)]))
+    one = b"\xff\xff" + bytes(65535)
+    whole, rest = divmod(LARGEST - 5, len(one))
+    filled = packed.framed(one * whole + (rest - 2).to_bytes(2, "big") + bytes(rest - 2))
+    none = dict.fromkeys(oracle.RNDF_TABLES, 0)
+    points = packed.points_form(17, 30500)
+    return cases + [form_case(filled, none, ["16,777,215 bytes"]), form_case(b"\x01" + bytes(LARGEST - 1), none, ["16,777,215 bytes"]),
+            form_case(points, packed.rows_needed(points), ["text over 16,777,215 bytes"])]
+
+
+def form_of_largest_size():
+    """A network's form of 16,777,215 bytes."""
+    form = packed.largest_form()
+    return form_case(form, packed.rows_needed(form), ["a network's, 16,777,215 bytes"])
+
+
+def one_byte_case(form, kind, data, k):
+    """Each is unpacked twice: with just the rows that it takes, and with fewer (none at all, or one table that is a number short)."""
+    room = packed.rows_needed(form)
+    if k % 2:
+        short = [t for t in room if room[t]]
+        room = dict.fromkeys(room, 0) if k % 4 == 1 else dict(room, **{short[k // 4 % len(short)]: room[short[k // 4 % len(short)]] - 1})
+    return form_case(data, room, [kind])

@@ -13,11 +13,11 @@
 #include <string.h>
 #include <sys/mman.h>
 
-enum { RNDF_ALONE = 1, PAIR, MAP, ROUTE, MISSION };
+enum { RNDF_ALONE = 1, PAIR, MAP, ROUTE, MISSION, PACKING = 8, UNPACKING };
 enum { SEGMENTS, LANES, ZONES, SPOTS, POINTS, CHECKPOINTS, STOPS, EXITS, GOALS, LIMITS, TABLES };
 
 #define MOST_BYTES ((size_t)1 << 33)
-#define MOST_NUMBERS ((size_t)1 << 20)
+#define MOST_NUMBERS ((size_t)1 << 22)
 #define MOST_OUTPUT ((size_t)1 << 25)
 #define MOST_STEPS ((size_t)1 << 20)
 #define OTHER 0x5A5A5A5Au
@@ -108,6 +108,11 @@ static kastepuhm_write_answer answer(int mode)
     case MISSION:
         read.answer = kastepuhm_check_mission(edition, TEXT(0), TEXT(1), NETWORK, LENT(GOALS), LENT(LIMITS), start, route(), route_length);
         memset(given_route, 0, route_length * sizeof *given_route);
+        return read;
+    case PACKING:
+        return kastepuhm_write_packed(edition, TEXT(0), NETWORK, output_end - output_length, output_length);
+    case UNPACKING:                                         /* the packed bytes stand in place of the RNDF */
+        read.answer = kastepuhm_read_packed(TEXT(0), NETWORK);
         return read;
     default:
         exit(2);

@@ -716,6 +716,11 @@ def judge_rndf(text, room, edition):
     # lowest number first ..; then 10; 11; then the first line with 12 or 13."
     if len(text) > LARGEST_TEXT:
         raise Refused(1, 0, 1)
+    return judge_rndf_of_any_size(text, room, edition)
+
+
+def judge_rndf_of_any_size(text, room, edition):
+    """The same without 1 (L11: "text size apart")."""
     form = form_of_rndf(text, edition)
     # 11 "a table has fewer rows than needed".  "The rows of each table are as
     # many as its count lines declare together ..; checkpoints, stops and
@@ -1201,6 +1206,278 @@ def write_map(text, room, out_len, edition=PRESENT):
     reply = read_rndf(text, room, edition)
     return write_out(reply, lambda: geojson(network_of(reply, text)), 1,
                      room, RNDF_TABLES, out_len)
+
+
+# ---------------------------------------------------------- the packed form
+
+# L11: "The team fixes the fields of each record in docs/."  docs/PACKED.md: the
+# words of a table's row in so many bytes, a name in place of its start and length.
+PACKED_VERSION = 1
+PACKED_FIELDS = {
+    "segments": (4, 2, "name"), "lanes": (4, 2, 2, 1, 1),
+    "zones": (4, 2, 4, 2, "name"), "spots": (4, 2), "points": (4, 4),
+    "checkpoints": (2, 4), "stops": (4,), "exits": (4, 4),
+}
+# "rows of segments 4, of lanes 4, .. of exits 4; name; format version; creation
+# date"
+PACKED_FILE = (4,) * len(RNDF_TABLES) + ("name",) * 3
+
+
+def pack(network):
+    """L11: "a version byte, 1, at the front; then the length of all that follows
+    in four bytes, big-endian; then records in table order, each with its length
+    first in two bytes, big-endian, names included."""
+    def record(row, fields):
+        out = []
+        for value, size in zip(row, fields):
+            if size == "name":
+                # "A name is its length in two bytes and then its bytes. A missing
+                # name has the length 0 and no bytes."
+                out.append(len(value).to_bytes(2, "big") + value)
+            else:
+                # "A coordinate below 0 is told as so much less than 2 to the 32nd"
+                out.append(value.to_bytes(size, "big", signed=value < 0))
+        whole = b"".join(out)
+        return len(whole).to_bytes(2, "big") + whole
+
+    file_row = [len(getattr(network, table)) for table in RNDF_TABLES]
+    file_row += [network.name, network.version, network.date]
+    records = [record(file_row, PACKED_FILE)]
+    for table in RNDF_TABLES:
+        for row in getattr(network, table):
+            records.append(record(row, PACKED_FIELDS[table]))
+    rest = b"".join(records)
+    return bytes([PACKED_VERSION]) + len(rest).to_bytes(4, "big") + rest
+
+
+def write_packed(text, room, out_len, edition=PRESENT):
+    """"Pack an accepted network": read first, refused as the reader does, 19 last."""
+    reply = read_rndf(text, room, edition)
+    return write_out(reply, lambda: pack(network_of(reply, text)), 1,
+                     room, RNDF_TABLES, out_len)
+
+
+def unpack(data, room):
+    """L11: "unpacking gives the network back, and bytes that are not some
+    network's packed form are refused. Names then lie in the packed bytes."""
+    reply = Reply()
+    try:
+        # "Refusals, in order: 1 over 16,777,215 bytes"
+        if len(data) > LARGEST_TEXT:
+            raise Refused(1, 0, 1)
+        # "27 version not 1 or no bytes"
+        if len(data) == 0 or data[0] != PACKED_VERSION:
+            raise Refused(0, 0, 27)
+        records = records_in(data)          # 28
+        # "29 records that are not the packed form of a network by 01 and L8, text
+        # size apart".  Some network packs to these bytes exactly if the RNDF
+        # written of their rows is a network's and that network packs to them.
+        taken = rows_in_records(data, records)
+        if taken is None:
+            raise Refused(0, 0, 29)
+        network, names = taken
+        again = network_of_text(text_of_rows(network))
+        if again is None or pack(again) != data:
+            raise Refused(0, 0, 29)
+        # "then 11"
+        for table in RNDF_TABLES:
+            if rows_in(room[table], table) < len(getattr(network, table)):
+                raise Refused(1, 0, 11)
+        # "A name is its start and length": here in the packed bytes
+        rows = {table: getattr(network, table) for table in RNDF_TABLES}
+        for table in ("segments", "zones"):
+            rows[table] = [row[:-1] + name for row, name in zip(rows[table], names[table])]
+        accept(reply, rows, room)
+        reply.file = names["file"]
+    except Refused as refused:
+        refuse(reply, refused, room, RNDF_TABLES)
+    return reply
+
+
+def records_in(data):
+    """The records as (where their fields begin, where they end), or "28 the first
+    length is cut short or not the count of bytes behind it, or a record runs past
+    the end"."""
+    if len(data) < 5 or int.from_bytes(data[1:5], "big") != len(data) - 5:
+        raise Refused(0, 0, 28)
+    records = []
+    at = 5
+    while at < len(data):
+        begin = at + 2
+        at = begin + int.from_bytes(data[at:begin], "big")
+        if begin > len(data) or at > len(data):
+            raise Refused(0, 0, 28)
+        records.append((begin, at))
+    return records
+
+
+def rows_in_records(data, records):
+    """The rows that the records hold, as a Network whatever they say, and the
+    places of their names; None where the records are not as many as the first one
+    counts, or the fields of one don't fill it."""
+    def fields_of(record, fields):
+        """The row of a record, and its names as start, length."""
+        at, end = record
+        row, names = [], []
+        for size in fields:
+            if size == "name":
+                length = int.from_bytes(data[at:at + 2], "big")
+                at += 2
+                row.append(data[at:at + length])
+                names += [at, length] if length else MISSING_NAME
+                at += length
+            else:
+                row.append(int.from_bytes(data[at:at + size], "big"))
+                at += size
+        return (tuple(row), tuple(names)) if at == end else None
+
+    taken = fields_of(records[0], PACKED_FILE) if records else None
+    if taken is None:
+        return None
+    (*counts, name, version, date), file_names = taken
+    if 1 + sum(counts) != len(records):
+        return None
+    rows, names = {}, {"file": file_names}
+    left = iter(records[1:])
+    for table, count in zip(RNDF_TABLES, counts):
+        rows[table], names[table] = [], []
+        for _ in range(count):
+            taken = fields_of(next(left), PACKED_FIELDS[table])
+            if taken is None:
+                return None
+            rows[table].append(taken[0])
+            names[table].append(taken[1])
+    # two's complement
+    rows["points"] = [tuple(n - (1 << 32) if n >= 1 << 31 else n for n in row)
+                      for row in rows["points"]]
+    return Network(name, version, date, **rows), names
+
+
+def text_of_rows(rows):
+    """The RNDF of rows, whatever they say; None where it can't be written, since a
+    part counts rows that are not there or a mark's point is none.  Parts take their
+    rows in turn, by counts alone: identifiers are places, and what the rows say of
+    first lanes, points and spots is not looked at."""
+    called = []         # the identifier of each point
+    part_of = []        # the part that it stands in
+    lanes, spots = iter(rows.lanes), iter(rows.spots)
+
+    def enough(count):
+        return len(called) + count <= len(rows.points)
+
+    def take(part, count):
+        part_of.extend([part] * count)
+        called.extend("%s.%d" % (part, p) for p in range(1, count + 1))
+
+    parts = []          # for each segment and zone: what stands in it, with its row
+    for s, (_, count, _) in enumerate(rows.segments, 1):
+        parts.append([])
+        for l in range(1, count + 1):
+            lane = next(lanes, None)
+            if lane is None or not enough(lane[1]):
+                return None
+            parts[-1].append(("%d.%d" % (s, l), len(called), lane))
+            take("%d.%d" % (s, l), lane[1])
+    for z, (_, points, _, count, _) in enumerate(rows.zones, len(rows.segments) + 1):
+        if not enough(points):
+            return None
+        parts.append([("%d.0" % z, len(called), None)])
+        take("%d.0" % z, points)
+        for s in range(1, count + 1):
+            spot = next(spots, None)
+            if spot is None or not enough(2):
+                return None
+            parts[-1].append(("%d.%d" % (z, s), len(called), spot))
+            take("%d.%d" % (z, s), 2)
+
+    marks = {}          # for each part its lines, in the order of rows
+    for number, point in rows.checkpoints:
+        if point >= len(called):
+            return None
+        marks.setdefault(part_of[point], []).append((b"checkpoint", called[point], number))
+    for point, in rows.stops:
+        if point >= len(called):
+            return None
+        marks.setdefault(part_of[point], []).append((b"stop", called[point]))
+    for point, entry in rows.exits:
+        if point >= len(called) or entry >= len(called):
+            return None
+        marks.setdefault(part_of[point], []).append((b"exit", called[point], called[entry]))
+
+    out = []
+
+    def put(*fields):
+        out.append(TAB.join(f if isinstance(f, bytes) else str(f).encode()
+                            for f in fields) + b"\n")
+
+    def put_option(keyword, value, missing):
+        if value != missing:
+            put(keyword, value)
+
+    def put_boundary(keyword, side):
+        if side:
+            put(keyword, BOUNDARIES[side] if side < len(BOUNDARIES) else side)
+
+    def put_marks_and_points(part, first, count):
+        for mark in marks.get(part, []):
+            put(*mark)
+        for p in range(first, first + count):
+            put(called[p], *map(write_coordinate, rows.points[p]))
+
+    put(b"RNDF_name", rows.name)
+    put(b"num_segments", len(rows.segments))
+    put(b"num_zones", len(rows.zones))
+    put_option(b"format_version", rows.version, b"")
+    put_option(b"creation_date", rows.date, b"")
+    for s, (_, count, name) in enumerate(rows.segments, 1):
+        put(b"segment", s)
+        put(b"num_lanes", count)
+        put_option(b"segment_name", name, b"")
+        for part, first, (_, points, width, left, right) in parts[s - 1]:
+            put(b"lane", part)
+            put(b"num_waypoints", points)
+            put_option(b"lane_width", width, MISSING_WIDTH)
+            put_boundary(b"left_boundary", left)
+            put_boundary(b"right_boundary", right)
+            put_marks_and_points(part, first, points)
+            put(b"end_lane")
+        put(b"end_segment")
+    for z, (_, points, _, count, name) in enumerate(rows.zones, len(rows.segments) + 1):
+        put(b"zone", z)
+        put(b"num_spots", count)
+        put_option(b"zone_name", name, b"")
+        for part, first, spot in parts[z - 1]:
+            if spot is None:
+                put(b"perimeter", part)
+                put(b"num_perimeterpoints", points)
+                put_marks_and_points(part, first, points)
+                put(b"end_perimeter")
+            else:
+                put(b"spot", part)
+                put_option(b"spot_width", spot[1], MISSING_WIDTH)
+                put_marks_and_points(part, first, 2)
+                put(b"end_spot")
+        put(b"end_zone")
+    put(b"end_file")
+    return b"".join(out)
+
+
+def network_of_text(text):
+    """The network that a text of any size spells in the present edition, or None."""
+    if text is None:
+        return None
+    try:
+        form, rows = judge_rndf_of_any_size(
+            text, {t: STRIDE[t] * len(text) for t in RNDF_TABLES}, PRESENT)
+    except Refused:
+        return None
+
+    def named(rows):
+        return [tuple(row[:-2]) + (name_of(text, *row[-2:]),) for row in rows]
+    rows = {t: named(rows[t]) if t in ("segments", "zones") else [tuple(row) for row in rows[t]]
+            for t in RNDF_TABLES}
+    return Network(name_of(text, *form.name), name_of(text, *form.version),
+                   name_of(text, *form.date), **rows)
 
 
 # ------------------------------------------------------------------- routes

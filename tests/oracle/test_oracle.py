@@ -9,6 +9,7 @@ import os
 import random
 import sys
 import time
+import types
 import unittest
 
 import casefile
@@ -17,6 +18,7 @@ import lists
 import maps
 import missions
 import oracle
+import packed
 import routes
 from oracle import (RNDF_TABLES, STRIDE, TABLES, drive, house_mdf, house_rndf, lookup,
                     mission_of, name_of, network_of, points_of, read_pair,
@@ -441,6 +443,147 @@ class Missions(unittest.TestCase):
             self.assertIsNone(oracle.check_mission(made.network, made.mission, start, len(made.network.points)))
 
 
+class Packed(unittest.TestCase):
+    """L11."""
+
+    def answer(self, data, room):
+        """The number, 0 if accepted; what else a refusal has to be."""
+        reply = oracle.unpack(data, room)
+        if reply.accepted:
+            return 0
+        number = reply.refusal[2]
+        self.assertEqual(reply.refusal, (1 if number in (1, 11) else 0, 0, number, 0))
+        self.assertEqual(reply.tables, {t: [0] * room[t] for t in RNDF_TABLES})
+        self.assertEqual((reply.used, reply.file), (None, None))
+        return number
+
+    def test_yards(self):
+        for lines, form, tables, file in ((YARD_A, packed.FORM_A, packed.TABLES_A, packed.FILE_A),
+                                          (packed.YARD_Z, packed.FORM_Z, packed.TABLES_Z, packed.FILE_Z)):
+            r = text(lines)
+            before = read_rndf(r, WIDE)
+            network = network_of(before, r)
+            self.assertEqual(oracle.pack(network), form)
+            self.assertEqual(packed.assemble(packed.records_of(network)), form)
+            room = packed.rows_needed(form)
+            reply = oracle.unpack(form, room)
+            self.assertEqual((reply.tables, reply.file, reply.used), (tables, file, before.used))
+            self.assertEqual(network_of(reply, form), network)
+            # numbers left over, and rows not used, are zero
+            for more in (1, 7):
+                reply = oracle.unpack(form, {t: n + more for t, n in room.items()})
+                self.assertEqual(reply.tables, {t: tables[t] + [0] * more for t in tables})
+            # a table short by a number
+            for t in RNDF_TABLES:
+                if room[t]:
+                    self.assertEqual(self.answer(form, dict(room, **{t: room[t] - 1})), 11)
+            # packing: as the map is written
+            for out in (len(form), len(form) + 1, 2 * len(form)):
+                got = oracle.write_packed(r, WIDE, out)
+                self.assertEqual((got.written, got.output, got.tables), (len(form), form + bytes(out - len(form)), before.tables))
+            for out in (0, 1, len(form) - 1):
+                got = oracle.write_packed(r, WIDE, out)
+                self.assertEqual((got.refusal, got.output), ((1, 0, 19, 0), bytes(out)))
+                self.assertEqual(got.tables, {t: [0] * WIDE[t] for t in RNDF_TABLES})
+            self.assertEqual(oracle.write_packed(r, dict(WIDE, points=3), 0).refusal, (1, 0, 11, 0))
+        self.assertEqual((len(packed.FORM_A), len(text(YARD_A)), len(packed.FORM_Z)), (111, 211, 285))
+        self.assertEqual(oracle.write_packed(b"", WIDE, 0).refusal, (1, 1, 10, 0))
+        older = oracle.write_packed(text(ins(YARD_A, 8, "left_boundary>solid_yellow")), WIDE, 0, oracle.DECEMBER_2006)
+        self.assertEqual(older.refusal, (1, 8, 8, 15))
+
+    def test_by_hand(self):
+        """Both judgements; 29 is decided before 11, so also where nothing is lent."""
+        for label, data, want in packed.HAND:
+            self.assertEqual(packed.judged(data), want, label)
+            self.assertEqual(self.answer(data, WIDE), want, label)
+            self.assertEqual(self.answer(data, {t: 0 for t in TABLES}), want or 11, label)
+        entry_2 = packed.changed(YARD_A, ("exits", 0, 1, 2))        # of two points
+        self.assertEqual(self.answer(entry_2, {t: 0 for t in TABLES}), 29)
+
+    def test_random(self):
+        """Forms good and damaged: the RNDF of their rows is read as the rows are
+        judged one by one; what is accepted packs to the same bytes."""
+        rng = random.Random(16)
+        count, changed = {}, 0
+        for _ in range(2000):
+            data, room, kinds = packed.random_form(rng)
+            want, got = packed.judged(data), self.answer(data, room)
+            self.assertEqual(want, 0 if got == 11 else got, (kinds, data.hex()))
+            if got == 11:
+                wide = {t: STRIDE[t] * (len(data) // 6) for t in room}
+                self.assertEqual(self.answer(data, wide), 0)
+                self.assertTrue(any(room[t] < n for t, n in packed.rows_needed(data).items()))
+            if got == 0:
+                network = network_of(oracle.unpack(data, room), data)
+                self.assertEqual(oracle.pack(network), data)
+                house = house_rndf(network)
+                self.assertEqual(network_of(read_rndf(house, room), house), network)
+                changed += bool(kinds)
+            count[got] = count.get(got, 0) + 1
+        for number, least in ((0, 300), (11, 40), (27, 20), (28, 100), (29, 300)):
+            self.assertGreater(count[number], least, count)
+        self.assertGreater(changed, 150)
+
+    def test_there_and_back(self):
+        """The generator's networks: packed from their texts, one form for one
+        network, and unpacked as the same network."""
+        rng = random.Random(17)
+        forms = {}
+        for _ in range(300):
+            made = generate.make(rng, rng.choice([1, 2, 4, 9]))
+            r = generate.render(rng, made.rndf_lines, 1)
+            done = oracle.write_packed(r, {t: STRIDE[t] * 200 for t in TABLES}, len(r))
+            form = done.output[:done.written]
+            self.assertEqual(form, packed.assemble(packed.records_of(made.network)))
+            reply = oracle.unpack(form, packed.rows_needed(form))
+            self.assertEqual(network_of(reply, form), made.network)
+            self.assertEqual(forms.setdefault(form, made.network), made.network)
+
+    def test_many(self):
+        for which, n in packed.MANY:
+            data = packed.many(which, n)
+            want = 29 if n > 32768 else 0
+            self.assertEqual(packed.judged(data), want, (which, n))
+            self.assertEqual(self.answer(data, packed.rows_needed(data)), want, (which, n))
+
+    def test_every_end(self):
+        """Every prefix, and a byte more."""
+        for form in (packed.FORM_A, packed.FORM_Z):
+            for end in range(len(form)):
+                self.assertEqual(self.answer(form[:end], WIDE), 28 if end else 27)
+                # with the first length to match: 29 where a record ends
+                cut = packed.framed(form[5:end])
+                self.assertEqual(self.answer(cut, WIDE), packed.judged(cut))
+                self.assertEqual(packed.judged(cut), 29 if end <= 5 or end in packed.places_of_lengths(form) else 28)
+            for byte in range(256):
+                self.assertEqual(self.answer(form + bytes([byte]), WIDE), 28)
+                self.assertEqual(self.answer(packed.framed(form[5:] + bytes([byte])), WIDE), 28)
+
+    def test_rules_are_noticed(self):
+        """Each rule of the second judgement, left out, is noticed by some form."""
+        with open(packed.__file__) as f:
+            source = f.read()
+        rng = random.Random(18)
+        forms = [data for _, data, _ in packed.HAND if len(data) < 100_000]
+        forms += [packed.random_form(rng)[0] for _ in range(1500)]
+        want = [packed.judged(data) for data in forms]
+        self.assertEqual(len(packed.RULES_LOST), len(set(packed.RULES_LOST)))
+        for rule in packed.RULES_LOST:
+            self.assertIn(rule, source)
+            for place in range(source.count(rule)):
+                before = source.split(rule)
+                other = types.ModuleType("mutant")
+                exec(compile(rule.join(before[:place + 1]) + rule.replace("yield ", "yield True or ") + rule.join(before[place + 1:]),
+                             "mutant", "exec"), other.__dict__)
+
+                def noticed(data, right):
+                    try:
+                        return other.judged(data) != right
+                    except IndexError:          # a point or part that is none
+                        return True
+                self.assertTrue(any(noticed(*one) for one in zip(forms, want)), rule)
+
+
 class Places(unittest.TestCase):
     """Which statement may stand at which place, laid out by hand: what may
     stand before each line of Yard C and of the MDF of Yard A ("0": a line
@@ -705,6 +848,17 @@ class Large(unittest.TestCase):
         one_line = b"x" * self.MOST
         self.assertEqual(read_rndf(one_line, WIDE).refusal, (1, 1, 2, 513))
         self.assertEqual(read_rndf(b"\n" * self.MOST, WIDE).refusal, (1, self.MOST + 1, 10, 0))
+
+    def test_packed(self):
+        """L11: forms of up to 16,777,216 bytes, and one whose text is longer than a
+        text may be."""
+        for label, data, want in packed.largest():
+            start = time.time()
+            room = packed.rows_needed(data) if want == 0 else WIDE
+            reply = oracle.unpack(data, room)
+            print("%s: %s, %.1f s" % (label, reply.refusal or "ok", time.time() - start))
+            self.assertEqual(packed.judged(data), want, label)
+            self.assertEqual(0 if reply.accepted else reply.refusal[2], want, label)
 
     def test_house_writing_one_byte_over(self):
         """A text of the largest size without its final LF has a house writing
