@@ -1,4 +1,4 @@
--- The statements that spell a mission, put in order by rank, are its statements in house order. Assumes nothing.
+-- The statements that spell a mission, put in order by rank, are its statements in house order, without its date. Assumes nothing.
 use mathlib.Core.Path.{_≡_, refl, ap, _∙_}
 use mathlib.Core.List.{List, [], _∷_, _++_, map, append-nil}
 use Prim.Native.Nat.{ℕ}
@@ -8,6 +8,7 @@ use Rattle.terms.specs.Words.{perhaps}
 use Rattle.grammar.specs.MissionStatements.{Kind, Says, Statement, orders, say, ofKind, Only, MDF-name, RNDF, format-version, creation-date, checkpoints, num-checkpoints, end-checkpoints, speed-limits, num-speed-limits, end-speed-limits, end-file, goal, limit}
 use Rattle.grammar.specs.Mission.{Mission, MissionOptions, SpellsMission}
 use Rattle.grammar.specs.HouseOrder.{mission-options, house-mission}
+use Rattle.house_text.specs.House.{mission-undated}
 use Rattle.house_arranged.specs.Order.{ranked, by-rank, arranged}
 use Rattle.house_arranged.specs.Ranks.{mdf-rank}
 use Rattle.house_arranged.proofs.Settling.{Sorted, Settles, with, one, _▸_, settled, six}
@@ -28,7 +29,7 @@ module _ {N : Type 0} where
   own : (k : Kind) → T (alone (orders N) mdf-rank k kinds) → (os : List (Statement N)) → Only kinds os → {vs : List (Says N k)} → ofKind k os ≡ vs → ranked rank (mdf-rank k) os ≡ map (say k) vs
   own = own-ranked (orders N) mdf-rank kinds
 
-  options-order : (a : Mission N) (os : List (Statement N)) → MissionOptions a os → Sorted rank os (mission-options a)
+  options-order : (a : Mission N) (os : List (Statement N)) → MissionOptions a os → Sorted rank os (mission-options (mission-undated a))
   unfolding by-rank mission-options
   options-order a os g =
       let o = g .no-other in
@@ -36,8 +37,7 @@ module _ {N : Type 0} where
       record {
         options = only-options (orders N) mdf-rank kinds tt os o;
         order =
-            six (own format-version tt os o (g .version)) (own creation-date tt os o (g .date)) (none 3 tt os o) (none 4 tt os o) (none 5 tt os o) (none 6 tt os o)
-            ∙ ap (_++_ (map (say format-version) (perhaps (a .version)))) (append-nil (map (say creation-date) (perhaps (a .date))));
+            six (own format-version tt os o (g .version)) (none 2 tt os o) (none 3 tt os o) (none 4 tt os o) (none 5 tt os o) (none 6 tt os o);
       }
 
   only : (k : Kind) (v : Says N k) → mdf-rank k ≡ 0 → In-order (say k v ∷ []) (say k v ∷ [])
@@ -48,7 +48,7 @@ module _ {N : Type 0} where
   all-of k z [] = Settling.none rank
   all-of k z (v ∷ vs) = only k v z ▸ all-of k z vs
 
-  in-mission : (a : Mission N) (l : List (Statement N)) → SpellsMission a l → In-order l (house-mission a)
+  in-mission : (a : Mission N) (l : List (Statement N)) → SpellsMission a l → In-order l (house-mission (mission-undated a))
   unfolding house-mission
   in-mission a l s =
       let o = with rank (say RNDF (a .rndf)) refl (options-order a (s .options) (s .given)) in
@@ -58,5 +58,5 @@ module _ {N : Type 0} where
       ▸ only end-speed-limits tt refl ▸ only end-file tt refl
       )
 
-  pub mission-arranged : (a : Mission N) (said : List (Statement N)) → SpellsMission a said → arranged (λ s. mdf-rank (s .kind)) said ≡ house-mission a
-  mission-arranged a said s = settled rank said (house-mission a) (in-mission a said s)
+  pub mission-arranged : (a : Mission N) (said : List (Statement N)) → SpellsMission a said → arranged (λ s. mdf-rank (s .kind)) said ≡ house-mission (mission-undated a)
+  mission-arranged a said s = settled rank said (house-mission (mission-undated a)) (in-mission a said s)

@@ -1,4 +1,4 @@
--- The statements that spell a network, put in order by rank, are its statements in house order. Assumes nothing.
+-- The statements that spell a network, put in order by rank, are its statements in house order, without its date. Assumes nothing.
 use mathlib.Core.Path.{_≡_, refl, ap, _∙_}
 use mathlib.Core.List.{List, [], _∷_, _++_, map, map-map, append-nil}
 use Prim.Native.Nat.{ℕ, suc}
@@ -8,6 +8,7 @@ use Rattle.terms.specs.Words.{perhaps}
 use Rattle.grammar.specs.Statements.{Position, Kind, Says, Statement, lines, say, ofKind, Only, part-id, point-id, point-line, numbered, RNDF-name, num-segments, num-zones, format-version, creation-date, segment, num-lanes, segment-name, end-segment, lane, num-waypoints, lane-width, left-boundary, right-boundary, checkpoint, stop, exit, end-lane, zone, num-spots, zone-name, end-zone, perimeter, num-perimeterpoints, end-perimeter, spot, spot-width, end-spot, end-file}
 use Rattle.grammar.specs.Network.{Lane, Segment, Perimeter, Spot, Zone, Network, checkpoint-of, exit-of, LaneOptions, SpellsLane, SegmentOptions, SpellsSegment, PerimeterOptions, SpellsPerimeter, SpotOptions, SpellsSpot, ZoneOptions, SpellsZone, FileOptions, SpellsNetwork}
 use Rattle.grammar.specs.HouseOrder.{lane-options, segment-options, perimeter-options, spot-options, zone-options, file-options, house-lane, house-segment, house-perimeter, house-spot, house-zone, house-network}
+use Rattle.house_text.specs.House.{undated}
 use Rattle.house_arranged.specs.Order.{ranked, by-rank, arranged}
 use Rattle.house_arranged.specs.Ranks.{rndf-rank}
 use Rattle.house_arranged.proofs.Settling.{Options, Sorted, Settles, with, one, _▸_, in-turns, settled, six}
@@ -98,7 +99,7 @@ module _ {N : Type 0} where
             ∙ append-nil (map (say zone-name) (perhaps (a .name)));
       }
 
-  file-order : (a : Network N) (os : List (Statement N)) → FileOptions a os → Sorted rank os (file-options a)
+  file-order : (a : Network N) (os : List (Statement N)) → FileOptions a os → Sorted rank os (file-options (undated a))
   unfolding by-rank file-options
   file-order a os g =
       let ks : List Kind = format-version ∷ creation-date ∷ [] in
@@ -106,8 +107,7 @@ module _ {N : Type 0} where
       record {
         options = options ks tt os o;
         order =
-            six (own ks format-version tt os o (g .version)) (own ks creation-date tt os o (g .date)) (none ks 3 tt os o) (none ks 4 tt os o) (none ks 5 tt os o) (none ks 6 tt os o)
-            ∙ ap (_++_ (map (say format-version) (perhaps (a .version)))) (append-nil (map (say creation-date) (perhaps (a .date))));
+            six (own ks format-version tt os o (g .version)) (none ks 2 tt os o) (none ks 3 tt os o) (none ks 4 tt os o) (none ks 5 tt os o) (none ks 6 tt os o);
       }
 
   -- ## Parts
@@ -149,11 +149,11 @@ module _ {N : Type 0} where
       let o = with rank (say num-spots (length (a .spots))) refl (zone-order a (s .options) (s .given)) in
       rw (s .spelled) (only zone m refl ▸ o ▸ in-perimeter m (a .border) (s .border) (s .bordered) ▸ in-turns rank (SpellsSpot m) (house-spot m) (in-spot m) (s .each) ▸ only end-zone tt refl)
 
-  in-network : (a : Network N) (l : List (Statement N)) → SpellsNetwork a l → In-order l (house-network a)
+  in-network : (a : Network N) (l : List (Statement N)) → SpellsNetwork a l → In-order l (house-network (undated a))
   unfolding house-network
   in-network a l s =
       let o = with rank (say num-zones (length (a .zones))) refl (file-order a (s .options) (s .given)) in
       rw (s .spelled) (only RNDF-name (a .name) refl ▸ only num-segments (length (a .segments)) refl ▸ o ▸ in-turns rank SpellsSegment house-segment in-segment (s .each-segment) ▸ in-turns rank SpellsZone house-zone in-zone (s .each-zone) ▸ only end-file tt refl)
 
-  pub network-arranged : (a : Network N) (said : List (Statement N)) → SpellsNetwork a said → arranged (λ s. rndf-rank (s .kind)) said ≡ house-network a
-  network-arranged a said s = settled rank said (house-network a) (in-network a said s)
+  pub network-arranged : (a : Network N) (said : List (Statement N)) → SpellsNetwork a said → arranged (λ s. rndf-rank (s .kind)) said ≡ house-network (undated a)
+  network-arranged a said s = settled rank said (house-network (undated a)) (in-network a said s)

@@ -3,13 +3,13 @@ use Prim.Native.Nat.{ℕ}
 use Rattle.grammar.specs.Statements as R
 use Rattle.grammar.specs.MissionStatements as M
 
--- 01, "The order of an RNDF": "options in the order listed above"
+-- 01, "The order of an RNDF": "options in the order listed above"; L12: "the house writing and the packed form leave it out": the date has a rank that is never put
 abbrev pub rndf-rank : R.Kind → ℕ
 rndf-rank R.RNDF-name = 0
 rndf-rank R.num-segments = 0
 rndf-rank R.num-zones = 0
 rndf-rank R.format-version = 1
-rndf-rank R.creation-date = 2
+rndf-rank R.creation-date = 7
 rndf-rank R.segment = 0
 rndf-rank R.num-lanes = 0
 rndf-rank R.segment-name = 1
@@ -40,7 +40,7 @@ abbrev pub mdf-rank : M.Kind → ℕ
 mdf-rank M.MDF-name = 0
 mdf-rank M.RNDF = 0
 mdf-rank M.format-version = 1
-mdf-rank M.creation-date = 2
+mdf-rank M.creation-date = 7
 mdf-rank M.checkpoints = 0
 mdf-rank M.num-checkpoints = 0
 mdf-rank M.end-checkpoints = 0

@@ -86,10 +86,10 @@ rank-parts s f = refl
 
 -- THE LAW of what is known of a line: it is blank, or these are its fields and this is its rank
 abbrev pub Blank : Bytes → Type 0
-Blank l = (fieldsOn l ≡ []) × (saidOn l .rank ≡ 7)
+Blank l = (fieldsOn l ≡ []) × (saidOn l .rank ≡ 8)
 
 abbrev pub Spoken : Bytes → Type 0
-Spoken l = (fieldsOn l ≡ partsOf l (saidOn l .fields)) × (saidOn l .rank ≡ rankOf (partsOf l (saidOn l .fields))) × (saidOn l .rank ≤ 6)
+Spoken l = (fieldsOn l ≡ partsOf l (saidOn l .fields)) × (saidOn l .rank ≡ rankOf (partsOf l (saidOn l .fields))) × (saidOn l .rank ≤ 7)
 
 pub heard : (l : Bytes) → Blank l ⊎ Spoken l
 unfolding fieldsOn saidOn saidIn

@@ -202,9 +202,9 @@ module _ (s : Bytes) (from e : ℕ) (h : from < length s) (q : e ≡ reach (stop
 
       option : Spoken line → (rank ≡ 0 → ⊥) → Goal
       option x n =
-          let m : rank ≡ 7 → ⊥ = λ z. omega (arith, x .2, z) in
+          let m : rank ≡ 8 → ⊥ = λ z. omega (arith, x .2, z) in
           let a : leftOver fresh here ≡ pick fresh (passes here) [] ++ leftOver false next = rw (said-next x) (left-option fresh parts next (λ z. n (x .1 ∙ z))) in
-          rw (ne-eqb rank 0 n, ne-eqb rank 7 m) (ap (gather lineOf) a ∙ gather-append lineOf (pick fresh (passes here) []) (leftOver false next) ∙ ap (λ (l : Bytes). l ++ gather lineOf (leftOver false next)) (run fresh))
+          rw (ne-eqb rank 0 n, ne-eqb rank 8 m) (ap (gather lineOf) a ∙ gather-append lineOf (pick fresh (passes here) []) (leftOver false next) ∙ ap (λ (l : Bytes). l ++ gather lineOf (leftOver false next)) (run fresh))
 
       by : Spoken line → (b : Bool) → eqb rank 0 ≡ b → Goal
       by x true z = stays x (eqb-true rank 0 z)

@@ -16,7 +16,7 @@ use Rattle.word.specs.Number.{indexOf}
 use Rattle.word.proofs.Index.{index-most, index-word, word-index}
 use Rattle.word.proofs.Keywords.{rndf-differ}
 use Rattle.house_lines.specs.Arranged.{ranks}
-use Rattle.house_lines.specs.Said.{rankWord, firstOf, secondOf, rankBySame}
+use Rattle.house_lines.specs.Said.{rankWord, firstOf, rankBySame}
 
 keywords-long : length rndf-keywords ≡ 29
 unfolding rndf-keywords
@@ -26,21 +26,21 @@ index-below : (s : Bytes) → indexOf s rndf-keywords < 30
 index-below s = omega (arith, index-most s rndf-keywords, keywords-long)
 
 -- no rank is that of a blank line
-pub rank-low : (s : Bytes) → rankWord s ≤ 6
+pub rank-low : (s : Bytes) → rankWord s ≤ 7
 unfolding rankWord
-rank-low s = leb-true _ _ (below (λ i. leb (getD ranks i 0) 6) 30 (unfold ranks in refl) (indexOf s rndf-keywords) (index-below s))
+rank-low s = leb-true _ _ (below (λ i. leb (getD ranks i 0) 7) 30 (unfold ranks in refl) (indexOf s rndf-keywords) (index-below s))
 
 -- of each keyword
 keyword-rank : (i : ℕ) → i < 29 → rankBySame (getD rndf-keywords i []) ≡ getD ranks i 0
 keyword-rank i h =
-    eqb-true _ _ (below (λ i. eqb (rankBySame (getD rndf-keywords i [])) (getD ranks i 0)) 29 (unfold ranks rndf-keywords rankBySame firstOf secondOf sameBytes ascii in refl) i h)
+    eqb-true _ _ (below (λ i. eqb (rankBySame (getD rndf-keywords i [])) (getD ranks i 0)) 29 (unfold ranks rndf-keywords rankBySame firstOf sameBytes ascii in refl) i h)
 
 -- and of any other word
 unlike : (w v : Bytes) (k : ℕ) → k < 29 → v ≡ getD rndf-keywords k [] → indexOf w rndf-keywords ≡ 29 → sameBytes w v ≡ false
 unlike w v k h q e = same-false w v (λ z. omega (arith, e, word-index rndf-keywords rndf-differ k (rw keywords-long h) w (z ∙ q)))
 
 no-option : (w : Bytes) → indexOf w rndf-keywords ≡ 29 → rankBySame w ≡ 0
-unfolding rankBySame firstOf secondOf
+unfolding rankBySame firstOf
 no-option w e =
     rw (
       unlike w (ascii "exit") 16 (omega arith) (unfold rndf-keywords in refl) e,

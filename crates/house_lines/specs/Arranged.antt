@@ -31,11 +31,11 @@ spoken [] = []
 spoken (line ∷ lines) = onto-spoken (fieldsOn line) (spoken lines)
 
 -- ## House order
--- where a statement stands among the options of its part, by the number of its keyword in an RNDF; 0: it is no option, and stays where it is.
+-- where a statement stands among the options of its part, by the number of its keyword in an RNDF; 0: it is no option, and stays where it is; 7: it is left out (L12: "the house writing and the packed form leave it out", the creation date).
 -- The options of an MDF are words of an RNDF too.
 unfoldable pub ranks : List ℕ
 ranks =
-    0 ∷ 0 ∷ 0 ∷ 1 ∷ 2 ∷  -- format_version, creation_date
+    0 ∷ 0 ∷ 0 ∷ 1 ∷ 7 ∷  -- format_version, creation_date
     0 ∷ 0 ∷ 1 ∷ 0 ∷  -- segment_name
     0 ∷ 0 ∷ 1 ∷ 2 ∷ 3 ∷ 4 ∷ 5 ∷ 6 ∷ 0 ∷  -- lane_width, left_boundary, right_boundary, checkpoint, stop, exit
     0 ∷ 0 ∷ 1 ∷ 0 ∷  -- zone_name

@@ -25,19 +25,16 @@ unfoldable pub firstOf : Bytes → Bool
 firstOf w =
     pick (sameBytes w (ascii "lane_width")) true (pick (sameBytes w (ascii "spot_width")) true (pick (sameBytes w (ascii "segment_name")) true (pick (sameBytes w (ascii "zone_name")) true (sameBytes w (ascii "format_version")))))
 
-unfoldable pub secondOf : Bytes → Bool
-secondOf w = pick (sameBytes w (ascii "left_boundary")) true (sameBytes w (ascii "creation_date"))
-
 unfoldable pub rankBySame : Bytes → ℕ
 rankBySame w =
-    pick (sameBytes w (ascii "exit")) 6 (pick (sameBytes w (ascii "stop")) 5 (pick (sameBytes w (ascii "checkpoint")) 4 (pick (sameBytes w (ascii "right_boundary")) 3 (pick (secondOf w) 2 (pick (firstOf w) 1 0)))))
+    pick (sameBytes w (ascii "exit")) 6 (pick (sameBytes w (ascii "stop")) 5 (pick (sameBytes w (ascii "checkpoint")) 4 (pick (sameBytes w (ascii "right_boundary")) 3 (pick (sameBytes w (ascii "left_boundary")) 2 (pick (sameBytes w (ascii "creation_date")) 7 (pick (firstOf w) 1 0))))))
 
 unfoldable pub bodyEnd : Bytes → ℕ
 bodyEnd line = upTo opens (take (trimOf line) line)
 
 -- the rank of a line without fields
 abbrev pub blank : ℕ
-blank = 7
+blank = 8
 
 unfoldable pub saidIn : Bytes → Said
 saidIn body = record { rank = pick (eqb (fieldsIn body .count) 0) blank (rankWord (part body (fieldsIn body .a))); fields = fieldsIn body }

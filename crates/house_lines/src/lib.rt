@@ -28,7 +28,7 @@ ghost use Rattle.line.specs.Forms.{part, SpanWithin, FieldsWithin};
 ghost use Rattle.output.specs.Pen.{pen, Wrote};
 ghost use Rattle.grammar.specs.Tables.{gather};
 ghost use Rattle.house_lines.specs.Arranged.{lineOf, pass, passes, arrangedText};
-ghost use Rattle.house_lines.specs.Said.{firstOf, secondOf, rankWord, bodyEnd, saidIn, saidOn, spokenFrom, due, freshAfter, mends, mendIf, behindTab, partsOf};
+ghost use Rattle.house_lines.specs.Said.{firstOf, rankWord, bodyEnd, saidIn, saidOn, spokenFrom, due, freshAfter, mends, mendIf, behindTab, partsOf};
 
 // ## What is known of a line
 
@@ -51,15 +51,8 @@ fn is_first(word: &[u8]) -> bool
     same(word, b"format_version")
 }
 
-// And those that come second.
-fn is_second(word: &[u8]) -> bool
-    ensures { λ r. ⌜ r ≡ secondOf (now (word .entry)) ⌝ }
-{
-    if same(word, b"left_boundary") {
-        return true;
-    }
-    same(word, b"creation_date")
-}
+// The rank of an option that is never put: the house writing leaves the creation date out.
+const LEFT_OUT: u8 = 7;
 
 // Where an option stands among the options of its part; 0 for a word that is no option. By comparison: a look into the table of keywords takes
 // several times as long, and a line of a run is met seven times.
@@ -78,8 +71,11 @@ fn rank_of(word: &[u8]) -> u8
     if same(word, b"right_boundary") {
         return 3;
     }
-    if is_second(word) {
+    if same(word, b"left_boundary") {
         return 2;
+    }
+    if same(word, b"creation_date") {
+        return LEFT_OUT;
     }
     if is_first(word) { 1 } else { 0 }
 }
@@ -93,7 +89,7 @@ fn body_end(line: &[u8]) -> usize
 }
 
 // The rank of a line without fields.
-const BLANK: u8 = 7;
+const BLANK: u8 = 8;
 
 // A line's rank and its fields.
 struct Said {

@@ -18,7 +18,8 @@ use Rattle.text.specs.MdfLines.{mdf-line}
 use Rattle.law_spelling.specs.LineOf.{said-of, law-line, rndf-law-line, mdf-law-line}
 use Rattle.law_spelling.proofs.Fields.{same-word, five}
 use Rattle.law_spelling.proofs.House.{network-house-only, network-house, network-house-good, mission-house-only, mission-house}
-use Rattle.house_text.specs.House.{house-field, written, HouseRndf, HouseMdf}
+use Rattle.house_text.specs.House.{house-field, written, undated, mission-undated, HouseRndf, HouseMdf}
+use Rattle.house_text.proofs.Undated.{undated-good, mission-undated-good}
 use Rattle.house_text.specs.HouseText.{ended-line, house-text, house-rndf, house-mdf}
 
 -- a field
@@ -48,17 +49,17 @@ text-same line-of (s ∷ said) =
 -- ## What the law calls the house writing is the one of house_text ..
 pub house-rndf-only : (n : Network Field) (w : Bytes) → HouseRndf n w → w ≡ house-rndf n
 unfolding house-rndf
-house-rndf-only n w h = h .2 ∙ ap written (network-house-only n (h .0) (h .1)) ∙ sym (text-same rndf-line (house-network n))
+house-rndf-only n w h = h .2 ∙ ap written (network-house-only (undated n) (h .0) (h .1)) ∙ sym (text-same rndf-line (house-network (undated n)))
 
 pub house-mdf-only : (m : Mission Field) (w : Bytes) → HouseMdf m w → w ≡ house-mdf m
 unfolding house-mdf
-house-mdf-only m w h = h .2 ∙ ap written (mission-house-only m (h .0) (h .1)) ∙ sym (text-same mdf-line (house-mission m))
+house-mdf-only m w h = h .2 ∙ ap written (mission-house-only (mission-undated m) (h .0) (h .1)) ∙ sym (text-same mdf-line (house-mission (mission-undated m)))
 
 -- .. which it is of every network and mission that keeps the ranges
 pub house-rndf-is : (n : Network Field) → GoodNetwork n → HouseRndf n (house-rndf n)
 unfolding house-rndf
-house-rndf-is n g = (map rndf-law-line (house-network n), network-house n g, text-same rndf-line (house-network n))
+house-rndf-is n g = (map rndf-law-line (house-network (undated n)), network-house (undated n) (undated-good n g), text-same rndf-line (house-network (undated n)))
 
 pub house-mdf-is : (m : Mission Field) → GoodMission m → HouseMdf m (house-mdf m)
 unfolding house-mdf
-house-mdf-is m g = (map mdf-law-line (house-mission m), mission-house m g, text-same mdf-line (house-mission m))
+house-mdf-is m g = (map mdf-law-line (house-mission (mission-undated m)), mission-house (mission-undated m) (mission-undated-good m g), text-same mdf-line (house-mission (mission-undated m)))

@@ -8,6 +8,8 @@ pub mod Named
 pub mod Order
 pub mod SameSpelling
 pub mod References
+-- Without the date.
+pub mod Undated
 -- The return trip.
 pub mod Theorems
 -- As the law has it.

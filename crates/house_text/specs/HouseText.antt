@@ -11,6 +11,7 @@ use Rattle.text.specs.Said.{Said}
 use Rattle.text.specs.HouseLine.{house-line}
 use Rattle.text.specs.RndfLines.{rndf-line}
 use Rattle.text.specs.MdfLines.{mdf-line}
+use Rattle.house_text.specs.House.{undated, mission-undated}
 
 -- for a file whose statements have these fields
 module _ {Kind : Type 0} {Pay : Kind → Type 0} (line-of : (k : Kind) → Pay k → List Said) where
@@ -23,9 +24,9 @@ module _ {Kind : Type 0} {Pay : Kind → Type 0} (line-of : (k : Kind) → Pay k
   house-text said = gather ended-line said
 
 -- ## An RNDF and an MDF: their statements in house order (grammar/specs/HouseOrder). Of a name only the bytes are written, not where it stood.
--- 01: "options in the order listed above, repeats in file order within their kind"
+-- 01: "options in the order listed above, repeats in file order within their kind"; L12: without the creation date
 unfoldable pub house-rndf : Network Field → Bytes
-house-rndf n = house-text rndf-line (house-network n)
+house-rndf n = house-text rndf-line (house-network (undated n))
 
 unfoldable pub house-mdf : Mission Field → Bytes
-house-mdf m = house-text mdf-line (house-mission m)
+house-mdf m = house-text mdf-line (house-mission (mission-undated m))

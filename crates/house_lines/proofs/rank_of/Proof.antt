@@ -46,23 +46,36 @@ returns-4 : tie.Need-returns-4
 unfolding rankBySame ascii
 returns-4 c = rw (← (rank-same (c .before .before .before .before .before .before .before .before .before .before .before .before .before .args .word .now)), sym (c .before .before .before .before .before .before .before .before .before .before .same .ensures) ∙ c .before .before .before .before .before .before .before .before .before .if1 .left, sym (c .before .before .before .before .before .before .before .same2 .ensures) ∙ c .before .before .before .before .before .before .if2 .left, sym (c .before .before .before .before .same3 .ensures) ∙ c .before .before .before .if3 .left, sym (c .before .same4 .ensures) ∙ c .if4 .taken)
 
-is-second-requires : tie.Need-is-second-requires
-is-second-requires c κs = tt
+slice-aggregate-same-5 : tie.Need-slice-aggregate-same-5
+slice-aggregate-same-5 c = refl
+
+same-requires-5 : tie.Need-same-requires-5
+same-requires-5 c κs = tt
 
 returns-5 : tie.Need-returns-5
 unfolding rankBySame ascii
-returns-5 c = rw (← (rank-same (c .before .before .before .before .before .before .before .before .before .before .before .before .before .before .before .args .word .now)), sym (c .before .before .before .before .before .before .before .before .before .before .before .before .same .ensures) ∙ c .before .before .before .before .before .before .before .before .before .before .before .if1 .left, sym (c .before .before .before .before .before .before .before .before .before .same2 .ensures) ∙ c .before .before .before .before .before .before .before .before .if2 .left, sym (c .before .before .before .before .before .before .same3 .ensures) ∙ c .before .before .before .before .before .if3 .left, sym (c .before .before .before .same4 .ensures) ∙ c .before .before .if4 .left, sym (c .before .is-second .ensures) ∙ c .if5 .taken)
+returns-5 c = rw (← (rank-same (c .before .before .before .before .before .before .before .before .before .before .before .before .before .before .before .before .args .word .now)), sym (c .before .before .before .before .before .before .before .before .before .before .before .before .before .same .ensures) ∙ c .before .before .before .before .before .before .before .before .before .before .before .before .if1 .left, sym (c .before .before .before .before .before .before .before .before .before .before .same2 .ensures) ∙ c .before .before .before .before .before .before .before .before .before .if2 .left, sym (c .before .before .before .before .before .before .before .same3 .ensures) ∙ c .before .before .before .before .before .before .if3 .left, sym (c .before .before .before .before .same4 .ensures) ∙ c .before .before .before .if4 .left, sym (c .before .same5 .ensures) ∙ c .if5 .taken)
+
+slice-aggregate-same-6 : tie.Need-slice-aggregate-same-6
+slice-aggregate-same-6 c = refl
+
+same-requires-6 : tie.Need-same-requires-6
+same-requires-6 c κs = tt
+
+returns-6 : tie.Need-returns-6
+unfolding rankBySame ascii
+returns-6 c = rw (← (rank-same (c .before .before .before .before .before .before .before .before .before .before .before .before .before .before .before .before .before .before .before .args .word .now)), sym (c .before .before .before .before .before .before .before .before .before .before .before .before .before .before .before .before .same .ensures) ∙ c .before .before .before .before .before .before .before .before .before .before .before .before .before .before .before .if1 .left, sym (c .before .before .before .before .before .before .before .before .before .before .before .before .before .same2 .ensures) ∙ c .before .before .before .before .before .before .before .before .before .before .before .before .if2 .left, sym (c .before .before .before .before .before .before .before .before .before .before .same3 .ensures) ∙ c .before .before .before .before .before .before .before .before .before .if3 .left, sym (c .before .before .before .before .before .before .before .same4 .ensures) ∙ c .before .before .before .before .before .before .if4 .left, sym (c .before .before .before .before .same5 .ensures) ∙ c .before .before .before .if5 .left, sym (c .before .same6 .ensures) ∙ c .if6 .taken)
 
 is-first-requires : tie.Need-is-first-requires
 is-first-requires c κs = tt
 
-returns-6 : tie.Need-returns-6
-unfolding rankBySame ascii
-returns-6 c = rw (← (rank-same (c .before .before .before .before .before .before .before .before .before .before .before .before .before .before .before .before .before .args .word .now)), sym (c .before .before .before .before .before .before .before .before .before .before .before .before .before .before .same .ensures) ∙ c .before .before .before .before .before .before .before .before .before .before .before .before .before .if1 .left, sym (c .before .before .before .before .before .before .before .before .before .before .before .same2 .ensures) ∙ c .before .before .before .before .before .before .before .before .before .before .if2 .left, sym (c .before .before .before .before .before .before .before .before .same3 .ensures) ∙ c .before .before .before .before .before .before .before .if3 .left, sym (c .before .before .before .before .before .same4 .ensures) ∙ c .before .before .before .before .if4 .left, sym (c .before .before .before .is-second .ensures) ∙ c .before .before .if5 .left, sym (c .before .is-first .ensures) ∙ c .if6 .taken)
-
 returns-7 : tie.Need-returns-7
 unfolding rankBySame ascii
-returns-7 c = rw (← (rank-same (c .before .before .before .before .before .before .before .before .before .before .before .before .before .before .before .before .before .args .word .now)), sym (c .before .before .before .before .before .before .before .before .before .before .before .before .before .before .same .ensures) ∙ c .before .before .before .before .before .before .before .before .before .before .before .before .before .if1 .left, sym (c .before .before .before .before .before .before .before .before .before .before .before .same2 .ensures) ∙ c .before .before .before .before .before .before .before .before .before .before .if2 .left, sym (c .before .before .before .before .before .before .before .before .same3 .ensures) ∙ c .before .before .before .before .before .before .before .if3 .left, sym (c .before .before .before .before .before .same4 .ensures) ∙ c .before .before .before .before .if4 .left, sym (c .before .before .before .is-second .ensures) ∙ c .before .before .if5 .left, sym (c .before .is-first .ensures) ∙ c .if6 .left)
+returns-7 c = rw (← (rank-same (c .before .before .before .before .before .before .before .before .before .before .before .before .before .before .before .before .before .before .before .before .before .args .word .now)), sym (c .before .before .before .before .before .before .before .before .before .before .before .before .before .before .before .before .before .before .same .ensures) ∙ c .before .before .before .before .before .before .before .before .before .before .before .before .before .before .before .before .before .if1 .left, sym (c .before .before .before .before .before .before .before .before .before .before .before .before .before .before .before .same2 .ensures) ∙ c .before .before .before .before .before .before .before .before .before .before .before .before .before .before .if2 .left, sym (c .before .before .before .before .before .before .before .before .before .before .before .before .same3 .ensures) ∙ c .before .before .before .before .before .before .before .before .before .before .before .if3 .left, sym (c .before .before .before .before .before .before .before .before .before .same4 .ensures) ∙ c .before .before .before .before .before .before .before .before .if4 .left, sym (c .before .before .before .before .before .before .same5 .ensures) ∙ c .before .before .before .before .before .if5 .left, sym (c .before .before .before .same6 .ensures) ∙ c .before .before .if6 .left, sym (c .before .is-first .ensures) ∙ c .if7 .taken)
+
+returns-8 : tie.Need-returns-8
+unfolding rankBySame ascii
+returns-8 c = rw (← (rank-same (c .before .before .before .before .before .before .before .before .before .before .before .before .before .before .before .before .before .before .before .before .before .args .word .now)), sym (c .before .before .before .before .before .before .before .before .before .before .before .before .before .before .before .before .before .before .same .ensures) ∙ c .before .before .before .before .before .before .before .before .before .before .before .before .before .before .before .before .before .if1 .left, sym (c .before .before .before .before .before .before .before .before .before .before .before .before .before .before .before .same2 .ensures) ∙ c .before .before .before .before .before .before .before .before .before .before .before .before .before .before .if2 .left, sym (c .before .before .before .before .before .before .before .before .before .before .before .before .same3 .ensures) ∙ c .before .before .before .before .before .before .before .before .before .before .before .if3 .left, sym (c .before .before .before .before .before .before .before .before .before .same4 .ensures) ∙ c .before .before .before .before .before .before .before .before .if4 .left, sym (c .before .before .before .before .before .before .same5 .ensures) ∙ c .before .before .before .before .before .if5 .left, sym (c .before .before .before .same6 .ensures) ∙ c .before .before .if6 .left, sym (c .before .is-first .ensures) ∙ c .if7 .left)
 
 pub rank-of-spec : {M : Type 1} → statement M
 rank-of-spec =
@@ -80,8 +93,12 @@ rank-of-spec =
     slice-aggregate-same-4
     same-requires-4
     returns-4
-    is-second-requires
+    slice-aggregate-same-5
+    same-requires-5
     returns-5
-    is-first-requires
+    slice-aggregate-same-6
+    same-requires-6
     returns-6
-    returns-7)
+    is-first-requires
+    returns-7
+    returns-8)
