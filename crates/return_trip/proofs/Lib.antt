@@ -7,3 +7,5 @@ pub mod Written
 pub mod Writings
 -- From the contracts of readers and writers: the headline.
 pub mod RoundTrip
+-- What is the same apart from its date has one writing.
+pub mod OneWriting

@@ -1,12 +1,16 @@
 -- THE RETURN TRIP of an accepted RNDF, and of an accepted RNDF with its MDF, within the edition by which they were accepted (L10). Assumes nothing.
 use mathlib.Core.Path.{_≡_, sym, ap, subst, _∙_}
-use Prim.Native.Nat.{_≤_}
+use Prim.Native.Nat.{ℕ, _≤_}
 use lib.ListN.{length}
 use Rattle.terms.specs.Ascii.{Bytes}
 use Rattle.line.specs.Content.{Field}
-use Rattle.law.specs.Network.{Network, Mission}
+use Rattle.law.specs.Network.{PointId, Network, Mission}
 use Rattle.law.specs.Tables as Law
 use Rattle.law.specs.Tables.{Lent, MissionLent}
+use Rattle.law.specs.Faults.{Declared, waypoint, border, Sound}
+use Rattle.terms.proofs.Lists.{each-map}
+use Rattle.law.specs.Tables.{gather, all-lanes}
+use mathlib.Core.List.{List, _++_}
 use Rattle.grammar.specs.Names.{network-named, mission-named}
 use Rattle.grammar.specs.Tables.{mission-tables}
 use Rattle.grammar.specs.References.{Fits}
@@ -32,7 +36,8 @@ use Rattle.promises.specs.Accepted.{mission-rows-used}
 use Rattle.promises.proofs.Keeping.{rndf-later}
 use Rattle.promises.proofs.Promises.{spelled-accepted}
 use Rattle.promises.proofs.PairPromises.{spelled-pair-accepted}
-use Rattle.house_text.specs.House.{HouseRndf, HouseMdf}
+use Rattle.house_text.specs.House.{undated, mission-undated, HouseRndf, HouseMdf}
+use Rattle.house_text.proofs.Undated.{undated-same, undated-named, mission-undated-named, undated-exits}
 use Rattle.house_text.specs.HouseText.{house-rndf, house-mdf}
 use Rattle.house_text.proofs.Lawful.{house-rndf-only, house-mdf-only, house-rndf-is, house-mdf-is}
 use Rattle.house_text.proofs.References.{sound-alike, sizes-alike, mission-sizes-alike, mission-words-alike}
@@ -40,6 +45,27 @@ use Rattle.house_text.proofs.Theorems.{rndf-back, mdf-back}
 use Rattle.same.specs.Same.{SameNetwork, SameMission}
 use Rattle.return_trip.specs.Returns.{RndfReturns, MdfReturns, PairReturns}
 use Rattle.return_trip.proofs.Within.{rndf-within}
+
+-- ## Without its date a network needs the same room, has the same references, and fits the same missions
+undated-room : (n : Network Field) (t : Lent) → Law.HasRoom n t → Law.HasRoom (undated n) t
+undated-room n t h = record { segments = h .segments; lanes = h .lanes; zones = h .zones; spots = h .spots; points = h .points; checkpoints = h .checkpoints; stops = h .stops; exits = subst (λ (rows : List (List ℕ)). Law.Room 2 rows (t .exits)) (sym (undated-exits n)) (h .exits) }
+
+-- as many rows
+pub undated-used : (n : Network Field) → rows-used (undated n) ≡ rows-used n
+undated-used n = λ i. record { segments = rows-used n .segments; lanes = rows-used n .lanes; zones = rows-used n .zones; spots = rows-used n .spots; points = rows-used n .points; checkpoints = rows-used n .checkpoints; stops = rows-used n .stops; exits = length (undated-exits n i) }
+
+undated-declared : (n : Network Field) (e : PointId) → Declared n e → Declared (undated n) e
+undated-declared n e (waypoint s a p q r) = waypoint s a p q r
+undated-declared n e (border i z p q r b) = border i z p q r b
+
+pub undated-sound : (n : Network Field) → Sound n → Sound (undated n)
+undated-sound n s = record { entries = each-map (λ e. Declared n (e .entry)) (λ e. Declared (undated n) (e .entry)) (λ e. undated-declared n (e .entry)) (gather (λ a. a .exits) (all-lanes n) ++ gather (λ z. z .border .exits) (n .zones)) (s .entries); numbers = s .numbers }
+
+undated-fits : {N : Type 0} (n : Network N) (m : Mission N) → Fits n m → Fits (undated n) (mission-undated m)
+undated-fits n m f = record { name = f .name; goals = f .goals; known = f .known; once = f .once; all = f .all }
+
+dated-fits : {N : Type 0} (n : Network N) (m : Mission N) → Fits (undated n) m → Fits n m
+dated-fits n m f = record { name = f .name; goals = f .goals; known = f .known; once = f .once; all = f .all }
 
 -- ## There is only one house writing, and what is the same has as many rows
 pub one-rndf-house : (n : Network Field) (house house′ : Bytes) → HouseRndf n house → HouseRndf n house′ → house ≡ house′
@@ -76,8 +102,8 @@ module _ (edition : Edition) where
         accepts = record {
           size = subst (λ (w : Bytes). length w ≤ most) e size;
           spelled = rndf-within edition n (b .0) text (house-rndf n) (a .spelled) (rndf-to (b .0) (house-rndf n) (b .1)) (b .2);
-          room = room-to (b .0) t′ (subst (λ (c : Counts). HasRoom c t′) (sizes-alike bytes-of n (b .0) (sym (b .2))) (room-back n t′ room));
-          right = sound-alike bytes-of n (b .0) (sym (b .2)) (a .right);
+          room = room-to (b .0) t′ (subst (λ (c : Counts). HasRoom c t′) (sizes-alike bytes-of (undated n) (b .0) (sym (b .2))) (room-back (undated n) t′ (undated-room n t′ room)));
+          right = sound-alike bytes-of (undated n) (b .0) (sym (b .2)) (undated-sound n (a .right));
         };
         same = b .2;
       })
@@ -86,8 +112,8 @@ module _ (edition : Edition) where
   pub rndf-returns : (text : Bytes) (t : Lent) (n : Network Field) → AcceptsRndf (rules-of edition) text t n → (house : Bytes) → HouseRndf n house → length house ≤ most → RndfReturns (rules-of edition) n house t
   rndf-returns text t n a house h size = rndf-returns-in text t t n a house h size (a .room)
 
-  -- for every network that is the same as the one that the MDF was accepted for: that one, or what its house writing spells
-  pub mdf-returns-in : (mdf : Bytes) (u u′ : MissionLent) (n n′ : Network Field) (m : Mission Field) → AcceptsMdf (rules-of edition) n mdf u m → SameNetwork n′ n → (house : Bytes) → HouseMdf m house → length house ≤ most → Law.MissionHasRoom m u′ → MdfReturns (rules-of edition) n′ m house u′
+  -- for every network that is the same, apart from its date, as the one that the MDF was accepted for: that one, or what its house writing spells
+  pub mdf-returns-in : (mdf : Bytes) (u u′ : MissionLent) (n n′ : Network Field) (m : Mission Field) → AcceptsMdf (rules-of edition) n mdf u m → SameNetwork (undated n′) (undated n) → (house : Bytes) → HouseMdf m house → length house ≤ most → Law.MissionHasRoom m u′ → MdfReturns (rules-of edition) n′ m house u′
   mdf-returns-in mdf u u′ n n′ m a e house h size room =
       let q = house-mdf-only m house h in
       let b = mdf-back m mdf (Texts.mdf-back-in (inner edition) m mdf (a .spelled)) in
@@ -97,13 +123,13 @@ module _ (edition : Edition) where
         accepts = record {
           size = subst (λ (w : Bytes). length w ≤ most) q size;
           spelled = mdf-to-in (inner edition) (b .0) (house-mdf m) (b .1);
-          room = mission-room-to (b .0) u′ (subst (λ (c : MissionCounts). MissionHasRoom c u′) (mission-sizes-alike bytes-of m (b .0) (sym (b .2))) (mission-room-back m u′ room));
-          right = fits-to n′ (b .0) (subst (λ (x : Mission Name). Fits (network-named bytes-of n′) x) (sym (b .2)) (subst (λ (x : Network Name). Fits x (mission-named bytes-of m)) (sym e) (fits-back n m (a .right))));
+          room = mission-room-to (b .0) u′ (subst (λ (c : MissionCounts). MissionHasRoom c u′) (mission-sizes-alike bytes-of (mission-undated m) (b .0) (sym (b .2))) (mission-room-back m u′ room));
+          right = fits-to n′ (b .0) (dated-fits (network-named bytes-of n′) (mission-named bytes-of (b .0)) (subst (λ (x : Network Name). Fits x (mission-named bytes-of (b .0))) (sym (undated-named n) ∙ sym e ∙ undated-named n′) (subst (λ (x : Mission Name). Fits (undated (network-named bytes-of n)) x) (sym (mission-undated-named m) ∙ sym (b .2)) (undated-fits (network-named bytes-of n) (mission-named bytes-of m) (fits-back n m (a .right))))));
         };
         same = b .2;
       })
 
-  pub mdf-returns : (mdf : Bytes) (u : MissionLent) (n n′ : Network Field) (m : Mission Field) → AcceptsMdf (rules-of edition) n mdf u m → SameNetwork n′ n → (house : Bytes) → HouseMdf m house → length house ≤ most → MdfReturns (rules-of edition) n′ m house u
+  pub mdf-returns : (mdf : Bytes) (u : MissionLent) (n n′ : Network Field) (m : Mission Field) → AcceptsMdf (rules-of edition) n mdf u m → SameNetwork (undated n′) (undated n) → (house : Bytes) → HouseMdf m house → length house ≤ most → MdfReturns (rules-of edition) n′ m house u
   mdf-returns mdf u n n′ m a e house h size = mdf-returns-in mdf u u n n′ m a e house h size (a .room)
 
   -- THE RETURN TRIP
@@ -111,7 +137,7 @@ module _ (edition : Edition) where
       → (rndf-house mdf-house : Bytes) → HouseRndf n rndf-house → HouseMdf m mdf-house → length rndf-house ≤ most → length mdf-house ≤ most → PairReturns (rules-of edition) n m rndf-house mdf-house t u
   pair-returns rndf mdf t u n m a b v w h g size mission-size =
       let x = rndf-returns rndf t n a v h size in
-      record { network = x; mission = mdf-returns mdf u n (x .again) m b (x .same) w g mission-size }
+      record { network = x; mission = mdf-returns mdf u n (x .again) m b (undated-same (x .again) (undated n) (x .same)) w g mission-size }
 
   -- ## What a reader replies: the same rows used; the file's own row and the tables are those of what came back
   pub rndf-read-again : (text : Bytes) (t : Lent) (n : Network Field) → AcceptsRndf (rules-of edition) text t n → (house : Bytes) → HouseRndf n house → length house ≤ most → (reply : RndfReply) (left : Lent) → ReadsRndf (rules-of edition) house t reply left
@@ -119,7 +145,7 @@ module _ (edition : Edition) where
   rndf-read-again text t n a house g size reply left h =
       let x = rndf-returns text t n a house g size in
       let s = spelled-accepted edition house t reply left h (x .again) (x .accepts) in
-      (x, s .0 ∙ ap (λ (c : Declared.Counts). Reply.Accepted c (network-file (x .again))) (counts-alike (x .again) n (x .same)), s .1)
+      (x, s .0 ∙ ap (λ (c : Declared.Counts). Reply.Accepted c (network-file (x .again))) (counts-alike (x .again) (undated n) (x .same) ∙ undated-used n), s .1)
 
   -- and the goals and limits are the same words
   pub pair-read-again : (rndf mdf : Bytes) (t : Lent) (u : MissionLent) (n : Network Field) (m : Mission Field) → AcceptsRndf (rules-of edition) rndf t n → AcceptsMdf (rules-of edition) n mdf u m
@@ -132,6 +158,6 @@ module _ (edition : Edition) where
       let n′ = x .network .again in
       let m′ = x .mission .again in
       let s = spelled-pair-accepted edition v w t u reply left mission-left h n′ m′ (x .network .accepts) (x .mission .accepts) in
-      let c = counts-alike n′ n (x .network .same) in
-      let d = mission-counts-alike m′ m (x .mission .same) in
-      (x, s .0 ∙ (λ i. Pair.Accepted (c i) (network-file n′) (d i) (mission-file m′)), s .1, s .2 ∙ sym (mission-filled-same m′ u) ∙ mission-words-alike m′ m (x .mission .same) u ∙ mission-filled-same m u)
+      let c = counts-alike n′ (undated n) (x .network .same) ∙ undated-used n in
+      let d = mission-counts-alike m′ (mission-undated m) (x .mission .same) in
+      (x, s .0 ∙ (λ i. Pair.Accepted (c i) (network-file n′) (d i) (mission-file m′)), s .1, s .2 ∙ sym (mission-filled-same m′ u) ∙ mission-words-alike m′ (mission-undated m) (x .mission .same) u ∙ mission-filled-same m u)

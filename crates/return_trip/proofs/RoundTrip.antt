@@ -15,7 +15,9 @@ use Rattle.edition.specs.declared.Edition.{Edition}
 use Rattle.edition.specs.Editions.{rules-of}
 use Rattle.grammar.specs.Names.{perhaps-name, segment-named, zone-named, network-named, mission-named}
 use Rattle.text.specs.Spelling.{Name, bytes, bytes-of}
-use Rattle.house_text.specs.House.{HouseRndf}
+use Rattle.house_text.specs.House.{undated, mission-undated, HouseRndf}
+use Rattle.house_text.proofs.Undated.{undated-same, mission-undated-same, no-date, no-mission-date, undated-filled}
+use Rattle.return_trip.proofs.Returns.{undated-sound}
 use Rattle.house_text.proofs.References.{words-alike}
 use Rattle.law_tables.proofs.SameTables.{filled-same}
 use Rattle.rows.specs.declared.FileRow.{FileRow}
@@ -135,14 +137,14 @@ module _ (text text′ : Bytes) where
       (zones-alike (p + zone-size s) (q + length (s .spots)) ss ss′ (tail-eq-of-cons-eq e) (a .1) (a′ .1) z))
 
   -- ## Networks that are the same
-  module _ (edition : Edition) (n n′ : Network Field) (e : SameNetwork n n′) (spelled : SpellsText (rules-of edition) SpellsNetwork n text) (spelled′ : SpellsText (rules-of edition) SpellsNetwork n′ text′) where
+  module _ (edition : Edition) (n n′ : Network Field) (e : SameNetwork n′ (undated n)) (spelled : SpellsText (rules-of edition) SpellsNetwork n text) (spelled′ : SpellsText (rules-of edition) SpellsNetwork n′ text′) where
     same-segments : Segments (n .segments) (n′ .segments)
     unfolding network-named
-    same-segments = ap (λ (x : Network Name). x .segments) e
+    same-segments = sym (ap (λ (x : Network Name). x .segments) e)
 
     same-zones : Zones (n .zones) (n′ .zones)
     unfolding network-named
-    same-zones = ap (λ (x : Network Name). x .zones) e
+    same-zones = sym (ap (λ (x : Network Name). x .zones) e)
 
     pub same-file : SameFile text text′ (network-file n) (network-file n′)
     unfolding network-named
@@ -150,18 +152,18 @@ module _ (text text′ : Bytes) where
         let a = names-asked text edition n spelled in
         let a′ = names-asked text′ edition n′ spelled′ in
         record {
-          name = asked-both (some (n .name)) (some (n′ .name)) (ap (λ (x : Network Name). some (x .name)) e) (a .name) (a′ .name);
-          version = asked-both (n .version) (n′ .version) (ap (λ (x : Network Name). x .version) e) (a .version) (a′ .version);
-          date = asked-both (n .date) (n′ .date) (ap (λ (x : Network Name). x .date) e) (a .date) (a′ .date);
+          name = asked-both (some (n .name)) (some (n′ .name)) (sym (ap (λ (x : Network Name). some (x .name)) e)) (a .name) (a′ .name);
+          version = asked-both (n .version) (n′ .version) (sym (ap (λ (x : Network Name). x .version) e)) (a .version) (a′ .version);
+          date = ap stretch (no-date n′ n e);
         }
 
     pub same-tables : Sound n → Sound n′ → (t : Lent) → SameTables text text′ (filled n t) (filled n′ t)
     same-tables sound sound′ t =
         let a = names-asked text edition n spelled in
         let a′ = names-asked text′ edition n′ spelled′ in
-        let p = filled-same n sound t in
+        let p = filled-same (undated n) (undated-sound n sound) t ∙ undated-filled n t in
         let p′ = filled-same n′ sound′ t in
-        let w = words-alike n n′ e t in
+        let w = words-alike (undated n) n′ (sym e) t in
         let first : first-zone-point n ≡ first-zone-point n′ = ap (λ (l : List Lane). length (gather (λ a. a .points) l)) (lanes-alike (n .segments) (n′ .segments) same-segments) in
         record {
           segments = padded 2 (segment-words 0 (n .segments)) (segment-words 0 (n′ .segments)) (length (t .segments)) (segments-alike 0 (n .segments) (n′ .segments) same-segments (a .segments) (a′ .segments));
@@ -175,16 +177,16 @@ module _ (text text′ : Bytes) where
           exits = sym (ap (λ (l : Lent). l .exits) p) ∙ ap (λ (l : Lent). l .exits) w ∙ ap (λ (l : Lent). l .exits) p′;
         }
 
-  pub same-mission-file : (edition : Edition) (m m′ : Mission Field) → SameMission m m′ → SpellsText (rules-of edition) SpellsMission m text → SpellsText (rules-of edition) SpellsMission m′ text′ → SameMissionFile text text′ (mission-file m) (mission-file m′)
+  pub same-mission-file : (edition : Edition) (m m′ : Mission Field) → SameMission m′ (mission-undated m) → SpellsText (rules-of edition) SpellsMission m text → SpellsText (rules-of edition) SpellsMission m′ text′ → SameMissionFile text text′ (mission-file m) (mission-file m′)
   unfolding mission-named
   same-mission-file edition m m′ e spelled spelled′ =
       let a = mission-names-asked text edition m spelled in
       let a′ = mission-names-asked text′ edition m′ spelled′ in
       record {
-        name = asked-both (some (m .name)) (some (m′ .name)) (ap (λ (x : Mission Name). some (x .name)) e) (a .name) (a′ .name);
-        rndf = asked-both (some (m .rndf)) (some (m′ .rndf)) (ap (λ (x : Mission Name). some (x .rndf)) e) (a .rndf) (a′ .rndf);
-        version = asked-both (m .version) (m′ .version) (ap (λ (x : Mission Name). x .version) e) (a .version) (a′ .version);
-        date = asked-both (m .date) (m′ .date) (ap (λ (x : Mission Name). x .date) e) (a .date) (a′ .date);
+        name = asked-both (some (m .name)) (some (m′ .name)) (sym (ap (λ (x : Mission Name). some (x .name)) e)) (a .name) (a′ .name);
+        rndf = asked-both (some (m .rndf)) (some (m′ .rndf)) (sym (ap (λ (x : Mission Name). some (x .rndf)) e)) (a .rndf) (a′ .rndf);
+        version = asked-both (m .version) (m′ .version) (sym (ap (λ (x : Mission Name). x .version) e)) (a .version) (a′ .version);
+        date = ap stretch (no-mission-date m′ m e);
       }
 
 -- ## THE THEOREMS, in each edition
@@ -201,9 +203,9 @@ rndf-round-trip edition text t left lent c file k out w reply left′ h =
     record {
       file′ = network-file n′;
       replied = r .1 ∙ ap (λ (d : Counts). Reply.Accepted d (network-file n′)) (sym (x .counted));
-      names = subst (λ (f : FileRow). SameFile text (take k out) f (network-file n′)) (sym (x .row)) (same-file text (take k out) edition n n′ (sym (y .same)) (x .accepts .spelled) spelled′);
-      tables = subst (λ (l : Lent). SameTables text (take k out) l left′) (sym (x .holds)) (subst (λ (l : Lent). SameTables text (take k out) (filled n t) l) (sym (r .2)) (same-tables text (take k out) edition n n′ (sym (y .same)) (x .accepts .spelled) spelled′ (x .accepts .right) (y .accepts .right) t));
-      network = record { one = n; other = n′; spells-one = x .accepts .spelled; spells-other = spelled′; same = y .same };
+      names = subst (λ (f : FileRow). SameFile text (take k out) f (network-file n′)) (sym (x .row)) (same-file text (take k out) edition n n′ (y .same) (x .accepts .spelled) spelled′);
+      tables = subst (λ (l : Lent). SameTables text (take k out) l left′) (sym (x .holds)) (subst (λ (l : Lent). SameTables text (take k out) (filled n t) l) (sym (r .2)) (same-tables text (take k out) edition n n′ (y .same) (x .accepts .spelled) spelled′ (x .accepts .right) (y .accepts .right) t));
+      network = record { one = n; other = n′; spells-one = x .accepts .spelled; spells-other = spelled′; same = undated-same (y .again) (undated n) (y .same) };
     }
 
 -- of a pair: what was written of the RNDF, with what was written of the MDF
@@ -228,11 +230,11 @@ pair-round-trip edition rndf mdf t left₁ left u mission-left lent₁ lent c₁
       file′ = network-file (y .again);
       own′ = mission-file (z .again);
       replied = r .1 ∙ (λ i. Pair.Accepted (counted i) (network-file (y .again)) (mission-counted i) (mission-file (z .again)));
-      names = subst (λ (f : FileRow). SameFile rndf (take k₁ out₁) f (network-file (y .again))) (sym (x .meant .row)) (same-file rndf (take k₁ out₁) edition n (y .again) (sym (y .same)) (x .accepts .spelled) spelled′);
-      mission-names = subst (λ (f : MissionFileRow). SameMissionFile mdf (take k out) f (mission-file (z .again))) (sym (x .meant .mission-row)) (same-mission-file mdf (take k out) edition m (z .again) (sym (z .same)) (x .takes .spelled) mission-spelled′);
+      names = subst (λ (f : FileRow). SameFile rndf (take k₁ out₁) f (network-file (y .again))) (sym (x .meant .row)) (same-file rndf (take k₁ out₁) edition n (y .again) (y .same) (x .accepts .spelled) spelled′);
+      mission-names = subst (λ (f : MissionFileRow). SameMissionFile mdf (take k out) f (mission-file (z .again))) (sym (x .meant .mission-row)) (same-mission-file mdf (take k out) edition m (z .again) (z .same) (x .takes .spelled) mission-spelled′);
       tables = subst (λ (l : Lent). SameTables rndf (take k₁ out₁) l left′) (sym (x .meant .holds))
-          (subst (λ (l : Lent). SameTables rndf (take k₁ out₁) (filled n t) l) (sym (r .2)) (same-tables rndf (take k₁ out₁) edition n (y .again) (sym (y .same)) (x .accepts .spelled) spelled′ (x .accepts .right) (y .accepts .right) t));
+          (subst (λ (l : Lent). SameTables rndf (take k₁ out₁) (filled n t) l) (sym (r .2)) (same-tables rndf (take k₁ out₁) edition n (y .again) (y .same) (x .accepts .spelled) spelled′ (x .accepts .right) (y .accepts .right) t));
       mission-tables = x .meant .mission-holds ∙ sym (r .3);
-      network = record { one = n; other = y .again; spells-one = x .accepts .spelled; spells-other = spelled′; same = y .same };
-      mission = record { one = m; other = z .again; spells-one = x .takes .spelled; spells-other = mission-spelled′; same = z .same };
+      network = record { one = n; other = y .again; spells-one = x .accepts .spelled; spells-other = spelled′; same = undated-same (y .again) (undated n) (y .same) };
+      mission = record { one = m; other = z .again; spells-one = x .takes .spelled; spells-other = mission-spelled′; same = mission-undated-same (z .again) (mission-undated m) (z .same) };
     }

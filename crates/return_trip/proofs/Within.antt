@@ -19,6 +19,7 @@ use Rattle.law_tables.proofs.NamesStand.{unmixed}
 use Rattle.edition.specs.declared.Edition as Asked
 use Rattle.edition.specs.Editions.{inner, rules-of}
 use Rattle.same.specs.Same.{SameNetwork}
+use Rattle.house_text.specs.House.{undated}
 
 -- ## Every one of a list: of mixed lists, and of a list told in another way
 mixed : {A : Type 0} (P : A → Type 0) {l r both : List A} → Mixed l r both → Each P l → Each P r → Each P both
@@ -236,8 +237,12 @@ module _ (e : Edition) where
   text-from : (n : Network Field) (text : Bytes) → SpellsText present SpellsNetwork n text → NetworkIn n → SpellsText (reading e) SpellsNetwork n text
   text-from n text h k = record { lines = h .lines; said = h .said; cut = h .cut; each = lines-from (h .each) (network-said n (h .said) (h .net) k); net = network-from n (h .said) (h .net) k }
 
+-- the date says nothing of it
+undated-in : (e : Edition) (n : Network Field) → NetworkIn e n → NetworkIn e (undated n)
+undated-in e n h = record { segments = h .segments; zones = h .zones }
+
 -- THE LAW, of networks that are the same, names by their bytes
-pub rndf-within : (edition : Asked.Edition) (n n′ : Network Field) (text text′ : Bytes) → SpellsText (rules-of edition) SpellsNetwork n text → SpellsText present SpellsNetwork n′ text′ → SameNetwork n′ n → SpellsText (rules-of edition) SpellsNetwork n′ text′
+pub rndf-within : (edition : Asked.Edition) (n n′ : Network Field) (text text′ : Bytes) → SpellsText (rules-of edition) SpellsNetwork n text → SpellsText present SpellsNetwork n′ text′ → SameNetwork n′ (undated n) → SpellsText (rules-of edition) SpellsNetwork n′ text′
 rndf-within edition n n′ text text′ h h′ same =
     let e = law-of (inner edition) in
-    text-from e n′ text′ h′ (unnamed-in e n′ (subst (λ (x : Network Name). NetworkIn e x) (sym same) (named-in e n (text-in e n text h))))
+    text-from e n′ text′ h′ (unnamed-in e n′ (subst (λ (x : Network Name). NetworkIn e x) (sym same) (named-in e (undated n) (undated-in e n (text-in e n text h)))))

@@ -18,10 +18,11 @@ use Rattle.replies.specs.declared.RndfReply.{RndfReply}
 use Rattle.replies.specs.declared.RndfReply.the-variants as Reply
 use Rattle.replies.specs.declared.PairReply.{PairReply}
 use Rattle.replies.specs.declared.PairReply.the-variants as Pair
-use Rattle.replies.specs.Replies.{AcceptsRndf, rows-used, network-file, mission-file, ReadsRndf, ReadsPair}
+use Rattle.replies.specs.Replies.{stretch, AcceptsRndf, rows-used, network-file, mission-file, ReadsRndf, ReadsPair}
 use Rattle.replies.proofs.Said.{never-both, pair-never-both, counts-of, pair-counts-of, mission-counts-of}
 use Rattle.output.specs.Output.{Fits, filled}
-use Rattle.house_text.specs.House.{HouseRndf, HouseMdf}
+use Rattle.house_text.specs.House.{undated, mission-undated, HouseRndf, HouseMdf}
+use Rattle.house_text.proofs.Undated.{undated-same, mission-undated-same, no-date, no-mission-date}
 use Rattle.house_text.proofs.Lawful.{house-rndf-only, house-mdf-only}
 use Rattle.house_text.proofs.Theorems.{rndf-again, mdf-again}
 use Rattle.law_spelling.proofs.Texts.{rndf-back, mdf-back-in}
@@ -40,7 +41,7 @@ use Rattle.promises.proofs.Promises.{spelled-accepted}
 use Rattle.promises.proofs.PairPromises.{spelled-pair-accepted}
 use Rattle.return_trip.specs.Returns.{RndfReturns}
 use Rattle.return_trip.specs.ReadBack.{RoomFor, MissionRoomFor, RndfReadBack, PairReadBack}
-use Rattle.return_trip.proofs.Returns.{counts-alike, mission-counts-alike, rndf-returns-in, mdf-returns-in}
+use Rattle.return_trip.proofs.Returns.{counts-alike, mission-counts-alike, undated-used, rndf-returns-in, mdf-returns-in}
 use Rattle.return_trip.proofs.Written.{RndfWritten, rndf-written, MdfWritten, mdf-written}
 
 -- room for the rows that were replied is room for the network's, and the mission's
@@ -83,8 +84,9 @@ module _ (edition : Edition) where
         let s = spelled-accepted edition (What .writing) t′ reply left′ (subst (λ (b : Bytes). ReadsRndf (rules-of edition) b t′ reply left′) (What .first) h) n′ (y .accepts) in
         record {
           file = network-file n′;
-          replied = s .0 ∙ ap (λ (x : Counts). Reply.Accepted x (network-file n′)) (counts-alike n′ (What .net) (y .same) ∙ sym (What .counted));
-          network = record { one = What .net; other = n′; spells-one = What .accepts .spelled; spells-other = subst (SpellsText (rules-of edition) SpellsNetwork n′) (sym (What .first)) (y .accepts .spelled); same = y .same };
+          replied = s .0 ∙ ap (λ (x : Counts). Reply.Accepted x (network-file n′)) (counts-alike n′ (undated (What .net)) (y .same) ∙ undated-used (What .net) ∙ sym (What .counted));
+          dateless = ap stretch (no-date n′ (What .net) (y .same));
+          network = record { one = What .net; other = n′; spells-one = What .accepts .spelled; spells-other = subst (SpellsText (rules-of edition) SpellsNetwork n′) (sym (What .first)) (y .accepts .spelled); same = undated-same n′ (undated (What .net)) (y .same) };
         }
 
     -- and what is written of it again, into any output that is long enough, are the same bytes
@@ -110,7 +112,7 @@ module _ (edition : Edition) where
     Whole = mdf-written edition rndf mdf t left u mission-left lent c file d row k out w
 
     -- with any RNDF that is accepted as the same network
-    came-back-with : (rndf′ : Bytes) (t′ left′ : Lent) (u′ mission-left′ : MissionLent) (n′ : Network Field) (reply : PairReply) → AcceptsRndf (rules-of edition) rndf′ t′ n′ → SameNetwork n′ (Whole .net) → MissionRoomFor d u′
+    came-back-with : (rndf′ : Bytes) (t′ left′ : Lent) (u′ mission-left′ : MissionLent) (n′ : Network Field) (reply : PairReply) → AcceptsRndf (rules-of edition) rndf′ t′ n′ → SameNetwork (undated n′) (undated (Whole .net)) → MissionRoomFor d u′
         → ReadsPair (rules-of edition) rndf′ (take k out) t′ u′ reply left′ mission-left′ → PairReadBack (rules-of edition) rndf mdf rndf′ (take k out) c d reply
     came-back-with rndf′ t′ left′ u′ mission-left′ n′ reply a e room h =
         let n = Whole .net in
@@ -118,14 +120,15 @@ module _ (edition : Edition) where
         let y = mdf-returns-in edition mdf u u′ n n′ m (Whole .takes) e (Whole .writing) (Whole .house) (Whole .size) (mission-room-as m u′ d (Whole .meant .mission-counted) room) in
         let m′ = y .again in
         let s = spelled-pair-accepted edition rndf′ (Whole .writing) t′ u′ reply left′ mission-left′ (subst (λ (b : Bytes). ReadsPair (rules-of edition) rndf′ b t′ u′ reply left′ mission-left′) (Whole .first) h) n′ m′ a (y .accepts) in
-        let one = counts-alike n′ n e ∙ sym (Whole .meant .counted) in
-        let two = mission-counts-alike m′ m (y .same) ∙ sym (Whole .meant .mission-counted) in
+        let one = sym (undated-used n′) ∙ counts-alike (undated n′) (undated n) e ∙ undated-used n ∙ sym (Whole .meant .counted) in
+        let two = mission-counts-alike m′ (mission-undated m) (y .same) ∙ sym (Whole .meant .mission-counted) in
         record {
           file = network-file n′;
           mission-file = mission-file m′;
           replied = s .0 ∙ ap₂ (λ (x : Counts) (z : MissionCounts). Pair.Accepted x (network-file n′) z (mission-file m′)) one two;
+          dateless = ap stretch (no-mission-date m′ m (y .same));
           network = record { one = n; other = n′; spells-one = Whole .accepts .spelled; spells-other = a .spelled; same = e };
-          mission = record { one = m; other = m′; spells-one = Whole .takes .spelled; spells-other = subst (SpellsText (rules-of edition) SpellsMission m′) (sym (Whole .first)) (y .accepts .spelled); same = y .same };
+          mission = record { one = m; other = m′; spells-one = Whole .takes .spelled; spells-other = subst (SpellsText (rules-of edition) SpellsMission m′) (sym (Whole .first)) (y .accepts .spelled); same = mission-undated-same m′ (mission-undated m) (y .same) };
         }
 
     -- THE RETURN TRIP: with the RNDF that was read then
@@ -143,7 +146,7 @@ module _ (edition : Edition) where
         let q = one-spelled edition rndf (y .net) (Whole .net) (y .accepts .spelled) (Whole .accepts .spelled) in
         let one : c₁ ≡ c = y .counted ∙ ap (λ (x : Network Field). rows-used x) q ∙ sym (Whole .meant .counted) in
         let b = came-back rndf s held room-lent c₁ file₁ k₁ out₁ v t′ (subst (λ (x : Counts). RoomFor x t′) (sym one) room) in
-        came-back-with (take k₁ out₁) t′ left′ u′ mission-left′ (b .again) reply (subst (λ (x : Bytes). AcceptsRndf (rules-of edition) x t′ (b .again)) (sym (y .first)) (b .accepts)) (b .same ∙ ap (λ (x : Network Field). network-named bytes-of x) q) mission-room h
+        came-back-with (take k₁ out₁) t′ left′ u′ mission-left′ (b .again) reply (subst (λ (x : Bytes). AcceptsRndf (rules-of edition) x t′ (b .again)) (sym (y .first)) (b .accepts)) (undated-same (b .again) (undated (y .net)) (b .same) ∙ ap (λ (x : Network Field). network-named bytes-of (undated x)) q) mission-room h
 
     -- what is written of it again, into any output that is long enough, are the same bytes
     pub mdf-written-again : (t′ left′ : Lent) (u′ mission-left′ : MissionLent) (lent′ : ℕ) (reply : WriteMdfReply) (out′ : Bytes) → RoomFor c t′ → MissionRoomFor d u′ → k ≤ lent′ → WritesMdf (rules-of edition) rndf (take k out) t′ u′ lent′ reply left′ mission-left′ out′

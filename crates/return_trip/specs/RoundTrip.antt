@@ -1,5 +1,5 @@
 -- WHAT A READER MUST BELIEVE. THE RETURN TRIP: what is replied, and left in the lent tables, where what was written of a text is read into the same tables. Document 01, "House writing"; "A network or mission is its tables with each name's bytes in place of start and length." Assumes nothing.
-use Rattle.terms.specs.Words.{_≡_, List, _∷_, _++_, ℕ, length, Bytes}
+use Rattle.terms.specs.Words.{_≡_, List, _∷_, _++_, none, ℕ, length, Bytes}
 use Rattle.law.specs.Network.{Rules}
 use Rattle.law.specs.Tables.{Lent, MissionLent}
 use Rattle.rows.specs.declared.FileRow.{FileRow}
@@ -11,6 +11,7 @@ use Rattle.replies.specs.declared.RndfReply.{RndfReply}
 use Rattle.replies.specs.declared.RndfReply.the-variants as Reply
 use Rattle.replies.specs.declared.PairReply.{PairReply}
 use Rattle.replies.specs.declared.PairReply.the-variants as Pair
+use Rattle.replies.specs.Replies.{stretch}
 use Rattle.return_trip.specs.ReadBack.{SameRndf, SameMdf}
 
 -- text and text′: what was read first, and what was written of it and read again
@@ -34,17 +35,17 @@ module _ (text text′ : Bytes) where
     pub stops : l .stops ≡ l′ .stops
     pub exits : l .exits ≡ l′ .exits
 
-  -- the same names in the file's row
+  -- the same names in the file's row. L12: "but for a missing date"
   pub record SameFile (file file′ : FileRow) : Type 0 where
     pub name : nameOf text (file .name) ≡ nameOf text′ (file′ .name)
     pub version : nameOf text (file .version) ≡ nameOf text′ (file′ .version)
-    pub date : nameOf text (file .date) ≡ nameOf text′ (file′ .date)
+    pub date : file′ .date ≡ stretch none
 
   pub record SameMissionFile (file file′ : MissionFileRow) : Type 0 where
     pub name : nameOf text (file .name) ≡ nameOf text′ (file′ .name)
     pub rndf : nameOf text (file .rndf) ≡ nameOf text′ (file′ .rndf)
     pub version : nameOf text (file .version) ≡ nameOf text′ (file′ .version)
-    pub date : nameOf text (file .date) ≡ nameOf text′ (file′ .date)
+    pub date : file′ .date ≡ stretch none
 
 -- rules: those by which it was accepted, and is read again (L10: its edition's)
 -- an RNDF: it was accepted with these rows used and this file's row, which left the tables so. What was written of it is then accepted with the same rows used and the same names, and leaves the same tables but for where names start; the two spell the same network
