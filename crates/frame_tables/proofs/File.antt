@@ -1,7 +1,7 @@
 -- The file's record (packed_frame::file_at): it says that the record has its length and its names are names; it tells the counts, the file's row and the place behind. Assumes nothing.
 use mathlib.Core.Path.{_≡_, refl, sym, ap, subst, _∙_}
 use mathlib.Core.List.{List, [], _∷_}
-use mathlib.Core.Option.{Option, some}
+use mathlib.Core.Option.{Option, none, some}
 use mathlib.Core.Bool.{Bool, true, false, _&&_}
 use Prim.Native.Nat.{ℕ, zero, suc, _+_, _≤_}
 use native.Mathlib.Omega.{arith}
@@ -28,7 +28,7 @@ use Rattle.packed_tables.proofs.Records.{sizes, there, here, whole-size, both-t
 use Rattle.packed_tables.proofs.Whole.{file-kinds, file-items, behind-file, name-in, or-none, rows-told}
 use Rattle.packed_tables.proofs.Points.{four-value}
 use Rattle.packed_frame.specs.Names.{two-at, name-size}
-use Rattle.packed_frame.specs.File.{counts, stretch-of, second-at, third-at, file-end, names-right, file-row, file-at}
+use Rattle.packed_frame.specs.File.{counts, stretch-of, second-at, file-end, names-right, file-row, file-at}
 use Rattle.packed_frame.specs.declared.File.the-variants as Is
 use Rattle.packed_frame.proofs.FileLaws.{missing, given, file-told}
 use Rattle.frame_tables.proofs.Fields.{AreNames, told, two-value, name-so, name-all, there-front, sizes-front}
@@ -95,9 +95,6 @@ module _ (b : Bytes) where
   abbrev q₃ : ℕ
   q₃ = q₂ + 2 + told b q₂
 
-  abbrev q₄ : ℕ
-  q₄ = q₃ + 2 + told b q₃
-
   seven : drop 2 (drop 5 b) ≡ drop 7 b
   seven = drop-drop 2 5 b
 
@@ -107,30 +104,28 @@ module _ (b : Bytes) where
   record FileHere : Type 0 where
     first : 39 + 2 + told b 39 ≤ length b
     second : q₂ + 2 + told b q₂ ≤ length b
-    third : q₃ + 2 + told b q₃ ≤ length b
-    long : told b 5 + 7 ≡ q₄
+    long : told b 5 + 7 ≡ q₃
 
   abbrev one : ℕ → Bool
   one q = leb (2 + told b q) (length (drop q b))
 
-  there-so : there file-kinds (drop 2 (drop 5 b)) ≡ (leb 32 (length (drop 2 (drop 5 b))) && (one q₁ && (one q₂ && (one q₃ && true))))
+  there-so : there file-kinds (drop 2 (drop 5 b)) ≡ (leb 32 (length (drop 2 (drop 5 b))) && (one q₁ && (one q₂ && true)))
   there-so =
-      there-front eight (of-name ∷ of-name ∷ of-name ∷ []) (drop 2 (drop 5 b)) tt
+      there-front eight (of-name ∷ of-name ∷ []) (drop 2 (drop 5 b)) tt
       ∙ ap (λ (x : Bool). leb 32 (length (drop 2 (drop 5 b))) && x)
-      (ap (there (of-name ∷ of-name ∷ of-name ∷ [])) names-at ∙ names-there (of-name ∷ of-name ∷ []) b q₁
-      ∙ ap (λ (x : Bool). one q₁ && x) (names-there (of-name ∷ []) b q₂ ∙ ap (λ (x : Bool). one q₂ && x) (names-there [] b q₃ ∙ ap (λ (x : Bool). one q₃ && x) (nothing-there (drop q₄ b)))))
+      (ap (there (of-name ∷ of-name ∷ [])) names-at ∙ names-there (of-name ∷ []) b q₁
+      ∙ ap (λ (x : Bool). one q₁ && x) (names-there [] b q₂ ∙ ap (λ (x : Bool). one q₂ && x) (nothing-there (drop q₃ b))))
 
-  sizes-so : sizes file-kinds (drop 2 (drop 5 b)) + 7 ≡ q₄
+  sizes-so : sizes file-kinds (drop 2 (drop 5 b)) + 7 ≡ q₃
   sizes-so =
-      let a = sizes-front eight (of-name ∷ of-name ∷ of-name ∷ []) (drop 2 (drop 5 b)) tt in
-      let c = ap (sizes (of-name ∷ of-name ∷ of-name ∷ [])) names-at in
-      let d₁ = names-sizes (of-name ∷ of-name ∷ []) b q₁ in
-      let d₂ = names-sizes (of-name ∷ []) b q₂ in
-      let d₃ = names-sizes [] b q₃ in
-      let z = nothing-long (drop q₄ b) in
+      let a = sizes-front eight (of-name ∷ of-name ∷ []) (drop 2 (drop 5 b)) tt in
+      let c = ap (sizes (of-name ∷ of-name ∷ [])) names-at in
+      let d₁ = names-sizes (of-name ∷ []) b q₁ in
+      let d₂ = names-sizes [] b q₂ in
+      let z = nothing-long (drop q₃ b) in
       omega arith
 
-  pub behind-so : 5 + whole-size file-kinds (drop 5 b) ≡ q₄
+  pub behind-so : 5 + whole-size file-kinds (drop 5 b) ≡ q₃
   behind-so = let s = sizes-so in omega arith
 
   inside : (q : ℕ) → one q ≡ true → q + 2 + told b q ≤ length b
@@ -145,13 +140,12 @@ module _ (b : Bytes) where
       let x = drop 5 b in
       let t = both-true (leb 2 (length x)) (there file-kinds (drop 2 x) && eqb (value (take 2 x)) (sizes file-kinds (drop 2 x))) h in
       let u = both-true (there file-kinds (drop 2 x)) (eqb (value (take 2 x)) (sizes file-kinds (drop 2 x))) (t .1) in
-      let v = both-true (leb 32 (length (drop 2 x))) (one q₁ && (one q₂ && (one q₃ && true))) (sym there-so ∙ u .0) in
-      let w₁ = both-true (one q₁) (one q₂ && (one q₃ && true)) (v .1) in
-      let w₂ = both-true (one q₂) (one q₃ && true) (w₁ .1) in
-      let w₃ = both-true (one q₃) true (w₂ .1) in
+      let v = both-true (leb 32 (length (drop 2 x))) (one q₁ && (one q₂ && true)) (sym there-so ∙ u .0) in
+      let w₁ = both-true (one q₁) (one q₂ && true) (v .1) in
+      let w₂ = both-true (one q₂) true (w₁ .1) in
       let e = eqb-true (value (take 2 x)) (sizes file-kinds (drop 2 x)) (u .1) in
       let s = sizes-so in
-      record { first = inside q₁ (w₁ .0); second = inside q₂ (w₂ .0); third = inside q₃ (w₃ .0); long = ap (λ (n : ℕ). n + 7) e ∙ s }
+      record { first = inside q₁ (w₁ .0); second = inside q₂ (w₂ .0); long = ap (λ (n : ℕ). n + 7) e ∙ s }
 
   file-here : FileHere → here file-kinds (drop 5 b) ≡ true
   unfolding here
@@ -164,8 +158,8 @@ module _ (b : Bytes) where
       let g = f .long in
       true-both (leb 2 (length x)) (there file-kinds (drop 2 x) && eqb (value (take 2 x)) (sizes file-kinds (drop 2 x))) (le-leb 2 (length x) (omega arith))
       (true-both (there file-kinds (drop 2 x)) (eqb (value (take 2 x)) (sizes file-kinds (drop 2 x)))
-      (there-so ∙ true-both (leb 32 (length (drop 2 x))) (one q₁ && (one q₂ && (one q₃ && true))) (le-leb 32 (length (drop 2 x)) (omega arith))
-      (true-both (one q₁) (one q₂ && (one q₃ && true)) (so-inside q₁ (f .first)) (true-both (one q₂) (one q₃ && true) (so-inside q₂ (f .second)) (true-both (one q₃) true (so-inside q₃ (f .third)) refl))))
+      (there-so ∙ true-both (leb 32 (length (drop 2 x))) (one q₁ && (one q₂ && true)) (le-leb 32 (length (drop 2 x)) (omega arith))
+      (true-both (one q₁) (one q₂ && true) (so-inside q₁ (f .first)) (true-both (one q₂) true (so-inside q₂ (f .second)) refl)))
       (eq-eqb (value (take 2 x)) (sizes file-kinds (drop 2 x)) (omega arith)))
 
   -- ## Its slots
@@ -199,9 +193,6 @@ module _ (b : Bytes) where
   abbrev n₂ : Bytes
   n₂ = drop (2 + value (take 2 n₁)) n₁
 
-  abbrev n₃ : Bytes
-  n₃ = drop (2 + value (take 2 n₂)) n₂
-
   x₁ : n₁ ≡ drop q₁ b
   x₁ = ap (drop 4) y₈ ∙ drop-drop 4 35 b
 
@@ -211,14 +202,8 @@ module _ (b : Bytes) where
   x₂ : n₂ ≡ drop q₂ b
   x₂ = (λ i. drop (2 + value (take 2 (x₁ i))) (x₁ i)) ∙ drop-drop (2 + told b q₁) q₁ b ∙ ap (λ (k : ℕ). drop k b) (apart q₁ (told b q₁))
 
-  x₃ : n₃ ≡ drop q₃ b
-  x₃ = (λ i. drop (2 + value (take 2 (x₂ i))) (x₂ i)) ∙ drop-drop (2 + told b q₂) q₂ b ∙ ap (λ (k : ℕ). drop k b) (apart q₂ (told b q₂))
-
   p₂ : q₁ + (2 + value (take 2 n₁)) ≡ q₂
   p₂ = ap (λ (l : Bytes). q₁ + (2 + value (take 2 l))) x₁ ∙ apart q₁ (told b q₁)
-
-  p₃ : (q₁ + (2 + value (take 2 n₁))) + (2 + value (take 2 n₂)) ≡ q₃
-  p₃ = (λ i. p₂ i + (2 + value (take 2 (x₂ i)))) ∙ apart q₂ (told b q₂)
 
   abbrev name-at : ℕ → Option Field
   name-at q = named-at q (told b q) (drop 2 (drop q b))
@@ -230,10 +215,6 @@ module _ (b : Bytes) where
   second-name : name-in 9 items ≡ name-at q₂
   unfolding read
   second-name = λ i. named-at (p₂ i) (value (take 2 (x₂ i))) (drop 2 (x₂ i))
-
-  third-name : name-in 10 items ≡ name-at q₃
-  unfolding read
-  third-name = λ i. named-at (p₃ i) (value (take 2 (x₃ i))) (drop 2 (x₃ i))
 
   count-is : (q : ℕ) → q + 4 ≤ length b → (l : Bytes) → l ≡ drop q b → value (take 4 l) ≡ four-at b q
   count-is q h l e = ap (λ (l : Bytes). value (take 4 l)) e ∙ sym (four-value b q h)
@@ -258,7 +239,7 @@ module _ (b : Bytes) where
   abbrev row : Typed.FileRow Field
   row = rows-told (drop 5 b) .file
 
-  row-is : row ≡ record { name = or-none (name-in 8 items); version = name-in 9 items; date = name-in 10 items }
+  row-is : row ≡ record { name = or-none (name-in 8 items); version = name-in 9 items; date = none }
   unfolding rows-told
   row-is = refl
 
@@ -268,27 +249,26 @@ module _ (b : Bytes) where
   second-stretch : FileHere → stretch (row .version) ≡ stretch-of (q₂ + 2) (told b q₂)
   second-stretch f = ap (λ (r : Typed.FileRow Field). stretch (r .version)) row-is ∙ ap stretch second-name ∙ name-stretch q₂ (f .second)
 
-  third-stretch : FileHere → stretch (row .date) ≡ stretch-of (q₃ + 2) (told b q₃)
-  third-stretch f = ap (λ (r : Typed.FileRow Field). stretch (r .date)) row-is ∙ ap stretch third-name ∙ name-stretch q₃ (f .third)
+  -- L12: no date
+  no-stretch : stretch (row .date) ≡ record { start = 0; length = 0 }
+  no-stretch = ap (λ (r : Typed.FileRow Field). stretch (r .date)) row-is
 
   -- what code found
   record Found : Type 0 where
     is-there : told b 39 ≡ 0 → ⊥
     s₁ : name-size b 39 ≡ told b 39
     s₂ : name-size b q₂ ≡ told b q₂
-    s₃ : name-size b q₃ ≡ told b q₃
     g₁ : name-size b 39 ≡ 129 → ⊥
     g₂ : name-size b q₂ ≡ 129 → ⊥
-    g₃ : name-size b q₃ ≡ 129 → ⊥
 
   found-told : FileHere → Found → file-at b ≡ Is.Told (counts-of items) (row-of row) (5 + whole-size file-kinds (drop 5 b))
   found-told f g =
       let w = f .first in
-      let s₁ = g .s₁ in let s₂ = g .s₂ in let s₃ = g .s₃ in
+      let s₁ = g .s₁ in let s₂ = g .s₂ in
       let e = two-value b 5 (omega arith) in
-      sym (file-told b (told b q₁) (sym s₁) (g .is-there) (λ z. g .g₁ (s₁ ∙ z)) (told b q₂) (sym s₂) (λ z. g .g₂ (s₂ ∙ z)) (told b q₃) (sym s₃) (λ z. g .g₃ (s₃ ∙ z)) (told b 5) (sym e) (f .long)
-      (counts-of items) (counts-so (omega arith)) (stretch (some (row .name))) (stretch (row .version)) (stretch (row .date)) (first-stretch f (g .is-there)) (second-stretch f) (third-stretch f))
-      ∙ ap (Is.Told (counts-of items) (row-of row)) (sym behind-so)
+      sym (file-told b (told b q₁) (sym s₁) (g .is-there) (λ z. g .g₁ (s₁ ∙ z)) (told b q₂) (sym s₂) (λ z. g .g₂ (s₂ ∙ z)) (told b 5) (sym e) (f .long)
+      (counts-of items) (counts-so (omega arith)) (stretch (some (row .name))) (stretch (row .version)) (first-stretch f (g .is-there)) (second-stretch f))
+      ∙ (λ i. Is.Told (counts-of items) (record { name = stretch (some (row .name)); version = stretch (row .version); date = sym no-stretch i }) (sym behind-so i))
 
   -- ## The judge
   pub record FileSo (c : Counts) (r : FileRow) (end : ℕ) : Type 0 where
@@ -318,19 +298,17 @@ module _ (b : Bytes) where
     some : name-size b 39 ≡ 0 → ⊥
     first : name-size b 39 ≡ 129 → ⊥
     second : name-size b (second-at b) ≡ 129 → ⊥
-    third : name-size b (third-at b) ≡ 129 → ⊥
 
   were-named : names-right b ≡ true → Named
   unfolding names-right
-  were-named e = go (eqb (name-size b 39) 0) refl (eqb (name-size b 39) 129) refl (eqb (name-size b (second-at b)) 129) refl (eqb (name-size b (third-at b)) 129) refl e
+  were-named e = go (eqb (name-size b 39) 0) refl (eqb (name-size b 39) 129) refl (eqb (name-size b (second-at b)) 129) refl e
     where
-      go : (p : Bool) → eqb (name-size b 39) 0 ≡ p → (q : Bool) → eqb (name-size b 39) 129 ≡ q → (r : Bool) → eqb (name-size b (second-at b)) 129 ≡ r → (t : Bool) → eqb (name-size b (third-at b)) 129 ≡ t
-          → pick p false (pick q false (pick r false (pick t false true))) ≡ true → Named
-      go true ep q eq r er t et h = clash (sym h)
-      go false ep true eq r er t et h = clash (sym h)
-      go false ep false eq true er t et h = clash (sym h)
-      go false ep false eq false er true et h = clash (sym h)
-      go false ep false eq false er false et h = record { some = eqb-false (name-size b 39) 0 ep; first = eqb-false (name-size b 39) 129 eq; second = eqb-false (name-size b (second-at b)) 129 er; third = eqb-false (name-size b (third-at b)) 129 et }
+      go : (p : Bool) → eqb (name-size b 39) 0 ≡ p → (q : Bool) → eqb (name-size b 39) 129 ≡ q → (r : Bool) → eqb (name-size b (second-at b)) 129 ≡ r
+          → pick p false (pick q false (pick r false true)) ≡ true → Named
+      go true ep q eq r er h = clash (sym h)
+      go false ep true eq r er h = clash (sym h)
+      go false ep false eq true er h = clash (sym h)
+      go false ep false eq false er h = record { some = eqb-false (name-size b 39) 0 ep; first = eqb-false (name-size b 39) 129 eq; second = eqb-false (name-size b (second-at b)) 129 er }
 
   told-so : (c d : Counts) (r s : FileRow) (m n : ℕ) → Is.Told c r m ≡ Is.Told d s n → (c ≡ d) × ((r ≡ s) × (m ≡ n))
   told-so c d r s m n e = let p : c ≡ d = cc in let q : r ≡ s = cc in let u : m ≡ n = cc in (p, (q, u))
@@ -346,16 +324,12 @@ module _ (b : Bytes) where
       let g₂ : name-size b q₂ ≡ 129 → ⊥ = λ z. n .second (ap (name-size b) at₂ ∙ z) in
       let a₂ = name-so b q₂ g₂ in
       let s₂ = a₂ .1 in
-      let at₃ : third-at b ≡ q₃ = ap (λ (k : ℕ). k + 2 + name-size b k) at₂ ∙ ap (λ (k : ℕ). q₂ + 2 + k) s₂ in
-      let g₃ : name-size b q₃ ≡ 129 → ⊥ = λ z. n .third (ap (name-size b) at₃ ∙ z) in
-      let a₃ = name-so b q₃ g₃ in
-      let s₃ = a₃ .1 in
-      let at₄ : file-end b ≡ q₄ = ap (λ (k : ℕ). k + 2 + name-size b k) at₃ ∙ ap (λ (k : ℕ). q₃ + 2 + k) s₃ in
+      let at₃ : file-end b ≡ q₃ = ap (λ (k : ℕ). k + 2 + name-size b k) at₂ ∙ ap (λ (k : ℕ). q₂ + 2 + k) s₂ in
       let w₁ = a₁ .0 .whole in
       let e = two-value b 5 (omega arith) in
-      let f : FileHere = record { first = w₁; second = a₂ .0 .whole; third = a₃ .0 .whole; long = ap (λ (k : ℕ). k + 7) (sym e) ∙ d .long ∙ at₄ } in
+      let f : FileHere = record { first = w₁; second = a₂ .0 .whole; long = ap (λ (k : ℕ). k + 7) (sym e) ∙ d .long ∙ at₃ } in
       let z : told b 39 ≡ 0 → ⊥ = λ z. n .some (s₁ ∙ z) in
-      let t = told-so c (counts-of items) r (row-of row) end (5 + whole-size file-kinds (drop 5 b)) (sym h ∙ found-told f (record { is-there = z; s₁ = s₁; s₂ = s₂; s₃ = s₃; g₁ = n .first; g₂ = g₂; g₃ = g₃ })) in
+      let t = told-so c (counts-of items) r (row-of row) end (5 + whole-size file-kinds (drop 5 b)) (sym h ∙ found-told f (record { is-there = z; s₁ = s₁; s₂ = s₂; g₁ = n .first; g₂ = g₂ })) in
       record {
         here-so = file-here f;
         counts-told = t .0;
@@ -364,16 +338,15 @@ module _ (b : Bytes) where
         left-so = ap (λ (k : ℕ). drop k b) (t .1 .1) ∙ sym (drop-drop (whole-size file-kinds (drop 5 b)) 5 b);
         name = subst (λ (r : Typed.FileRow Field). IsName (r .name)) (sym row-is) (subst (λ (v : Option Field). IsName (or-none v)) (sym first-name) (name-own q₁ (told b q₁) (drop 2 (drop q₁ b)) (a₁ .0 .is-name q₁) z));
         version = subst (λ (r : Typed.FileRow Field). AreNames (r .version)) (sym row-is) (subst AreNames (sym second-name) (a₂ .0 .is-name q₂));
-        date = subst (λ (r : Typed.FileRow Field). AreNames (r .date)) (sym row-is) (subst AreNames (sym third-name) (a₃ .0 .is-name q₃));
+        date = subst (λ (r : Typed.FileRow Field). AreNames (r .date)) (sym row-is) tt;
       }
 
   -- and all that is so is told
-  pub file-all : here file-kinds (drop 5 b) ≡ true → IsName (rows-told (drop 5 b) .file .name) → AreNames (rows-told (drop 5 b) .file .version) → AreNames (rows-told (drop 5 b) .file .date)
+  pub file-all : here file-kinds (drop 5 b) ≡ true → IsName (rows-told (drop 5 b) .file .name) → AreNames (rows-told (drop 5 b) .file .version)
       → file-at b ≡ Is.Told (counts-of (file-items (drop 5 b))) (row-of (rows-told (drop 5 b) .file)) (5 + whole-size file-kinds (drop 5 b))
-  file-all h u v w =
+  file-all h u v =
       let f = here-file h in
       let o = own-name q₁ (told b q₁) (drop 2 (drop q₁ b)) (subst (λ (v : Option Field). IsName (or-none v)) first-name (subst (λ (r : Typed.FileRow Field). IsName (r .name)) row-is u)) in
       let a₁ = name-all b q₁ q₁ (f .first) (o .0) in
       let a₂ = name-all b q₂ q₂ (f .second) (subst AreNames second-name (subst (λ (r : Typed.FileRow Field). AreNames (r .version)) row-is v)) in
-      let a₃ = name-all b q₃ q₃ (f .third) (subst AreNames third-name (subst (λ (r : Typed.FileRow Field). AreNames (r .date)) row-is w)) in
-      found-told f (record { is-there = o .1; s₁ = a₁ .0; s₂ = a₂ .0; s₃ = a₃ .0; g₁ = a₁ .1; g₂ = a₂ .1; g₃ = a₃ .1 })
+      found-told f (record { is-there = o .1; s₁ = a₁ .0; s₂ = a₂ .0; g₁ = a₁ .1; g₂ = a₂ .1 })

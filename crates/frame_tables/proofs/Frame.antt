@@ -178,7 +178,7 @@ module _ (b : Bytes) where
       let points : point + total zone-span zs ≡ at 4 (items b) = ap (λ (l : List (ZoneRow Field)). point + total zone-span l) (sym ze) ∙ f .points-count ∙ points-long in
       let w = spots-with (at 3 (items b)) (total (λ r. r .spots) zs) point (sym spots) (f .spots-here, (subst (Each SpotRowRight) oe (f .spots-right), subst (SpotsRunning point zs) oe (subst (λ (l : List (ZoneRow Field)). SpotsRunning point l (t .spots)) ze (f .spots-running)))) in
       record {
-        file = file-all b (f .file-here) (f .names .name) (f .names .version) (f .names .date);
+        file = file-all b (f .file-here) (f .names .name) (f .names .version);
         segments-pass = segments-all (segments-at b) (at 0 (items b)) b (segments-at b) (f .segments-here) (subst (Each (λ r. Between 1 largest (r .lanes))) se (f .segments-right)) (subst (Running (λ r. r .first-lane) (λ r. r .lanes) 0) se (f .segments-running)) (subst (Each (λ r. AreNames (r .name))) se (f .names .segments))
             ∙ ap (Segments.To (lanes-at b)) lanes;
         zones-pass = zones-all (zones-at b) (at 2 (items b)) b (zones-at b) point (f .zones-here) (subst (Each ZoneRowRight) ze (f .zones-right)) running (subst (FirstSpots 0) ze (f .first-spots)) names ∙ (λ i. Zones.To (spots-at b) (points i) (spots i));

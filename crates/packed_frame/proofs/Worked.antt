@@ -1,4 +1,4 @@
--- The passes over the form of yard A (docs/PACKED.md) and over zones, by computation: yard A's name starts at 41, its segment stands at 51 and has one lane. Assumes nothing.
+-- The passes over the form of yard A (docs/PACKED.md) and over zones, by computation: yard A's name starts at 41, its segment stands at 49 and has one lane. Assumes nothing.
 use mathlib.Core.Path.{_≡_, refl}
 use mathlib.Core.Bool.{true}
 use Rattle.packed_law.specs.Yards.{form-a}
@@ -16,11 +16,11 @@ use Rattle.packed_frame.specs.declared.File.the-variants as Is
 use Rattle.packed_frame.specs.declared.Segments.the-variants as Segments
 use Rattle.packed_frame.specs.declared.Zones.the-variants as Zones
 
-pub yard-a-file : file-at form-a ≡ Is.Told (record { segments = 1; lanes = 1; zones = 0; spots = 0; points = 2; checkpoints = 1; stops = 0; exits = 1 }) (record { name = record { start = 41; length = 6 }; version = record { start = 0; length = 0 }; date = record { start = 0; length = 0 } }) 51
+pub yard-a-file : file-at form-a ≡ Is.Told (record { segments = 1; lanes = 1; zones = 0; spots = 0; points = 2; checkpoints = 1; stops = 0; exits = 1 }) (record { name = record { start = 41; length = 6 }; version = record { start = 0; length = 0 }; date = record { start = 0; length = 0 } }) 49
 unfolding file-at names-right stretch-of name-size two-at four-at all
 yard-a-file = refl
 
-pub yard-a-segments : segments-told (segments 1 form-a 51 0) ≡ Segments.To 61 1
+pub yard-a-segments : segments-told (segments 1 form-a 49 0) ≡ Segments.To 59 1
 unfolding walk segment-end named-end name-size two-at four-at all
 yard-a-segments = refl
 

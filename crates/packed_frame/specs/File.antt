@@ -25,18 +25,16 @@ behind-name b at = at + 2 + name-size b at
 abbrev pub second-at : Bytes → ℕ
 second-at b = behind-name b first-at
 
-abbrev pub third-at : Bytes → ℕ
-third-at b = behind-name b (second-at b)
-
 abbrev pub file-end : Bytes → ℕ
-file-end b = behind-name b (third-at b)
+file-end b = behind-name b (second-at b)
 
--- the first name is there, each of the others is there or missing
+-- the first name is there, the other is there or missing
 unfoldable pub names-right : Bytes → Bool
-names-right b = pick (eqb (name-size b first-at) 0) false (pick (eqb (name-size b first-at) no-name) false (pick (eqb (name-size b (second-at b)) no-name) false (pick (eqb (name-size b (third-at b)) no-name) false true)))
+names-right b = pick (eqb (name-size b first-at) 0) false (pick (eqb (name-size b first-at) no-name) false (pick (eqb (name-size b (second-at b)) no-name) false true))
 
+-- L12: "Unpacking gives the network back but for the date": 0, 0
 abbrev pub file-row : Bytes → FileRow
-file-row b = record { name = stretch-of (first-at + 2) (name-size b first-at); version = stretch-of (second-at b + 2) (name-size b (second-at b)); date = stretch-of (third-at b + 2) (name-size b (third-at b)) }
+file-row b = record { name = stretch-of (first-at + 2) (name-size b first-at); version = stretch-of (second-at b + 2) (name-size b (second-at b)); date = record { start = 0; length = 0 } }
 
 unfoldable pub file-at : Bytes → File
 file-at b = pick (names-right b) (pick (eqb (two-at b 5 + 7) (file-end b)) (Is.Told (counts b) (file-row b) (file-end b)) Is.Nothing) Is.Nothing

@@ -336,17 +336,15 @@ pub fn file_at(bytes: &[u8]) -> File
     if second == NO_NAME {
         return File::Nothing;
     }
-    let third_at = second_at + 2 + second;
-    let third = name_size(bytes, third_at);
-    if third == NO_NAME {
-        return File::Nothing;
-    }
-    let end = third_at + 2 + third;
+    let end = second_at + 2 + second;
     if two_at(bytes, 5) as usize + 7 == end {
         let row = FileRow {
             name: stretch_of(41, first as u32),
             version: stretch_of((second_at + 2) as u32, second as u32),
-            date: stretch_of((third_at + 2) as u32, third as u32),
+            date: Stretch {
+                start: 0,
+                length: 0,
+            },
         };
         File::Told(counts_told(bytes), row, end)
     } else {

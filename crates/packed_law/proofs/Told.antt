@@ -13,7 +13,7 @@ use Rattle.packed_law.specs.Packed.{Slot, figure, angle, title, by-table
 -- ## The records
 abbrev pub file-record : Network Field → List Slot
 file-record n = figure 4 (length (segment-rows n)) ∷ figure 4 (length (lane-rows n)) ∷ figure 4 (length (zone-rows n)) ∷ figure 4 (length (spot-rows n)) ∷ figure 4 (length (point-rows n)) ∷ figure 4 (length (checkpoint-rows n)) ∷ figure 4 (length (stop-rows n)) ∷ figure 4 (length (exit-rows n))
-    ∷ title (some (n .name)) ∷ title (n .version) ∷ title (n .date) ∷ []
+    ∷ title (some (n .name)) ∷ title (n .version) ∷ []
 
 abbrev pub segment-records : Network Field → List (List Slot)
 segment-records n = along (λ s. length (s .lanes)) (λ first s. (figure 4 first ∷ figure 2 (length (s .lanes)) ∷ title (s .name) ∷ []) ∷ []) 0 (n .segments)

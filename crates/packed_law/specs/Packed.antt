@@ -1,4 +1,4 @@
--- WHAT A READER MUST BELIEVE. The packed form of a network: the rows of its tables as records; where names lie in it; and what 27 and 28 ask. Document 02, L11; docs/PACKED.md has the same as a table. Assumes nothing.
+-- WHAT A READER MUST BELIEVE. The packed form of a network: the rows of its tables as records; where names lie in it; and what 27 and 28 ask. Document 02, L11 and L12; docs/PACKED.md has the same as a table. Assumes nothing.
 use Rattle.terms.specs.Words.{_≡_, List, [], _∷_, _++_, map, Option, none, some, ℕ, _+_, _-_, _<_, length, ℤ, pos, Bytes}
 use mathlib.Core.List.{zipWith}
 use lib.IntN.{negsuc}
@@ -43,9 +43,9 @@ by-table n =
     ∷ map (zipWith figure (4 ∷ 4 ∷ [])) (exit-rows n)
     ∷ []
 
--- 01: "File: its name, format version, creation date"; before them how many rows each table has, four bytes each: nothing else parts one table from the next
+-- 01: "File: its name, format version, creation date"; L12: "the house writing and the packed form leave it out", the date; before them how many rows each table has, four bytes each: nothing else parts one table from the next
 abbrev pub file-slots : Network Field → List Slot
-file-slots n = map (λ table. figure 4 (length table)) (by-table n) ++ map title (some (n .name) ∷ n .version ∷ n .date ∷ [])
+file-slots n = map (λ table. figure 4 (length table)) (by-table n) ++ map title (some (n .name) ∷ n .version ∷ [])
 
 -- ## The form
 -- L11: "records .., each with its length first in two bytes, big-endian": the count of the bytes that follow
@@ -56,9 +56,9 @@ with-length slots = figure 2 (length (laid slots)) ∷ slots
 unfoldable pub all-slots : Network Field → List Slot
 all-slots n = gather with-length (file-slots n ∷ gather (λ table. table) (by-table n))
 
--- L11: "a version byte, 1, at the front"
+-- L11: "a version byte .. at the front"; L12: "The packed form's version byte becomes 2, and bytes of version 1 give 27 from then on."
 abbrev pub this-version : ℕ
-this-version = 1
+this-version = 2
 
 -- "then the length of all that follows in four bytes, big-endian; then records"
 unfoldable pub packed-form : Network Field → Bytes
@@ -77,7 +77,7 @@ NamesLie at [] = Unit {0}
 NamesLie at (s ∷ slots) = LiesAt at s × NamesLie (at + length (slot-bytes s)) slots
 
 -- ## 27 and 28
--- not 27, "version not 1 or no bytes"
+-- not 27, "version not 1 or no bytes", by L12 not 2
 pub record OfThisVersion (bytes : Bytes) : Type 0 where
   pub behind : Bytes
   pub is : bytes ≡ this-version ∷ behind

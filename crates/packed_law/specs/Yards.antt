@@ -1,4 +1,4 @@
--- WHAT A READER MUST BELIEVE. Yard A and its packed form, byte for byte, a record to a line (docs/PACKED.md has it in hexadecimal). Document 02, L11. Assumes nothing.
+-- WHAT A READER MUST BELIEVE. Yard A and its packed form, byte for byte, a record to a line (docs/PACKED.md has it in hexadecimal). Document 02, L11 and L12. Assumes nothing.
 use Rattle.terms.specs.Words.{[], _∷_, none, ℕ, pos, negℤ, Bytes, ascii}
 use Rattle.line.specs.Line.{Field}
 use Rattle.law.specs.Network.{Position, Network}
@@ -17,8 +17,8 @@ yard-a start = record {
 }
 
 abbrev pub form-a : Bytes
-form-a = 1 ∷ 0 ∷ 0 ∷ 0 ∷ 106 ∷
-    0 ∷ 44 ∷ 0 ∷ 0 ∷ 0 ∷ 1 ∷ 0 ∷ 0 ∷ 0 ∷ 1 ∷ 0 ∷ 0 ∷ 0 ∷ 0 ∷ 0 ∷ 0 ∷ 0 ∷ 0 ∷ 0 ∷ 0 ∷ 0 ∷ 2 ∷ 0 ∷ 0 ∷ 0 ∷ 1 ∷ 0 ∷ 0 ∷ 0 ∷ 0 ∷ 0 ∷ 0 ∷ 0 ∷ 1 ∷ 0 ∷ 6 ∷ 121 ∷ 97 ∷ 114 ∷ 100 ∷ 95 ∷ 97 ∷ 0 ∷ 0 ∷ 0 ∷ 0 ∷
+form-a = 2 ∷ 0 ∷ 0 ∷ 0 ∷ 104 ∷
+    0 ∷ 42 ∷ 0 ∷ 0 ∷ 0 ∷ 1 ∷ 0 ∷ 0 ∷ 0 ∷ 1 ∷ 0 ∷ 0 ∷ 0 ∷ 0 ∷ 0 ∷ 0 ∷ 0 ∷ 0 ∷ 0 ∷ 0 ∷ 0 ∷ 2 ∷ 0 ∷ 0 ∷ 0 ∷ 1 ∷ 0 ∷ 0 ∷ 0 ∷ 0 ∷ 0 ∷ 0 ∷ 0 ∷ 1 ∷ 0 ∷ 6 ∷ 121 ∷ 97 ∷ 114 ∷ 100 ∷ 95 ∷ 97 ∷ 0 ∷ 0 ∷
     0 ∷ 8 ∷ 0 ∷ 0 ∷ 0 ∷ 0 ∷ 0 ∷ 1 ∷ 0 ∷ 0 ∷
     0 ∷ 10 ∷ 0 ∷ 0 ∷ 0 ∷ 0 ∷ 0 ∷ 2 ∷ 255 ∷ 255 ∷ 0 ∷ 0 ∷
     0 ∷ 8 ∷ 2 ∷ 174 ∷ 165 ∷ 64 ∷ 250 ∷ 116 ∷ 238 ∷ 192 ∷

@@ -1,6 +1,7 @@
 -- Bytes are a network's packed form exactly if they are the form of the rows read from them, names in place and right, and these rows are consistent. Assumes nothing.
 use mathlib.Core.Path.{_≡_, refl, sym, ap, subst, _∙_}
 use mathlib.Core.List.{List, [], _∷_, _++_}
+use mathlib.Core.Option.{none}
 use Prim.Native.Nat.{ℕ, _+_, _≤_}
 use lib.ListN.{length}
 use Rattle.terms.specs.Ascii.{Bytes}
@@ -9,8 +10,11 @@ use Rattle.law.specs.Network.{Network}
 use Rattle.law.specs.Tables.{gather}
 use Rattle.law.specs.Faults.{Sound}
 use Rattle.grammar.specs.HouseOrder.{GoodNetwork}
-use Rattle.grammar.specs.Tables.{Tables, tables}
+use Rattle.grammar.specs.Tables.{Tables, tables, tables-with}
 use Rattle.law_spelling.proofs.Texts.{rndf-to}
+use Rattle.grammar.specs.Names.{network-named}
+use Rattle.text.specs.Spelling.{bytes-of}
+use Rattle.house_text.specs.House.{undated}
 use Rattle.house_text.specs.HouseText.{house-rndf}
 use Rattle.house_text.specs.Names.{NetworkNames}
 use Rattle.house_text.proofs.Theorems.{network-back}
@@ -32,12 +36,16 @@ use Rattle.packed_tables.proofs.Names.{TableNames, names-there, names-b
 pub record IsForm (t : Tables Field ℕ) (bytes : Bytes) : Type 0 where
   pub form : bytes ≡ form-of t
   pub placed : NamesLie 5 (items-of t)
+  pub dateless : t .file .date ≡ none
   pub consistent : Consistent t
   pub names : TableNames t
 
--- ## A network that keeps the ranges and whose names are names is spelled by a text
-pub is-network : (n : Network Field) → GoodNetwork n → Sound n → NetworkNames n → IsNetwork n
-is-network n g s names = let x = network-back n g names in record { text = house-rndf n; written = x .0; spelled = rndf-to (x .0) (house-rndf n) (x .1); same = x .2; sound = s }
+has-none : (n : Network Field) → n .date ≡ none → undated n ≡ n
+has-none n d = λ i. record { name = n .name; version = n .version; date = sym d i; segments = n .segments; zones = n .zones }
+
+-- ## A network that keeps the ranges, whose names are names and that has no date is spelled by a text
+pub is-network : (n : Network Field) → GoodNetwork n → Sound n → NetworkNames n → n .date ≡ none → IsNetwork n
+is-network n g s names dateless = let x = network-back n g names in record { text = house-rndf n; written = x .0; spelled = rndf-to (x .0) (house-rndf n) (x .1); same = x .2 ∙ ap (network-named bytes-of) (has-none n dateless); sound = s }
 
 body-is : (n : Network Field) → Sound n → all-slots n ≡ items-of (tables n)
 body-is n s = all-told n ∙ ap (λ (l : List (List Slot)). gather with-length l) (sym (records-so n s)) ∙ items-are (tables n)
@@ -45,6 +53,15 @@ body-is n s = all-told n ∙ ap (λ (l : List (List Slot)). gather with-length l
 packed-is : (n : Network Field) → Sound n → packed-form n ≡ form-of (tables n)
 unfolding packed-form form-of
 packed-is n s = ap (λ (l : List Slot). this-version ∷ bigEndian 4 (length (laid l)) ++ laid l) (body-is n s)
+
+-- ## Without a date
+pub table-dateless : (n : Network Field) → n .date ≡ none → tables n .file .date ≡ none
+unfolding tables-with
+table-dateless n d = d
+
+made-dateless : (t : Tables Field ℕ) → t .file .date ≡ none → network-of t .date ≡ none
+unfolding network-of
+made-dateless t d = d
 
 -- ## BACK: they are its form
 pub form-made : (t : Tables Field ℕ) (bytes : Bytes) → IsForm t bytes → IsPackedFormOf (network-of t) bytes
@@ -54,9 +71,10 @@ form-made t bytes x =
     let rows = tables-are t c in
     let s = sound t c in
     record {
-      network = is-network n (good t c) s (names-back n (subst TableNames (sym rows) (x .names)));
+      network = is-network n (good t c) s (names-back n (subst TableNames (sym rows) (x .names))) (made-dateless t (x .dateless));
       form = x .form ∙ ap form-of (sym rows) ∙ sym (packed-is n s);
       names = subst (NamesLie 5) (ap items-of (sym rows) ∙ sym (body-is n s)) (x .placed);
+      dateless = made-dateless t (x .dateless);
     }
 
 -- ## THERE: a network's form is that of the rows read from it
@@ -64,5 +82,5 @@ pub form-only : (n : Network Field) (bytes : Bytes) → length bytes ≤ most �
 form-only n bytes h x =
     let a = told bytes n h x in
     let is : bytes ≡ form-of (tables n) = x .form ∙ packed-is n (a .sound) in
-    let rows : rows-of bytes ≡ tables n = ap rows-of is ∙ rows-there (tables n) (a .file-fits) (a .rest-fits) (a .placed) in
-    (rows, subst (λ (t : Tables Field ℕ). IsForm t bytes) (sym rows) (record { form = is; placed = a .placed; consistent = consistent n (a .good) (a .sound); names = names-there n (names-kept n (x .network)) }))
+    let rows : rows-of bytes ≡ tables n = ap rows-of is ∙ rows-there (tables n) (a .file-fits) (a .rest-fits) (a .placed) (table-dateless n (x .dateless)) in
+    (rows, subst (λ (t : Tables Field ℕ). IsForm t bytes) (sym rows) (record { form = is; placed = a .placed; dateless = table-dateless n (x .dateless); consistent = consistent n (a .good) (a .sound); names = names-there n (names-kept n (x .network)) }))

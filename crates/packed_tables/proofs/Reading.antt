@@ -131,7 +131,7 @@ or-none (some v) = v
 -- f: the slots of the file's record; a to k: the counts; l: all slots behind it
 abbrev pub tables-from : List Slot → (a b c d e g h k : ℕ) → List Slot → Tables Field ℕ
 tables-from f a b c d e g h k l = record {
-  file = record { name = or-none (name-in 9 f); version = name-in 10 f; date = name-in 11 f };
+  file = record { name = or-none (name-in 9 f); version = name-in 10 f; date = none };
   segments = rows-from 4 segment-back a l;
   lanes = rows-from 6 lane-back b (rest-from 4 a l);
   zones = rows-from 6 zone-back c (rest-from 6 b (rest-from 4 a l));
@@ -142,8 +142,9 @@ tables-from f a b c d e g h k l = record {
   exits = rows-from 3 exit-back k (rest-from 2 h (rest-from 3 g (rest-from 3 e (rest-from 3 d (rest-from 6 c (rest-from 6 b (rest-from 4 a l)))))));
 }
 
-tables-read : (t : Tables Field ℕ) → tables-from (with-length (file-rec t)) (length (t .segments)) (length (t .lanes)) (length (t .zones)) (length (t .spots)) (length (t .points)) (length (t .checkpoints)) (length (t .stops)) (length (t .exits)) (rest-of t) ≡ t
-tables-read t =
+-- a form tells no date
+tables-read : (t : Tables Field ℕ) → t .file .date ≡ none → tables-from (with-length (file-rec t)) (length (t .segments)) (length (t .lanes)) (length (t .zones)) (length (t .spots)) (length (t .points)) (length (t .checkpoints)) (length (t .stops)) (length (t .exits)) (rest-of t) ≡ t
+tables-read t dateless =
     let x7 = laid-out exit-rec (t .exits) in
     let x6 = laid-out stop-rec (t .stops) ++ x7 in
     let x5 = laid-out checkpoint-rec (t .checkpoints) ++ x6 in
@@ -173,11 +174,11 @@ tables-read t =
     let y5 = ap (rows-from 3 checkpoint-back (length (t .checkpoints))) r5 ∙ g .0 in
     let y6 = ap (rows-from 2 (at 0) (length (t .stops))) r6 ∙ h .0 in
     let y7 = ap (rows-from 3 exit-back (length (t .exits))) (r7 ∙ sym (append-nil x7)) ∙ k .0 in
-    λ i. record { file = t .file; segments = a .0 i; lanes = y1 i; zones = y2 i; spots = y3 i; points = y4 i; checkpoints = y5 i; stops = y6 i; exits = y7 i }
+    λ i. record { file = record { name = t .file .name; version = t .file .version; date = sym dateless i }; segments = a .0 i; lanes = y1 i; zones = y2 i; spots = y3 i; points = y4 i; checkpoints = y5 i; stops = y6 i; exits = y7 i }
 
 -- ## Tables from bytes
 abbrev file-kinds : List Kind
-file-kinds = of-size 2 ∷ of-size 4 ∷ of-size 4 ∷ of-size 4 ∷ of-size 4 ∷ of-size 4 ∷ of-size 4 ∷ of-size 4 ∷ of-size 4 ∷ of-name ∷ of-name ∷ of-name ∷ []
+file-kinds = of-size 2 ∷ of-size 4 ∷ of-size 4 ∷ of-size 4 ∷ of-size 4 ∷ of-size 4 ∷ of-size 4 ∷ of-size 4 ∷ of-size 4 ∷ of-name ∷ of-name ∷ []
 
 abbrev from-file : List Slot → Bytes → Tables Field ℕ
 from-file f b = tables-from f (at 1 f) (at 2 f) (at 3 f) (at 4 f) (at 5 f) (at 6 f) (at 7 f) (at 8 f) (read (5 + length (laid f)) (shapes (at 1 f) (at 2 f) (at 3 f) (at 4 f) (at 5 f) (at 6 f) (at 7 f) (at 8 f)) (drop (length (laid f)) b))
@@ -190,9 +191,9 @@ unfoldable pub form-of : Tables Field ℕ → Bytes
 form-of t = this-version ∷ bigEndian 4 (length (laid (items-of t))) ++ laid (items-of t)
 
 -- THE LAW of rows
-pub rows-there : (t : Tables Field ℕ) → Each Fit (with-length (file-rec t)) → Each Fit (rest-of t) → NamesLie 5 (items-of t) → rows-of (form-of t) ≡ t
+pub rows-there : (t : Tables Field ℕ) → Each Fit (with-length (file-rec t)) → Each Fit (rest-of t) → NamesLie 5 (items-of t) → t .file .date ≡ none → rows-of (form-of t) ≡ t
 unfolding rows-of form-of
-rows-there t f r p =
+rows-there t f r p dateless =
     let head = with-length (file-rec t) in
     let placed = placed-cut 5 head (rest-of t) p in
     let b : drop 5 (this-version ∷ bigEndian 4 (length (laid (items-of t))) ++ laid (items-of t)) ≡ laid head ++ laid (rest-of t) = back-of 4 (length (laid (items-of t))) (laid (items-of t)) ∙ laid-append head (rest-of t) in
@@ -203,4 +204,4 @@ rows-there t f r p =
     ∙ ap (λ (h : List Slot). from-file h (laid head ++ laid (rest-of t))) file
     ∙ ap (λ (x : Bytes). tables-from head (length (t .segments)) (length (t .lanes)) (length (t .zones)) (length (t .spots)) (length (t .points)) (length (t .checkpoints)) (length (t .stops)) (length (t .exits)) (read (5 + length (laid head)) (shapes (length (t .segments)) (length (t .lanes)) (length (t .zones)) (length (t .spots)) (length (t .points)) (length (t .checkpoints)) (length (t .stops)) (length (t .exits))) x)) left
     ∙ ap (λ (l : List Slot). tables-from head (length (t .segments)) (length (t .lanes)) (length (t .zones)) (length (t .spots)) (length (t .points)) (length (t .checkpoints)) (length (t .stops)) (length (t .exits)) l) (ap (λ (s : List Kind). read (5 + length (laid head)) s (laid (rest-of t))) (sym (shape-rest t)) ∙ rest)
-    ∙ tables-read t
+    ∙ tables-read t dateless

@@ -67,10 +67,14 @@ table-names t = same-as (λ x. record { name = x .0; version = x .1 .0; date = x
     (also (is-name (t .file .name)) (also (are-names (t .file .version)) (also (are-names (t .file .date))
     (also (each-decided (λ r. Each IsName (perhaps (r .name))) (λ r. are-names (r .name)) (t .segments)) (each-decided (λ r. Each IsName (perhaps (r .name))) (λ r. are-names (r .name)) (t .zones))))))
 
+no-date : (v : Option Field) → Decided (v ≡ none)
+no-date none = inl refl
+no-date (some v) = inr (λ (e : some v ≡ none). let z : _≡_ {A = ℕ} 0 1 = cc in omega arith)
+
 -- 29 is decided
 pub is-form : (t : Tables Field ℕ) (bytes : Bytes) → Decided (IsForm t bytes)
-is-form t bytes = same-as (λ x. record { form = x .0; placed = x .1 .0; consistent = x .1 .1 .0; names = x .1 .1 .1 }) (λ x. (x .form, (x .placed, (x .consistent, x .names))))
-    (also (same-bytes bytes (form-of t)) (also (placed 5 (items-of t)) (also (decided t) (table-names t))))
+is-form t bytes = same-as (λ x. record { form = x .0; placed = x .1 .0; dateless = x .1 .1 .0; consistent = x .1 .1 .1 .0; names = x .1 .1 .1 .1 }) (λ x. (x .form, (x .placed, (x .dateless, (x .consistent, x .names)))))
+    (also (same-bytes bytes (form-of t)) (also (placed 5 (items-of t)) (also (no-date (t .file .date)) (also (decided t) (table-names t)))))
 
 of-version : (bytes : Bytes) → Decided (OfThisVersion bytes)
 of-version [] = inr (λ x. nil≢cons (x .is))

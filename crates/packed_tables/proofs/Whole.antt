@@ -26,7 +26,7 @@ use Rattle.unpackings.proofs.OneNetwork.{laid-out, rest-of, items-of, laid-appe
 use Rattle.packed_tables.proofs.Reading.{read, form-of}
 use Rattle.row_network.specs.Consistent.{Consistent}
 use Rattle.packed_tables.proofs.Names.{TableNames}
-use Rattle.packed_tables.proofs.Forms.{IsForm}
+use Rattle.packed_tables.proofs.Forms.{IsForm, table-dateless}
 use Rattle.packed_tables.proofs.Records.{Small, small-drop, both-true, true-both, sizes, here, whole-size, all-here, after, place-after, records-read, RecordBack, record-back, RecordsBack, records-back, placed-both, RecordThere, record-there, RecordsThere, records-there}
 
 -- ## Tables one behind the other: so many records, of these fields
@@ -108,7 +108,7 @@ length-records place (suc k) ks b = ap suc (length-records (place + whole-size k
 
 -- ## The fields of each record, its length apart
 abbrev pub file-kinds : List Kind
-file-kinds = of-size 4 ∷ of-size 4 ∷ of-size 4 ∷ of-size 4 ∷ of-size 4 ∷ of-size 4 ∷ of-size 4 ∷ of-size 4 ∷ of-name ∷ of-name ∷ of-name ∷ []
+file-kinds = of-size 4 ∷ of-size 4 ∷ of-size 4 ∷ of-size 4 ∷ of-size 4 ∷ of-size 4 ∷ of-size 4 ∷ of-size 4 ∷ of-name ∷ of-name ∷ []
 
 abbrev pub segment-kinds : List Kind
 segment-kinds = of-size 4 ∷ of-size 2 ∷ of-name ∷ []
@@ -155,7 +155,7 @@ or-none (some v) = v
 
 abbrev pub from : List Slot → List (List (List Slot)) → Tables Field ℕ
 from f rs = record {
-  file = record { name = or-none (name-in 8 f); version = name-in 9 f; date = name-in 10 f };
+  file = record { name = or-none (name-in 8 f); version = name-in 9 f; date = none };
   segments = map segment-back (getD rs 0 []);
   lanes = map lane-back (getD rs 1 []);
   zones = map zone-back (getD rs 2 []);
@@ -184,9 +184,9 @@ joined : (a b c d e g h k : List Slot) → a ++ (b ++ (c ++ (d ++ (e ++ (g ++ (h
 joined a b c d e g h k = ap (λ (x : List Slot). a ++ (b ++ (c ++ (d ++ (e ++ (g ++ (h ++ x))))))) (append-nil k)
 
 -- ## THERE
-all-there : (t : Tables Field ℕ) (b : Bytes) → Each Fit (with-length (file-rec t)) → Each Fit (rest-of t) → NamesLie 5 (items-of t) → b ≡ laid (items-of t) → (all-right b ≡ true) × (rows-told b ≡ t)
+all-there : (t : Tables Field ℕ) (b : Bytes) → Each Fit (with-length (file-rec t)) → Each Fit (rest-of t) → NamesLie 5 (items-of t) → t .file .date ≡ none → b ≡ laid (items-of t) → (all-right b ≡ true) × (rows-told b ≡ t)
 unfolding all-right rows-told
-all-there t b ff fr p is =
+all-there t b ff fr p dateless is =
     let head = with-length (file-rec t) in
     let cut = placed-cut 5 head (rest-of t) p in
     let one = record-there 5 (file-rec t) (laid (rest-of t)) ff (cut .0) in
@@ -222,13 +222,13 @@ all-there t b ff fr p is =
           ∙ ap (λ (f : List Slot). from f (tabs-read (5 + whole-size file-kinds b′) (tabs f) (behind-file b′))) (one .is)
           ∙ ap₂ (λ (k : ℕ) (c : Bytes). from (file-rec t) (tabs-read (5 + k) (tabs (file-rec t)) c)) (one .long) (one .left)
           ∙ ap (from (file-rec t)) read-so
-          ∙ (λ i. record { file = t .file; segments = r0 i; lanes = r1 i; zones = r2 i; spots = r3 i; points = r4 i; checkpoints = r5 i; stops = r6 i; exits = r7 i }),
+          ∙ (λ i. record { file = record { name = t .file .name; version = t .file .version; date = sym dateless i }; segments = r0 i; lanes = r1 i; zones = r2 i; spots = r3 i; points = r4 i; checkpoints = r5 i; stops = r6 i; exits = r7 i }),
     )
 
 pub form-right : (n : Network Field) (bytes : Bytes) → length bytes ≤ most → IsPackedFormOf n bytes → (all-right (drop 5 bytes) ≡ true) × (rows-told (drop 5 bytes) ≡ tables n)
 form-right n bytes h x =
     let a = told bytes n h x in
-    all-there (tables n) (drop 5 bytes) (a .file-fits) (a .rest-fits) (a .placed) (ap (drop 5) (a .is) ∙ drop-at (bigEndian 4 (length (laid (items-of (tables n))))) (laid (items-of (tables n))) 4 (packed-long 4 (length (laid (items-of (tables n))))))
+    all-there (tables n) (drop 5 bytes) (a .file-fits) (a .rest-fits) (a .placed) (table-dateless n (x .dateless)) (ap (drop 5) (a .is) ∙ drop-at (bigEndian 4 (length (laid (items-of (tables n))))) (laid (items-of (tables n))) 4 (packed-long 4 (length (laid (items-of (tables n))))))
 
 -- ## BACK
 segment-same : (place : ℕ) (b : Bytes) → segment-rec (segment-back (read place segment-kinds b)) ≡ read place segment-kinds b
@@ -290,10 +290,10 @@ module _ (f : List Slot) (place : ℕ) (b : Bytes) where
       (gather with-length (records-read p4 (at 4 f) point-kinds b4)) (gather with-length (records-read p5 (at 5 f) checkpoint-kinds b5)) (gather with-length (records-read p6 (at 6 f) stop-kinds b6)) (gather with-length (records-read p7 (at 7 f) exit-kinds b7)))
 
   -- the counts of the file's record are those of the rows
-  file-is : (u v w : Option Field) → some (or-none (name-in 8 f)) ≡ u → name-in 9 f ≡ v → name-in 10 f ≡ w
-      → file-rec (from f read-tables) ≡ figure 4 (at 0 f) ∷ figure 4 (at 1 f) ∷ figure 4 (at 2 f) ∷ figure 4 (at 3 f) ∷ figure 4 (at 4 f) ∷ figure 4 (at 5 f) ∷ figure 4 (at 6 f) ∷ figure 4 (at 7 f) ∷ title u ∷ title v ∷ title w ∷ []
+  file-is : (u v : Option Field) → some (or-none (name-in 8 f)) ≡ u → name-in 9 f ≡ v
+      → file-rec (from f read-tables) ≡ figure 4 (at 0 f) ∷ figure 4 (at 1 f) ∷ figure 4 (at 2 f) ∷ figure 4 (at 3 f) ∷ figure 4 (at 4 f) ∷ figure 4 (at 5 f) ∷ figure 4 (at 6 f) ∷ figure 4 (at 7 f) ∷ title u ∷ title v ∷ []
   unfolding tabs-read
-  file-is u v w eu ev ew =
+  file-is u v eu ev =
       let b1 = after (at 0 f) segment-kinds b in let p1 = place-after place (at 0 f) segment-kinds b in
       let b2 = after (at 1 f) lane-kinds b1 in let p2 = place-after p1 (at 1 f) lane-kinds b1 in
       let b3 = after (at 2 f) zone-kinds b2 in let p3 = place-after p2 (at 2 f) zone-kinds b2 in
@@ -309,7 +309,7 @@ module _ (f : List Slot) (place : ℕ) (b : Bytes) where
       let q5 = length-map (records-read p5 (at 5 f) checkpoint-kinds b5) checkpoint-back ∙ length-records p5 (at 5 f) checkpoint-kinds b5 in
       let q6 = length-map (records-read p6 (at 6 f) stop-kinds b6) (at 0) ∙ length-records p6 (at 6 f) stop-kinds b6 in
       let q7 = length-map (records-read p7 (at 7 f) exit-kinds b7) exit-back ∙ length-records p7 (at 7 f) exit-kinds b7 in
-      λ i. figure 4 (q0 i) ∷ figure 4 (q1 i) ∷ figure 4 (q2 i) ∷ figure 4 (q3 i) ∷ figure 4 (q4 i) ∷ figure 4 (q5 i) ∷ figure 4 (q6 i) ∷ figure 4 (q7 i) ∷ title (eu i) ∷ title (ev i) ∷ title (ew i) ∷ []
+      λ i. figure 4 (q0 i) ∷ figure 4 (q1 i) ∷ figure 4 (q2 i) ∷ figure 4 (q3 i) ∷ figure 4 (q4 i) ∷ figure 4 (q5 i) ∷ figure 4 (q6 i) ∷ figure 4 (q7 i) ∷ title (eu i) ∷ title (ev i) ∷ []
 
 -- a name that is there
 given : (u : Option Field) → 1 ≤ length (or-none u .bytes) → some (or-none u) ≡ u
@@ -317,7 +317,7 @@ given none h = absurd (omega arith)
 given (some v) h = refl
 
 items-told : (place : ℕ) (b : Bytes) → figure 4 (at 0 (read place file-kinds b)) ∷ figure 4 (at 1 (read place file-kinds b)) ∷ figure 4 (at 2 (read place file-kinds b)) ∷ figure 4 (at 3 (read place file-kinds b)) ∷ figure 4 (at 4 (read place file-kinds b)) ∷ figure 4 (at 5 (read place file-kinds b)) ∷ figure 4 (at 6 (read place file-kinds b)) ∷ figure 4 (at 7 (read place file-kinds b))
-    ∷ title (name-in 8 (read place file-kinds b)) ∷ title (name-in 9 (read place file-kinds b)) ∷ title (name-in 10 (read place file-kinds b)) ∷ [] ≡ read place file-kinds b
+    ∷ title (name-in 8 (read place file-kinds b)) ∷ title (name-in 9 (read place file-kinds b)) ∷ [] ≡ read place file-kinds b
 unfolding read
 items-told place b = refl
 
@@ -329,15 +329,19 @@ all-back b s h named =
     let u = both-true (here file-kinds b) (tabs-here (tabs f) (behind-file b)) h in
     let one = record-back 5 file-kinds b s (u .0) in
     let more = tabs-back (5 + whole-size file-kinds b) (tabs f) (behind-file b) (small-drop (whole-size file-kinds b) b s) (u .1) in
-    let head : file-rec (from f rs) ≡ f = file-is f (5 + whole-size file-kinds b) (behind-file b) (name-in 8 f) (name-in 9 f) (name-in 10 f) (given (name-in 8 f) named) refl refl ∙ items-told 7 (drop 2 b) in
+    let head : file-rec (from f rs) ≡ f = file-is f (5 + whole-size file-kinds b) (behind-file b) (name-in 8 f) (name-in 9 f) (given (name-in 8 f) named) refl ∙ items-told 7 (drop 2 b) in
     let items : items-of (from f rs) ≡ with-length f ++ all-items rs = ap₂ (λ (x y : List Slot). with-length x ++ y) head (rest-is f (5 + whole-size file-kinds b) (behind-file b)) in (
       ap laid items ∙ laid-append (with-length f) (all-items rs) ∙ ap (_++_ (laid (with-length f))) (more .0) ∙ one .whole,
       subst (NamesLie 5) (sym items) (placed-both 5 (with-length f) (all-items rs) (one .placed) (subst (λ (k : ℕ). NamesLie (5 + k) (all-items rs)) (sym (one .long)) (more .1))),
     )
+
+told-dateless : (b : Bytes) → rows-told b .file .date ≡ none
+unfolding rows-told
+told-dateless b = refl
 
 -- 29, record by record: bytes of this version, framed, are a network's form exactly if every record has its fields' length, the rows are consistent and the names are names; these rows are the network's
 pub right-form : (bytes : Bytes) → Small bytes → bytes ≡ this-version ∷ bigEndian 4 (length (drop 5 bytes)) ++ drop 5 bytes → all-right (drop 5 bytes) ≡ true → Consistent (rows-told (drop 5 bytes)) → TableNames (rows-told (drop 5 bytes)) → IsForm (rows-told (drop 5 bytes)) bytes
 unfolding form-of
 right-form bytes s is h c names =
     let x = all-back (drop 5 bytes) (small-drop 5 bytes s) h (names .name .long .low) in
-    record { form = is ∙ ap (λ (b : Bytes). this-version ∷ bigEndian 4 (length b) ++ b) (sym (x .0)); placed = x .1; consistent = c; names = names }
+    record { form = is ∙ ap (λ (b : Bytes). this-version ∷ bigEndian 4 (length b) ++ b) (sym (x .0)); placed = x .1; dateless = told-dateless (drop 5 bytes); consistent = c; names = names }

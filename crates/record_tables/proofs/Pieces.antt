@@ -152,12 +152,16 @@ module _ (text : Bytes) where
       inward a b c e f d = simp (append-assoc, append-nil)
 
   -- the file's
-  outward : (a b c d e f g h i x y z : Bytes) → a ++ (b ++ c ++ d ++ e ++ f ++ g ++ h ++ i) ++ x ++ y ++ z ≡ a ++ (b ++ (c ++ (d ++ (e ++ (f ++ (g ++ (h ++ (i ++ (x ++ (y ++ (z ++ [])))))))))))
-  outward a b c d e f g h i x y z = simp (append-assoc, append-nil)
+  outward : (a b c d e f g h i x y : Bytes) → a ++ (b ++ c ++ d ++ e ++ f ++ g ++ h ++ i) ++ x ++ y ≡ a ++ (b ++ (c ++ (d ++ (e ++ (f ++ (g ++ (h ++ (i ++ (x ++ (y ++ []))))))))))
+  outward a b c d e f g h i x y = simp (append-assoc, append-nil)
 
-  pub file-is : (n : Network Field) → Held text (some (n .name)) → Held text (n .version) → Held text (n .date) → file-put text (rows-used n) (network-file n) ≡ laid (with-length (file-record n))
+  version-asked : (v : Option Field) → nameOf text (shown-name start-of length-of v) ≡ bytes-in v → nameOf text (stretch v) ≡ bytes-in v
+  version-asked none e = e
+  version-asked (some v) e = e
+
+  pub file-is : (n : Network Field) → Held text (some (n .name)) → Held text (n .version) → file-put text (rows-used n) (network-file n) ≡ laid (with-length (file-record n))
   unfolding file-put counts-put laid
-  file-is n own version date =
+  file-is n own version =
       let b1 = bigEndian 4 (length (segment-rows n)) in
       let b2 = bigEndian 4 (length (lane-rows n)) in
       let b3 = bigEndian 4 (length (zone-rows n)) in
@@ -168,30 +172,15 @@ module _ (text : Bytes) where
       let b8 = bigEndian 4 (length (exit-rows n)) in
       let x = slot-bytes (title (some (n .name))) in
       let y = slot-bytes (title (n .version)) in
-      let z = slot-bytes (title (n .date)) in
-      let f1 = own .few in let f2 = version .few in let f3 = date .few in
-      let k : length (b1 ++ (b2 ++ (b3 ++ (b4 ++ (b5 ++ (b6 ++ (b7 ++ (b8 ++ (x ++ (y ++ (z ++ []))))))))))) ≡ 38 + length (n .name .bytes) % 65536 + length (bytes-in (n .version)) % 65536 + length (bytes-in (n .date)) % 65536 =
-      long (b1 ∷ b2 ∷ b3 ∷ b4 ∷ b5 ∷ b6 ∷ b7 ∷ b8 ∷ x ∷ y ∷ z ∷ []) ∙ (
+      let f1 = own .few in let f2 = version .few in
+      let k : length (b1 ++ (b2 ++ (b3 ++ (b4 ++ (b5 ++ (b6 ++ (b7 ++ (b8 ++ (x ++ (y ++ [])))))))))) ≡ 36 + length (n .name .bytes) % 65536 + length (bytes-in (n .version)) % 65536 =
+      long (b1 ∷ b2 ∷ b3 ∷ b4 ∷ b5 ∷ b6 ∷ b7 ∷ b8 ∷ x ∷ y ∷ []) ∙ (
       let l1 = packed-long 4 (length (segment-rows n)) in let l2 = packed-long 4 (length (lane-rows n)) in let l3 = packed-long 4 (length (zone-rows n)) in let l4 = packed-long 4 (length (spot-rows n)) in
       let l5 = packed-long 4 (length (point-rows n)) in let l6 = packed-long 4 (length (checkpoint-rows n)) in let l7 = packed-long 4 (length (stop-rows n)) in let l8 = packed-long 4 (length (exit-rows n)) in
-      let l9 = name-long (some (n .name)) in let m1 = name-long (n .version) in let m2 = name-long (n .date) in
+      let l9 = name-long (some (n .name)) in let m1 = name-long (n .version) in
       omega arith) in
-      let named : (u v w : Bytes) → Bytes = λ u v w. bigEndian 2 (38 + length u % 65536 + length v % 65536 + length w % 65536) ++ (b1 ++ b2 ++ b3 ++ b4 ++ b5 ++ b6 ++ b7 ++ b8) ++ name-put u ++ name-put v ++ name-put w in
-      (λ i. named (own .asked i) (version-asked i) (date-asked i))
-      ∙ (λ i. bigEndian 2 (38 + length (n .name .bytes) % 65536 + length (bytes-in (n .version)) % 65536 + length (bytes-in (n .date)) % 65536) ++ (b1 ++ b2 ++ b3 ++ b4 ++ b5 ++ b6 ++ b7 ++ b8) ++ sym (name-same (some (n .name))) i ++ sym (name-same (n .version)) i ++ sym (name-same (n .date)) i)
-      ∙ ap (λ (j : ℕ). bigEndian 2 j ++ (b1 ++ b2 ++ b3 ++ b4 ++ b5 ++ b6 ++ b7 ++ b8) ++ x ++ y ++ z) (sym k)
-      ∙ outward (bigEndian 2 (length (b1 ++ (b2 ++ (b3 ++ (b4 ++ (b5 ++ (b6 ++ (b7 ++ (b8 ++ (x ++ (y ++ (z ++ []))))))))))))) b1 b2 b3 b4 b5 b6 b7 b8 x y z
-    where
-      version-asked : nameOf text (network-file n .version) ≡ bytes-in (n .version)
-      version-asked = by (n .version) (version .asked)
-        where
-          by : (v : Option Field) → nameOf text (shown-name start-of length-of v) ≡ bytes-in v → nameOf text (stretch v) ≡ bytes-in v
-          by none e = e
-          by (some v) e = e
-
-      date-asked : nameOf text (network-file n .date) ≡ bytes-in (n .date)
-      date-asked = by (n .date) (date .asked)
-        where
-          by : (v : Option Field) → nameOf text (shown-name start-of length-of v) ≡ bytes-in v → nameOf text (stretch v) ≡ bytes-in v
-          by none e = e
-          by (some v) e = e
+      let named : (u v : Bytes) → Bytes = λ u v. bigEndian 2 (36 + length u % 65536 + length v % 65536) ++ (b1 ++ b2 ++ b3 ++ b4 ++ b5 ++ b6 ++ b7 ++ b8) ++ name-put u ++ name-put v in
+      (λ i. named (own .asked i) (version-asked (n .version) (version .asked) i))
+      ∙ (λ i. bigEndian 2 (36 + length (n .name .bytes) % 65536 + length (bytes-in (n .version)) % 65536) ++ (b1 ++ b2 ++ b3 ++ b4 ++ b5 ++ b6 ++ b7 ++ b8) ++ sym (name-same (some (n .name))) i ++ sym (name-same (n .version)) i)
+      ∙ ap (λ (j : ℕ). bigEndian 2 j ++ (b1 ++ b2 ++ b3 ++ b4 ++ b5 ++ b6 ++ b7 ++ b8) ++ x ++ y) (sym k)
+      ∙ outward (bigEndian 2 (length (b1 ++ (b2 ++ (b3 ++ (b4 ++ (b5 ++ (b6 ++ (b7 ++ (b8 ++ (x ++ (y ++ [])))))))))))) b1 b2 b3 b4 b5 b6 b7 b8 x y

@@ -183,11 +183,11 @@ module _ (text : Bytes) (n : Network Field) (l : Lent) (read : ReadAs n l) (soun
     gather-append whole h k,
   ) (simp append-assoc)
 
-  module _ (own : Held text (some (n .name))) (version : Held text (n .version)) (date : Held text (n .date)) where
+  module _ (own : Held text (some (n .name))) (version : Held text (n .version)) where
     all-are : all-put text (l .segments) (l .lanes) (l .zones) (l .spots) (l .points) (l .checkpoints) (l .stops) (l .exits) (rows-used n) (network-file n) ≡ laid (all-slots n)
     unfolding all-put records
     all-are =
-        (λ i. file-is text n own version date i ++ segments-are i ++ lanes-are i ++ zones-are i ++ spots-are i ++ points-are i ++ checkpoints-are i ++ stops-are i ++ exits-are i)
+        (λ i. file-is text n own version i ++ segments-are i ++ lanes-are i ++ zones-are i ++ spots-are i ++ points-are i ++ checkpoints-are i ++ stops-are i ++ exits-are i)
         ∙ sym (ap laid (all-told n) ∙ laid-records (file-record n ∷ segment-records n ++ (lane-records n ++ (zone-records n ++ (spot-records n ++ (point-records n ++ (checkpoint-records n ++ (stop-records n ++ exit-records n)))))))
         ∙ spread (file-record n) (segment-records n) (lane-records n) (zone-records n) (spot-records n) (point-records n) (checkpoint-records n) (stop-records n) (exit-records n))
 
@@ -202,4 +202,4 @@ form-packed text t n h =
     let segment-names = each-map (λ s. Given text (s .name) × Each IsName (perhaps (s .name))) (λ s. Held text (s .name)) (λ s g. held text (s .name) (g .0) (g .1)) (n .segments) (each-both (λ s. Given text (s .name)) (λ s. Each IsName (perhaps (s .name))) (n .segments) (stand .segments) (names .segments)) in
     let zone-names = each-map (λ z. Given text (z .name) × Each IsName (perhaps (z .name))) (λ z. Held text (z .name)) (λ z g. held text (z .name) (g .0) (g .1)) (n .zones) (each-both (λ z. Given text (z .name)) (λ z. Each IsName (perhaps (z .name))) (n .zones) (stand .zones) (names .zones)) in
     all-are text n (filled n t) (filled-read n t good (h .right) (h .room)) (h .right) segment-names zone-names
-    (held text (some (n .name)) (stand .name, tt) (names .name, tt)) (held text (n .version) (stand .version) (names .version)) (held text (n .date) (stand .date) (names .date))
+    (held text (some (n .name)) (stand .name, tt) (names .name, tt)) (held text (n .version) (stand .version) (names .version))

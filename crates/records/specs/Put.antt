@@ -28,8 +28,8 @@ counts-put c = bigEndian 4 (c .segments) ++ bigEndian 4 (c .lanes) ++ bigEndian 
 
 unfoldable pub file-put : Bytes → Counts → FileRow → Bytes
 file-put text c file =
-    bigEndian 2 (38 + length (nameOf text (file .name)) % 65536 + length (nameOf text (file .version)) % 65536 + length (nameOf text (file .date)) % 65536)
-    ++ counts-put c ++ name-put (nameOf text (file .name)) ++ name-put (nameOf text (file .version)) ++ name-put (nameOf text (file .date))
+    bigEndian 2 (36 + length (nameOf text (file .name)) % 65536 + length (nameOf text (file .version)) % 65536)
+    ++ counts-put c ++ name-put (nameOf text (file .name)) ++ name-put (nameOf text (file .version))
 
 unfoldable pub segment-put : Bytes → SegmentRow → Bytes
 segment-put text row = bigEndian 2 (8 + length (nameOf text (row .name)) % 65536) ++ bigEndian 4 (row .«first_lane») ++ bigEndian 2 (row .lanes) ++ name-put (nameOf text (row .name))

@@ -102,7 +102,7 @@ unfolding version-here
 no-bytes [] h = refl
 no-bytes (a ∷ l) h = absurd (omega arith)
 
-pub first-byte : (b : Bytes) → (length b ≡ 0 → ⊥) → eqb (getD b 0 0) 1 ≡ version-here b
+pub first-byte : (b : Bytes) → (length b ≡ 0 → ⊥) → eqb (getD b 0 0) 2 ≡ version-here b
 unfolding version-here
 first-byte [] h = absurd (h refl)
 first-byte (a ∷ l) h = refl

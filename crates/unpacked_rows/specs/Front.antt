@@ -3,10 +3,10 @@ use Rattle.terms.specs.Words.{[], _∷_, Bool, false, _-_, leb, eqb, length, dr
 use Rattle.packed_rows.specs.Walk.{walked}
 use Rattle.packed_rows.specs.Points.{four-at}
 
--- L11: "27 version not 1 or no bytes"
+-- L11: "27 version not 1 or no bytes", by L12 not 2
 unfoldable pub version-here : Bytes → Bool
 version-here [] = false
-version-here (a ∷ l) = eqb a 1
+version-here (a ∷ l) = eqb a 2
 
 -- "28 the first length is cut short or not the count of bytes behind it, or a record runs past the end"
 unfoldable pub framed-here : Bytes → Bool

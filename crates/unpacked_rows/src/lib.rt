@@ -51,14 +51,14 @@ pub struct Places {
 
 // ## The front: 27 and 28
 
-// The version byte is there and is 1.
+// The version byte is there and is 2.
 pub fn is_version(bytes: &[u8]) -> bool
     ensures { λ r. ⌜ r ≡ version-here (now (bytes .entry)) ⌝ }
 {
     if bytes.len() == 0 {
         return false;
     }
-    bytes[0] == 1
+    bytes[0] == 2
 }
 
 // The first length is the count of the bytes behind it, and these are records.

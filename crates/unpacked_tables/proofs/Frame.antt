@@ -28,12 +28,12 @@ use Rattle.unpacked_rows.specs.Front.{version-here, framed-here}
 pub version-so : (b : Bytes) → version-here b ≡ true → OfThisVersion b
 unfolding version-here
 version-so [] e = clash (sym e)
-version-so (a ∷ l) e = let q = eqb-true a 1 e in record { behind = l; is = λ i. q i ∷ l }
+version-so (a ∷ l) e = let q = eqb-true a 2 e in record { behind = l; is = λ i. q i ∷ l }
 
 pub no-version : (b : Bytes) → version-here b ≡ false → OfThisVersion b → ⊥
 unfolding version-here
 no-version [] e x = nil≢cons (x .is)
-no-version (a ∷ l) e x = eqb-false a 1 e (head-eq-of-cons-eq (x .is))
+no-version (a ∷ l) e x = eqb-false a 2 e (head-eq-of-cons-eq (x .is))
 
 -- ## The first length and the records
 record Tested (b : Bytes) : Type 0 where
@@ -84,9 +84,9 @@ framed-all b few f =
     ∙ ap walked left ∙ walk-all (f .each) (length x) (omega arith)
 
 -- ## Both: the whole, from its records
-pub whole-is : (b : Bytes) → OfThisVersion b → LengthsRight b → b ≡ 1 ∷ bigEndian 4 (length (drop 5 b)) ++ drop 5 b
+pub whole-is : (b : Bytes) → OfThisVersion b → LengthsRight b → b ≡ 2 ∷ bigEndian 4 (length (drop 5 b)) ++ drop 5 b
 whole-is b v f =
     let x = f .behind in
-    let one : f .version ≡ 1 = head-eq-of-cons-eq (sym (f .is) ∙ v .is) in
+    let one : f .version ≡ 2 = head-eq-of-cons-eq (sym (f .is) ∙ v .is) in
     let left : drop 5 b ≡ x = ap (drop 5) (f .is) ∙ drop-at (bigEndian 4 (length x)) x 4 (packed-long 4 (length x)) in
     f .is ∙ (λ i. one i ∷ bigEndian 4 (length (sym left i)) ++ sym left i)

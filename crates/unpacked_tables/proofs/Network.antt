@@ -154,7 +154,7 @@ module _ (bytes : Bytes) (right : Right bytes) where
         ∙ ap (λ (r : Tables Field ℕ). filled start-of length-of r t) (sym rows) ∙ filled-same told-network (sound (rows-told (drop 5 bytes)) (right .consistent)) t
 
     -- the form
-    pub is-form : bytes ≡ 1 ∷ bigEndian 4 (length (drop 5 bytes)) ++ drop 5 bytes → IsPackedFormOf told-network bytes
+    pub is-form : bytes ≡ 2 ∷ bigEndian 4 (length (drop 5 bytes)) ++ drop 5 bytes → IsPackedFormOf told-network bytes
     is-form is = form-made (rows-told (drop 5 bytes)) bytes (right-form bytes small is (right .framed) (right .consistent) (right .names))
 
 -- only these are a form

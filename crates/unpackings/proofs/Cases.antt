@@ -36,8 +36,8 @@ use Rattle.unpackings.proofs.Settled.{unpack-settled}
 refused-so : (bytes : Bytes) (t : Lent) (file number : ℕ) → UnpackRefuses bytes t file number → Refused bytes t file number
 refused-so bytes t file number h = let m = refused file number h refl refl in record { meets = m; only = λ r l x. unpack-settled bytes t r (Reply.Refused (refusal file 0 number 0)) l (zeros t) x m }
 
--- ## A form has 45 bytes at least: the file's record is never missing
-form-long : (n : Network Field) → 45 ≤ length (packed-form n)
+-- ## A form has 43 bytes at least: the file's record is never missing
+form-long : (n : Network Field) → 43 ≤ length (packed-form n)
 unfolding packed-form records
 form-long n =
     let rest = gather whole (segment-records n ++ (lane-records n ++ (zone-records n ++ (spot-records n ++ (point-records n ++ (checkpoint-records n ++ (stop-records n ++ exit-records n))))))) in
@@ -48,55 +48,58 @@ form-long n =
     let e = laid-long (with-length (file-record n)) in
     omega arith
 
-no-form : (bytes : Bytes) → length bytes < 45 → (n : Network Field) → IsPackedFormOf n bytes → ⊥
+no-form : (bytes : Bytes) → length bytes < 43 → (n : Network Field) → IsPackedFormOf n bytes → ⊥
 no-form bytes h n x =
     let a = ap length (x .form) in
     let b = form-long n in
     omega arith
 
 -- ## The table
-of-this : (l : Bytes) → OfThisVersion (1 ∷ l)
+of-this : (l : Bytes) → OfThisVersion (2 ∷ l)
 of-this l = record { behind = l; is = refl }
 
 module _ (t : Lent) where
   no-bytes : Refused [] t 0 27
   no-bytes = refused-so [] t 0 27 (other-version (lit≤ tt) (λ x. nil≢cons (x .is)))
 
-  version-2 : Refused (2 ∷ []) t 0 27
-  version-2 = refused-so (2 ∷ []) t 0 27 (other-version (lit≤ tt) (λ x. let e = head-eq-of-cons-eq (x .is) in omega arith))
+  version-1 : Refused (1 ∷ drop 1 form-a) t 0 27
+  version-1 = refused-so (1 ∷ drop 1 form-a) t 0 27 (other-version (lit≤ tt) (λ x. let e = head-eq-of-cons-eq (x .is) in omega arith))
 
-  no-first-length : Refused (1 ∷ []) t 0 28
-  no-first-length = refused-so (1 ∷ []) t 0 28 (cut-short (lit≤ tt) (of-this []) (too-few (1 ∷ []) (omega arith)))
+  version-3 : Refused (3 ∷ []) t 0 27
+  version-3 = refused-so (3 ∷ []) t 0 27 (other-version (lit≤ tt) (λ x. let e = head-eq-of-cons-eq (x .is) in omega arith))
 
-  first-length-cut : Refused (1 ∷ 0 ∷ 0 ∷ 0 ∷ []) t 0 28
-  first-length-cut = refused-so (1 ∷ 0 ∷ 0 ∷ 0 ∷ []) t 0 28 (cut-short (lit≤ tt) (of-this (0 ∷ 0 ∷ 0 ∷ [])) (too-few (1 ∷ 0 ∷ 0 ∷ 0 ∷ []) (omega arith)))
+  no-first-length : Refused (2 ∷ []) t 0 28
+  no-first-length = refused-so (2 ∷ []) t 0 28 (cut-short (lit≤ tt) (of-this []) (too-few (2 ∷ []) (omega arith)))
 
-  no-record : Refused (1 ∷ 0 ∷ 0 ∷ 0 ∷ 0 ∷ []) t 0 29
+  first-length-cut : Refused (2 ∷ 0 ∷ 0 ∷ 0 ∷ []) t 0 28
+  first-length-cut = refused-so (2 ∷ 0 ∷ 0 ∷ 0 ∷ []) t 0 28 (cut-short (lit≤ tt) (of-this (0 ∷ 0 ∷ 0 ∷ [])) (too-few (2 ∷ 0 ∷ 0 ∷ 0 ∷ []) (omega arith)))
+
+  no-record : Refused (2 ∷ 0 ∷ 0 ∷ 0 ∷ 0 ∷ []) t 0 29
   unfolding bigEndian
-  no-record = refused-so (1 ∷ 0 ∷ 0 ∷ 0 ∷ 0 ∷ []) t 0 29 (no-network (lit≤ tt) (of-this (0 ∷ 0 ∷ 0 ∷ 0 ∷ [])) (record { version = 1; behind = []; is = refl; each = nothing }) (no-form (1 ∷ 0 ∷ 0 ∷ 0 ∷ 0 ∷ []) (omega arith)))
+  no-record = refused-so (2 ∷ 0 ∷ 0 ∷ 0 ∷ 0 ∷ []) t 0 29 (no-network (lit≤ tt) (of-this (0 ∷ 0 ∷ 0 ∷ 0 ∷ [])) (record { version = 2; behind = []; is = refl; each = nothing }) (no-form (2 ∷ 0 ∷ 0 ∷ 0 ∷ 0 ∷ []) (omega arith)))
 
-  length-cut : Refused (1 ∷ 0 ∷ 0 ∷ 0 ∷ 1 ∷ 0 ∷ []) t 0 28
+  length-cut : Refused (2 ∷ 0 ∷ 0 ∷ 0 ∷ 1 ∷ 0 ∷ []) t 0 28
   unfolding bigEndian
-  length-cut = refused-so (1 ∷ 0 ∷ 0 ∷ 0 ∷ 1 ∷ 0 ∷ []) t 0 28 (cut-short (lit≤ tt) (of-this (0 ∷ 0 ∷ 0 ∷ 1 ∷ 0 ∷ [])) (λ x. no-length 0 (0 ∷ []) refl (are-records 1 1 (0 ∷ []) x)))
+  length-cut = refused-so (2 ∷ 0 ∷ 0 ∷ 0 ∷ 1 ∷ 0 ∷ []) t 0 28 (cut-short (lit≤ tt) (of-this (0 ∷ 0 ∷ 0 ∷ 1 ∷ 0 ∷ [])) (λ x. no-length 0 (0 ∷ []) refl (are-records 2 1 (0 ∷ []) x)))
 
-  record-cut : Refused (1 ∷ 0 ∷ 0 ∷ 0 ∷ 3 ∷ 0 ∷ 2 ∷ 0 ∷ []) t 0 28
-  record-cut = refused-so (1 ∷ 0 ∷ 0 ∷ 0 ∷ 3 ∷ 0 ∷ 2 ∷ 0 ∷ []) t 0 28 (cut-short (lit≤ tt) (of-this (0 ∷ 0 ∷ 0 ∷ 3 ∷ 0 ∷ 2 ∷ 0 ∷ [])) cut-record)
+  record-cut : Refused (2 ∷ 0 ∷ 0 ∷ 0 ∷ 3 ∷ 0 ∷ 2 ∷ 0 ∷ []) t 0 28
+  record-cut = refused-so (2 ∷ 0 ∷ 0 ∷ 0 ∷ 3 ∷ 0 ∷ 2 ∷ 0 ∷ []) t 0 28 (cut-short (lit≤ tt) (of-this (0 ∷ 0 ∷ 0 ∷ 3 ∷ 0 ∷ 2 ∷ 0 ∷ [])) cut-record)
 
-  empty-record : Refused (1 ∷ 0 ∷ 0 ∷ 0 ∷ 2 ∷ 0 ∷ 0 ∷ []) t 0 29
+  empty-record : Refused (2 ∷ 0 ∷ 0 ∷ 0 ∷ 2 ∷ 0 ∷ 0 ∷ []) t 0 29
   unfolding bigEndian
-  empty-record = refused-so (1 ∷ 0 ∷ 0 ∷ 0 ∷ 2 ∷ 0 ∷ 0 ∷ []) t 0 29 (no-network (lit≤ tt) (of-this (0 ∷ 0 ∷ 0 ∷ 2 ∷ 0 ∷ 0 ∷ [])) (record { version = 1; behind = 0 ∷ 0 ∷ []; is = refl; each = more [] [] (omega arith) nothing }) (no-form (1 ∷ 0 ∷ 0 ∷ 0 ∷ 2 ∷ 0 ∷ 0 ∷ []) (omega arith)))
+  empty-record = refused-so (2 ∷ 0 ∷ 0 ∷ 0 ∷ 2 ∷ 0 ∷ 0 ∷ []) t 0 29 (no-network (lit≤ tt) (of-this (0 ∷ 0 ∷ 0 ∷ 2 ∷ 0 ∷ 0 ∷ [])) (record { version = 2; behind = 0 ∷ 0 ∷ []; is = refl; each = more [] [] (omega arith) nothing }) (no-form (2 ∷ 0 ∷ 0 ∷ 0 ∷ 2 ∷ 0 ∷ 0 ∷ []) (omega arith)))
 
-  a-byte-less : Refused (take 110 form-a) t 0 28
+  a-byte-less : Refused (take 108 form-a) t 0 28
   unfolding bigEndian
-  a-byte-less = refused-so (take 110 form-a) t 0 28 (cut-short (lit≤ tt) (of-this (take 109 (drop 1 form-a))) (wrong-length 1 106 (take 105 (drop 5 form-a)) (omega arith) (let h : 105 < 256 ^ 4 = omega arith in h) (λ (e : _≡_ {A = ℕ} 106 105). omega arith)))
+  a-byte-less = refused-so (take 108 form-a) t 0 28 (cut-short (lit≤ tt) (of-this (take 107 (drop 1 form-a))) (wrong-length 2 104 (take 103 (drop 5 form-a)) (omega arith) (let h : 103 < 256 ^ 4 = omega arith in h) (λ (e : _≡_ {A = ℕ} 104 103). omega arith)))
 
   a-byte-more : Refused (form-a ++ (0 ∷ [])) t 0 28
   unfolding bigEndian
-  a-byte-more = refused-so (form-a ++ (0 ∷ [])) t 0 28 (cut-short (lit≤ tt) (of-this (drop 1 form-a ++ (0 ∷ []))) (wrong-length 1 106 (drop 5 form-a ++ (0 ∷ [])) (omega arith) (let h : 107 < 256 ^ 4 = omega arith in h) (λ (e : _≡_ {A = ℕ} 106 107). omega arith)))
+  a-byte-more = refused-so (form-a ++ (0 ∷ [])) t 0 28 (cut-short (lit≤ tt) (of-this (drop 1 form-a ++ (0 ∷ []))) (wrong-length 2 104 (drop 5 form-a ++ (0 ∷ [])) (omega arith) (let h : 105 < 256 ^ 4 = omega arith in h) (λ (e : _≡_ {A = ℕ} 104 105). omega arith)))
 
   -- THE THEOREM
   pub all-refused : AllRefused t cases
-  all-refused = (no-bytes, (version-2, (no-first-length, (first-length-cut, (no-record, (length-cut, (record-cut, (empty-record, (a-byte-less, (a-byte-more, tt))))))))))
+  all-refused = (no-bytes, (version-1, (version-3, (no-first-length, (first-length-cut, (no-record, (length-cut, (record-cut, (empty-record, (a-byte-less, (a-byte-more, tt)))))))))))
 
 -- ## Yard A
 same-yard : SameNetwork network (yard-a 41)
@@ -106,7 +109,7 @@ same-yard = refl
 yard-form : IsPackedFormOf (yard-a 41) form-a
 yard-form =
     let a = yard-taken March2007 used room-in-used in
-    record { network = record { text = yard; written = network; spelled = rndf-later March2007 network yard (a .spelled); same = same-yard; sound = sound-alike bytes-of network (yard-a 41) same-yard (a .right) }; form = sym (yard-a-packed 41); names = yard-a-placed }
+    record { network = record { text = yard; written = network; spelled = rndf-later March2007 network yard (a .spelled); same = same-yard; sound = sound-alike bytes-of network (yard-a 41) same-yard (a .right) }; form = sym (yard-a-packed 41); names = yard-a-placed; dateless = refl }
 
 counted : (rows-used (yard-a 41) ≡ counts) × (network-file (yard-a 41) ≡ unpacked-file)
 unfolding ascii

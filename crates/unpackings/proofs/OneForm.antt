@@ -8,19 +8,21 @@ use Rattle.terms.specs.Ascii.{Bytes}
 use Rattle.terms.specs.Words.{perhaps}
 use Rattle.line.specs.Content.{Field}
 use Rattle.law.specs.Network.{Network, Lane, Segment, Zone, Position, Exit}
-use Rattle.law.specs.Tables.{feet, side, gather, along, total, lane-size, zone-size, row-of, first-spot, all-lanes, zone-points, lane-points, first-zone-point, over-spots, first-point}
+use Rattle.law.specs.Tables.{segment-rows, lane-rows, zone-rows, spot-rows, point-rows, checkpoint-rows, stop-rows, feet, side, gather, along, total, lane-size, zone-size, row-of, first-spot, all-lanes, zone-points, lane-points, first-zone-point, over-spots, first-point}
 use Rattle.grammar.specs.Names.{perhaps-name, segment-named, zone-named, network-named}
 use Rattle.text.specs.Spelling.{Name, bytes, bytes-of}
 use Rattle.fill.specs.Counts.{Counts}
 use Rattle.counts.specs.declared.Counts as Declared
 use Rattle.law_tables.specs.Used as N
+use Rattle.house_text.specs.House.{undated}
+use Rattle.house_text.proofs.Undated.{undated-exits}
 use Rattle.house_text.proofs.References.{sizes-alike}
 use Rattle.replies.specs.Replies.{rows-used}
 use Rattle.replies.proofs.Counted.{counts-are}
 use Rattle.output.specs.Packed.{bigEndian}
 use Rattle.same.specs.Same.{SameNetwork}
 use Rattle.packed_law.specs.Packed.{Slot, figure, angle, title, slot-bytes, laid, with-length, all-slots, this-version, packed-form}
-use Rattle.packed_law.proofs.Told.{file-record, segment-records, lane-records, zone-records-from, zone-records, spot-records, point-records, checkpoint-record, checkpoint-records, stop-records, exit-records, records}
+use Rattle.packed_law.proofs.Told.{file-record, segment-records, lane-records, zone-records-from, zone-records, spot-records, point-records, checkpoint-record, checkpoint-records, stop-records, exit-records, records, all-told}
 use Rattle.unpackings.specs.Trip.{OneForm}
 use Rattle.unpackings.proofs.Framing.{whole, gather-append, laid-all}
 
@@ -62,12 +64,12 @@ zone-bytes : (p q : ℕ) → List (Zone Name) → Bytes
 zone-bytes p q [] = []
 zone-bytes p q (z ∷ l) = long (bigEndian 4 p ++ (bigEndian 2 (length (z .border .points)) ++ (bigEndian 4 (first-spot q (length (z .spots))) ++ (bigEndian 2 (length (z .spots)) ++ (name-bytes (z .name) ++ []))))) ++ zone-bytes (p + zone-size z) (q + length (z .spots)) l
 
-file-bytes : Declared.Counts → (x y z : Bytes) → Bytes
-file-bytes c x y z = long (bigEndian 4 (c .segments) ++ (bigEndian 4 (c .lanes) ++ (bigEndian 4 (c .zones) ++ (bigEndian 4 (c .spots) ++ (bigEndian 4 (c .points) ++ (bigEndian 4 (c .checkpoints) ++ (bigEndian 4 (c .stops) ++ (bigEndian 4 (c .exits) ++ (x ++ (y ++ (z ++ [])))))))))))
+file-bytes : Declared.Counts → (x y : Bytes) → Bytes
+file-bytes c x y = long (bigEndian 4 (c .segments) ++ (bigEndian 4 (c .lanes) ++ (bigEndian 4 (c .zones) ++ (bigEndian 4 (c .spots) ++ (bigEndian 4 (c .points) ++ (bigEndian 4 (c .checkpoints) ++ (bigEndian 4 (c .stops) ++ (bigEndian 4 (c .exits) ++ (x ++ (y ++ []))))))))))
 
-file-so : (n : Network Field) → whole (file-record n) ≡ file-bytes (rows-used n) (name-bytes (some (bytes-of (n .name)))) (name-bytes (perhaps-name bytes-of (n .version))) (name-bytes (perhaps-name bytes-of (n .date)))
+file-so : (n : Network Field) → whole (file-record n) ≡ file-bytes (rows-used n) (name-bytes (some (bytes-of (n .name)))) (name-bytes (perhaps-name bytes-of (n .version)))
 unfolding laid file-bytes
-file-so n = λ i. file-bytes (rows-used n) (name-bytes (some (bytes-of (n .name)))) (name-so (n .version) i) (name-so (n .date) i)
+file-so n = λ i. file-bytes (rows-used n) (name-bytes (some (bytes-of (n .name)))) (name-so (n .version) i)
 
 segments-so : (n : Network Field) → gather whole (segment-records n) ≡ along (λ s. length (s .lanes)) segment-bytes 0 (map (segment-named bytes-of) (n .segments))
 unfolding laid segment-bytes
@@ -152,7 +154,7 @@ lane-list l = along lane-size (λ first a. (figure 4 first ∷ figure 2 (length 
 -- the bytes of all records, by the network with its names as bytes and by the counts
 whole-of : Declared.Counts → Network Name → Bytes
 whole-of c a =
-    file-bytes c (name-bytes (some (a .name))) (name-bytes (a .version)) (name-bytes (a .date))
+    file-bytes c (name-bytes (some (a .name))) (name-bytes (a .version))
     ++ (along (λ s. length (s .lanes)) segment-bytes 0 (a .segments) ++ (gather whole (lane-list (all-lanes a)) ++ (zone-bytes (first-zone-point a) 0 (a .zones) ++ gather whole (others a))))
 
 whole-so : (n : Network Field) → gather whole (records n) ≡ whole-of (rows-used n) (network-named bytes-of n)
@@ -167,9 +169,28 @@ whole-so n =
 pub counts-alike : (n n′ : Network Field) → SameNetwork n n′ → rows-used n ≡ rows-used n′
 counts-alike n n′ e = sym (counts-are n) ∙ ap (λ (c : Counts). N.rows-used c) (sizes-alike bytes-of n n′ e) ∙ counts-are n′
 
--- THE THEOREM
-pub one-form : OneForm
+same-form : (n n′ : Network Field) → SameNetwork n n′ → packed-form n ≡ packed-form n′
 unfolding packed-form
-one-form n n′ e =
+same-form n n′ e =
     let p : laid (all-slots n) ≡ laid (all-slots n′) = laid-all n ∙ whole-so n ∙ ap₂ whole-of (counts-alike n n′ e) e ∙ sym (whole-so n′) ∙ sym (laid-all n′) in
     ap (λ (b : Bytes). this-version ∷ bigEndian 4 (length b) ++ b) p
+
+-- ## Without the date
+first-undated : (n : Network Field) (x y : ℕ) → first-point (undated n) x y ≡ first-point n x y
+first-undated n x zero = refl
+first-undated n x (suc y) = refl
+
+undated-records : (n : Network Field) → records (undated n) ≡ records n
+unfolding records
+undated-records n = λ i.
+    (figure 4 (length (segment-rows n)) ∷ figure 4 (length (lane-rows n)) ∷ figure 4 (length (zone-rows n)) ∷ figure 4 (length (spot-rows n)) ∷ figure 4 (length (point-rows n)) ∷ figure 4 (length (checkpoint-rows n)) ∷ figure 4 (length (stop-rows n)) ∷ figure 4 (length (undated-exits n i)) ∷ title (some (n .name)) ∷ title (n .version) ∷ [])
+    ∷ segment-records n ++ (lane-records n ++ (zone-records n ++ (spot-records n ++ (point-records n ++ (checkpoint-records n ++ (stop-records n
+    ++ (along lane-size (λ first a. map (exit-by (λ x y. first-undated n x y i) first) (a .exits)) 0 (all-lanes n) ++ along zone-size (λ first z. map (exit-by (λ x y. first-undated n x y i) first) (z .border .exits)) (first-zone-point n) (n .zones))))))))
+
+form-undated : (n : Network Field) → packed-form (undated n) ≡ packed-form n
+unfolding packed-form
+form-undated n = ap (λ (l : List Slot). this-version ∷ bigEndian 4 (length (laid l)) ++ laid l) (all-told (undated n) ∙ ap (λ (rs : List (List Slot)). gather with-length rs) (undated-records n) ∙ sym (all-told n))
+
+-- THE THEOREM
+pub one-form : OneForm
+one-form n n′ e = sym (form-undated n) ∙ same-form (undated n) (undated n′) e ∙ form-undated n′

@@ -106,8 +106,8 @@ record SameCounts (t u : Tables Field ℕ) : Type 0 where
   stops : length (t .stops) ≡ length (u .stops)
   exits : length (t .exits) ≡ length (u .exits)
 
-rows-told : (t u : Tables Field ℕ) → SameCounts t u → file-rec t ≡ file-rec u → rest-of t ≡ rest-of u → t ≡ u
-rows-told t u c f e =
+rows-told : (t u : Tables Field ℕ) → SameCounts t u → t .file .date ≡ u .file .date → file-rec t ≡ file-rec u → rest-of t ≡ rest-of u → t ≡ u
+rows-told t u c date f e =
     let a = rows-cut segment-rec segment-back (λ r. refl) (λ r r′. refl) (t .segments) (u .segments) _ _ (c .segments) e in
     let b = rows-cut lane-rec lane-back (λ r. refl) (λ r r′. refl) (t .lanes) (u .lanes) _ _ (c .lanes) (a .1) in
     let d = rows-cut zone-rec zone-back (λ r. refl) (λ r r′. refl) (t .zones) (u .zones) _ _ (c .zones) (b .1) in
@@ -118,7 +118,6 @@ rows-told t u c f e =
     let m = rows-cut exit-rec exit-back (λ r. refl) (λ r r′. refl) (t .exits) (u .exits) [] [] (c .exits) (append-nil (laid-out exit-rec (t .exits)) ∙ l .1 ∙ sym (append-nil (laid-out exit-rec (u .exits)))) in
     let own = ap (file-name (t .file .name)) f in
     let version = ap (named-at 9) f in
-    let date = ap (named-at 10) f in
     λ i. record { file = record { name = own i; version = version i; date = date i }; segments = a .0 i; lanes = b .0 i; zones = d .0 i; spots = g .0 i; points = h .0 i; checkpoints = k .0 i; stops = l .0 i; exits = m .0 i }
   where
     named-of : Slot → Option Field
@@ -220,7 +219,7 @@ module _ (n : Network Field) (good : GoodNetwork n) (sound : Sound n) (few : Few
   file-fit =
       let a = few-long (some (n .name)) (few .name) in let b = few-long (n .version) (few .version) in let c = few-long (n .date) (few .date) in
       let k1 = cap .segments in let k2 = cap .lanes in let k3 = cap .zones in let k4 = cap .spots in let k5 = cap .points in let k6 = cap .checkpoints in let k7 = cap .stops in let k8 = cap .exits in
-      framed-fit (file-rec (tables n)) (omega arith) (omega arith, (omega arith, (omega arith, (omega arith, (omega arith, (omega arith, (omega arith, (omega arith, (few .name, (few .version, (few .date, tt)))))))))))
+      framed-fit (file-rec (tables n)) (omega arith) (omega arith, (omega arith, (omega arith, (omega arith, (omega arith, (omega arith, (omega arith, (omega arith, (few .name, (few .version, tt))))))))))
 
 -- ## A form
 pub record Told (bytes : Bytes) (n : Network Field) : Type 0 where
@@ -259,6 +258,11 @@ pub laid-append : (x y : List Slot) → laid (x ++ y) ≡ laid x ++ laid y
 unfolding laid
 laid-append x y = gather-append slot-bytes x y
 
+-- neither has a date
+same-dates : (n n′ : Network Field) → n .date ≡ none → n′ .date ≡ none → tables n .file .date ≡ tables n′ .file .date
+unfolding tables-with
+same-dates n n′ d d′ = d ∙ sym d′
+
 -- THE THEOREM
 pub one-network : OneNetwork
 one-network bytes n n′ h x x′ =
@@ -275,4 +279,4 @@ one-network bytes n n′ h x x′ =
     let s : map shape (rest-of t) ≡ map shape (rest-of u) = shape-rest t ∙ (λ i. shapes (counts .segments i) (counts .lanes i) (counts .zones i) (counts .spots i) (counts .points i) (counts .checkpoints i) (counts .stops i) (counts .exits i)) ∙ sym (shape-rest u) in
     let place : 5 + length (laid (with-length (file-rec u))) ≡ 5 + length (laid (with-length (file-rec t))) = ap (λ (l : List Slot). 5 + length (laid l)) (sym f) in
     let d = items-cut (5 + length (laid (with-length (file-rec t)))) (rest-of t) (rest-of u) [] [] s (a .rest-fits) (b .rest-fits) (p .1) (subst (λ (k : ℕ). NamesLie k (rest-of u)) place (q .1)) (ap (λ (y : Bytes). y ++ []) (c .1)) in
-    tables-determine n n′ (a .good) (b .good) (a .sound) (b .sound) (rows-told t u counts (tail-eq-of-cons-eq f) (d .0))
+    tables-determine n n′ (a .good) (b .good) (a .sound) (b .sound) (rows-told t u counts (same-dates n n′ (x .dateless) (x′ .dateless)) (tail-eq-of-cons-eq f) (d .0))

@@ -23,6 +23,7 @@ use Rattle.output.specs.Packed.{bigEndian}
 use Rattle.output.proofs.Packed.{packed-long}
 use Rattle.replies.specs.Replies.{stretch}
 use Rattle.same.specs.Same.{SameNetwork}
+use Rattle.house_text.specs.House.{undated}
 use Rattle.packed_law.specs.Packed.{Slot, figure, angle, title, slot-bytes, laid, with-length, all-slots, LiesAt, NamesLie}
 use Rattle.packed_law.proofs.Told.{file-record, segment-records, lane-records, zone-records-from, zone-records, spot-records, point-records, checkpoint-record, checkpoint-records, stop-records, exit-record, exit-records, records, all-told}
 use Rattle.unpackings.proofs.Framing.{bytes-in, item-long, item-is-long, laid-long, gather-append}
@@ -155,23 +156,21 @@ abbrev with-places : Network Field → (segments zones : ℕ) → Network Field
 with-places n a z = record {
   name = record { start = 41; bytes = n .name .bytes };
   version = place (n .version) (43 + length (n .name .bytes));
-  date = place (n .date) (45 + length (n .name .bytes) + length (bytes-in (n .version)));
+  date = none;
   segments = placed-segments a (n .segments);
   zones = placed-zones z (n .zones);
 }
 
-places-same : (n : Network Field) (a z : ℕ) → SameNetwork (with-places n a z) n
+places-same : (n : Network Field) (a z : ℕ) → SameNetwork (with-places n a z) (undated n)
 unfolding network-named
 places-same n a z =
     let v = place-same (n .version) (43 + length (n .name .bytes)) in
-    let d = place-same (n .date) (45 + length (n .name .bytes) + length (bytes-in (n .version))) in
     let s = segments-same a (n .segments) in
     let t = zones-same z (n .zones) in
-    λ i. record { name = bytes-of (n .name); version = v i; date = d i; segments = s i; zones = t i }
+    λ i. record { name = bytes-of (n .name); version = v i; date = none; segments = s i; zones = t i }
 
 file-in : (n : Network Field) (a z : ℕ) → NamesLie 5 (with-length (file-record (with-places n a z)))
 file-in n a z =
-    let q = place-long (n .version) (43 + length (n .name .bytes)) in
     placed-by 5 (with-length (file-record (with-places n a z))) (
       tt,
       (
@@ -194,7 +193,7 @@ file-in n a z =
                         place-in (some (n .name)) (5 + 2 + 4 + 4 + 4 + 4 + 4 + 4 + 4 + 4) 41 (omega arith),
                         (
                           place-in (n .version) (5 + 2 + 4 + 4 + 4 + 4 + 4 + 4 + 4 + 4 + (2 + length (n .name .bytes))) (43 + length (n .name .bytes)) (omega arith),
-                          (place-in (n .date) (5 + 2 + 4 + 4 + 4 + 4 + 4 + 4 + 4 + 4 + (2 + length (n .name .bytes)) + (2 + length (bytes-in (place (n .version) (43 + length (n .name .bytes)))))) (45 + length (n .name .bytes) + length (bytes-in (n .version))) (omega arith), tt),
+                          tt,
                         ),
                       ),
                     ),
@@ -218,7 +217,7 @@ module _ (n : Network Field) where
   unfoldable pub placed : Network Field
   placed = with-places n before-segments before-zones
 
-  pub placed-same : SameNetwork placed n
+  pub placed-same : SameNetwork placed (undated n)
   unfolding placed
   placed-same = places-same n before-segments before-zones
 
@@ -243,7 +242,7 @@ Asked form (figure k n) = Unit {0}
 Asked form (angle z) = Unit {0}
 Asked form (title v) = nameOf form (stretch v) ≡ bytes-in v
 
-nothing-asked : (form : Bytes) → nameOf form (stretch none) ≡ []
+pub nothing-asked : (form : Bytes) → nameOf form (stretch none) ≡ []
 unfolding nameOf
 nothing-asked form = go (leb (0 + 0) (length form))
   where

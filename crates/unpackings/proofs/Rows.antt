@@ -46,7 +46,7 @@ exit-rec r = figure 4 (r .point) ∷ figure 4 (r .entry) ∷ []
 
 abbrev pub file-rec : Tables Field ℕ → List Slot
 file-rec t = figure 4 (length (t .segments)) ∷ figure 4 (length (t .lanes)) ∷ figure 4 (length (t .zones)) ∷ figure 4 (length (t .spots)) ∷ figure 4 (length (t .points)) ∷ figure 4 (length (t .checkpoints)) ∷ figure 4 (length (t .stops)) ∷ figure 4 (length (t .exits))
-    ∷ title (some (t .file .name)) ∷ title (t .file .version) ∷ title (t .file .date) ∷ []
+    ∷ title (some (t .file .name)) ∷ title (t .file .version) ∷ []
 
 unfoldable pub records-of : Tables Field ℕ → List (List Slot)
 records-of t = file-rec t ∷ map segment-rec (t .segments) ++ (map lane-rec (t .lanes) ++ (map zone-rec (t .zones) ++ (map spot-rec (t .spots) ++ (map point-rec (t .points) ++ (map checkpoint-rec (t .checkpoints) ++ (map stop-rec (t .stops) ++ map exit-rec (t .exits)))))))
@@ -115,7 +115,7 @@ module _ (n : Network Field) (sound : Sound n) where
 
   file-so : file-rec (tables n) ≡ file-record n
   unfolding tables-with
-  file-so = let c = counts-same n in λ i. figure 4 (c i .segments) ∷ figure 4 (c i .lanes) ∷ figure 4 (c i .zones) ∷ figure 4 (c i .spots) ∷ figure 4 (c i .points) ∷ figure 4 (c i .checkpoints) ∷ figure 4 (c i .stops) ∷ figure 4 (c i .exits) ∷ title (some (n .name)) ∷ title (n .version) ∷ title (n .date) ∷ []
+  file-so = let c = counts-same n in λ i. figure 4 (c i .segments) ∷ figure 4 (c i .lanes) ∷ figure 4 (c i .zones) ∷ figure 4 (c i .spots) ∷ figure 4 (c i .points) ∷ figure 4 (c i .checkpoints) ∷ figure 4 (c i .stops) ∷ figure 4 (c i .exits) ∷ title (some (n .name)) ∷ title (n .version) ∷ []
 
   -- THE LAW
   pub records-so : records-of (tables n) ≡ records n

@@ -12,11 +12,18 @@ use Rattle.terms.proofs.Lists.{each-map}
 use Rattle.line.specs.Content.{Field}
 use Rattle.law.specs.Network.{Network, Segment, Zone, SpellsNetwork, SpellsText}
 use Rattle.law.specs.Tables.{Lent, HasRoom, filled, gather, along, lane-size, zone-size, first-zone-point, first-spot}
-use Rattle.law.specs.Faults.{Sound}
+use Rattle.law.specs.Faults.{Declared, waypoint, border, Sound}
+use Rattle.law.specs.Network.{PointId}
+use Rattle.law.specs.Tables.{all-lanes}
 use Rattle.edition.specs.declared.Edition.{Edition}
 use Rattle.edition.specs.Editions.{rules-of}
 use Rattle.grammar.proofs.Rows.{each-front, each-behind}
 use Rattle.text.specs.Spelling.{bytes-of}
+use Rattle.house_text.specs.House.{undated}
+use Rattle.house_text.specs.HouseText.{house-rndf}
+use Rattle.house_text.proofs.Undated.{undated-same, undated-exits}
+use Rattle.house_text.proofs.Theorems.{rndf-back}
+use Rattle.law_spelling.proofs.Texts as Texts
 use Rattle.house_text.proofs.References.{sound-alike}
 use Rattle.output.specs.Packed.{bigEndian}
 use Rattle.output.proofs.Packed.{packed-long}
@@ -26,7 +33,8 @@ use Rattle.counts.specs.declared.Counts.{Counts}
 use Rattle.refusal.specs.declared.Refusal.{Refusal}
 use Rattle.replies.specs.declared.RndfReply.{RndfReply}
 use Rattle.replies.specs.declared.RndfReply.the-variants as Reply
-use Rattle.replies.specs.Replies.{most, rows-used, network-file, AcceptsRndf, ReadsRndf}
+use Rattle.rows.specs.Name.{nameOf}
+use Rattle.replies.specs.Replies.{most, stretch, rows-used, network-file, AcceptsRndf, ReadsRndf}
 use Rattle.promises.specs.Accepted.{NamesAsked}
 use Rattle.promises.specs.Accepted as A
 use Rattle.promises.proofs.Keeping.{rndf-later}
@@ -45,7 +53,7 @@ use Rattle.unpackings.specs.Trip.{Back, GivesBack, ThereAndBack, NoOther
 use Rattle.unpackings.proofs.Framing.{bytes-in, gather-append, form-framed}
 use Rattle.unpackings.proofs.OneForm.{counts-alike, one-form}
 use Rattle.unpackings.proofs.OneNetwork.{one-network}
-use Rattle.unpackings.proofs.Placing.{placed, placed-same, in-place, Asked, all-asked}
+use Rattle.unpackings.proofs.Placing.{placed, placed-same, in-place, Asked, all-asked, nothing-asked}
 use Rattle.unpackings.proofs.Settled.{unpack-settled}
 
 -- ## Names asked of the form of a network whose names lie in it
@@ -64,7 +72,6 @@ zones-asked form p q (z ∷ l) h = (h .0 .1 .1 .1 .1 .0, zones-asked form (p + z
 record AllAsked (form : Bytes) (n : Network Field) : Type 0 where
   own : Asked form (title (some (n .name)))
   version : Asked form (title (n .version))
-  date : Asked form (title (n .date))
   segments : Each (λ s. Asked form (title (s .name))) (n .segments)
   zones : Each (λ z. Asked form (title (z .name))) (n .zones)
 
@@ -76,15 +83,15 @@ asked-so form n h =
     let s = each-front (λ r. Each (Asked form) r) (segment-records n) (lane-records n ++ (zone-records n ++ (spot-records n ++ (point-records n ++ (checkpoint-records n ++ (stop-records n ++ exit-records n)))))) (r .1) in
     let b = each-behind (λ r. Each (Asked form) r) (lane-records n) (zone-records n ++ (spot-records n ++ (point-records n ++ (checkpoint-records n ++ (stop-records n ++ exit-records n))))) (each-behind (λ r. Each (Asked form) r) (segment-records n) (lane-records n ++ (zone-records n ++ (spot-records n ++ (point-records n ++ (checkpoint-records n ++ (stop-records n ++ exit-records n)))))) (r .1)) in
     let z = each-front (λ r. Each (Asked form) r) (zone-records n) (spot-records n ++ (point-records n ++ (checkpoint-records n ++ (stop-records n ++ exit-records n)))) b in
-    record { own = f .0; version = f .1 .0; date = f .1 .1 .0; segments = segments-asked form 0 (n .segments) s; zones = zones-asked form (first-zone-point n) 0 (n .zones) z }
+    record { own = f .0; version = f .1 .0; segments = segments-asked form 0 (n .segments) s; zones = zones-asked form (first-zone-point n) 0 (n .zones) z }
 
 in-bytes : (v : Option Field) → bytes-in v ≡ A.name-bytes v
 in-bytes none = refl
 in-bytes (some v) = refl
 
-names-so : (form : Bytes) (n : Network Field) → form ≡ packed-form n → NamesLie 5 (all-slots n) → NamesAsked form (network-file n) n
+names-so : (form : Bytes) (n : Network Field) → form ≡ packed-form n → NamesLie 5 (all-slots n) → n .date ≡ none → NamesAsked form (network-file n) n
 unfolding packed-form
-names-so form n e p =
+names-so form n e p dateless =
     let front : Bytes = this-version ∷ bigEndian 4 (length (laid (all-slots n))) in
     let five : length front ≡ 5 = ap suc (packed-long 4 (length (laid (all-slots n)))) in
     let all = subst (λ (x : Bytes). Each (Asked x) (all-slots n)) (sym e) (all-asked front (all-slots n) (subst (λ (k : ℕ). NamesLie k (all-slots n)) (sym five) p)) in
@@ -92,7 +99,7 @@ names-so form n e p =
     record {
       name = a .own;
       version = a .version ∙ in-bytes (n .version);
-      date = a .date ∙ in-bytes (n .date);
+      date = subst (λ (v : Option Field). nameOf form (stretch v) ≡ A.name-bytes v) (sym dateless) (nothing-asked form);
       segments = each-map (λ s. Asked form (title (s .name))) (λ s. A.Asked form (s .name)) (λ s h. h ∙ in-bytes (s .name)) (n .segments) (a .segments);
       zones = each-map (λ z. Asked form (title (z .name))) (λ z. A.Asked form (z .name)) (λ z h. h ∙ in-bytes (z .name)) (n .zones) (a .zones);
     }
@@ -118,14 +125,30 @@ pub no-others : NoOthers
 no-others bytes t c file left (refused f k h e z) = absurd (accepted-refused e)
 no-others bytes t c file left (unpacked n h x r e z) = (n, x)
 
--- "unpacking gives the network back"
+-- ## Without its date a network has the same references and as many rows; and what was placed has none
+undated-declared : (n : Network Field) (e : PointId) → Declared n e → Declared (undated n) e
+undated-declared n e (waypoint s a p q r) = waypoint s a p q r
+undated-declared n e (border i z p q r b) = border i z p q r b
+
+undated-sound : (n : Network Field) → Sound n → Sound (undated n)
+undated-sound n s = record { entries = each-map (λ e. Declared n (e .entry)) (λ e. Declared (undated n) (e .entry)) (λ e. undated-declared n (e .entry)) (gather (λ a. a .exits) (all-lanes n) ++ gather (λ z. z .border .exits) (n .zones)) (s .entries); numbers = s .numbers }
+
+undated-used : (n : Network Field) → rows-used (undated n) ≡ rows-used n
+undated-used n = λ i. record { segments = rows-used n .segments; lanes = rows-used n .lanes; zones = rows-used n .zones; spots = rows-used n .spots; points = rows-used n .points; checkpoints = rows-used n .checkpoints; stops = rows-used n .stops; exits = length (undated-exits n i) }
+
+placed-dateless : (n : Network Field) → placed n .date ≡ none
+unfolding placed
+placed-dateless n = refl
+
+-- "unpacking gives the network back but for the date"; the text that spells it is the house writing, since the other may have a date
 pub gives-back : GivesBack
 gives-back n h size t room reply left u =
     let m = placed n in
     let same = placed-same n in
-    let form : packed-form n ≡ packed-form m = one-form n m (sym same) in
-    let is : IsPackedFormOf m (packed-form n) = record { network = record { text = h .text; written = h .written; spelled = h .spelled; same = h .same ∙ sym same; sound = sound-alike bytes-of n m (sym same) (h .sound) }; form = form; names = in-place n } in
-    let counts = counts-alike m n same in
+    let form : packed-form n ≡ packed-form m = one-form n m (undated-same (undated n) m (sym same)) in
+    let house = rndf-back (h .written) (h .text) (Texts.rndf-back (h .written) (h .text) (h .spelled)) in
+    let is : IsPackedFormOf m (packed-form n) = record { network = record { text = house-rndf (h .written); written = house .0; spelled = Texts.rndf-to (house .0) (house-rndf (h .written)) (house .1); same = house .2 ∙ undated-same (h .written) n (h .same) ∙ sym same; sound = sound-alike bytes-of (undated n) m (sym same) (undated-sound n (h .sound)) }; form = form; names = in-place n; dateless = placed-dateless n } in
+    let counts = counts-alike m (undated n) same ∙ undated-used n in
     let settled = unpack-settled (packed-form n) t reply (Reply.Accepted (rows-used m) (network-file m)) left (filled m t) u (unpacked m size is (room-so n m t (sym counts) room) refl refl) in
     record {
       again = m;
@@ -133,7 +156,7 @@ gives-back n h size t room reply left u =
       is-form = is;
       replied = settled .0 ∙ ap (λ (d : Counts). Reply.Accepted d (network-file m)) counts;
       holds = settled .1;
-      names = names-so (packed-form n) m form (in-place n);
+      names = names-so (packed-form n) m form (in-place n) (placed-dateless n);
     }
 
 -- ## What was packed

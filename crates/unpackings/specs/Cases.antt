@@ -1,5 +1,5 @@
--- WHAT A READER MUST BELIEVE. Bytes that are refused, and with what number, whatever is lent; yard A's form, where there is room for its rows and where there is not. Document 02, L11. Assumes nothing.
-use Rattle.terms.specs.Words.{_≡_, List, [], _∷_, _++_, ℕ, _<_, length, take, Bytes, Each}
+-- WHAT A READER MUST BELIEVE. Bytes that are refused, and with what number, whatever is lent; yard A's form, where there is room for its rows and where there is not. Document 02, L11 and L12. Assumes nothing.
+use Rattle.terms.specs.Words.{_≡_, List, [], _∷_, _++_, ℕ, _<_, length, take, drop, Bytes, Each}
 use Rattle.law.specs.Tables.{Lent, HasRoom, filled, zeros}
 use Rattle.packed_law.specs.Yards.{yard-a, form-a}
 use Rattle.rows.specs.declared.FileRow.{FileRow}
@@ -21,18 +21,19 @@ pub record Case : Type 0 where
 abbrev pub case : (bytes : Bytes) (number : ℕ) → Case
 case bytes number = record { bytes = bytes; number = number }
 
--- no bytes, and another version; the first length missing, and cut short; no record; a record's length cut short, and a record past the end; an empty record; yard A's form without its last byte, and with a byte more
+-- no bytes; version 1 (L12: "bytes of version 1 give 27 from then on"), whatever follows, and another version; the first length missing, and cut short; no record; a record's length cut short, and a record past the end; an empty record; yard A's form without its last byte, and with a byte more
 abbrev pub cases : List Case
 cases =
     case [] 27
-    ∷ case (2 ∷ []) 27
-    ∷ case (1 ∷ []) 28
-    ∷ case (1 ∷ 0 ∷ 0 ∷ 0 ∷ []) 28
-    ∷ case (1 ∷ 0 ∷ 0 ∷ 0 ∷ 0 ∷ []) 29
-    ∷ case (1 ∷ 0 ∷ 0 ∷ 0 ∷ 1 ∷ 0 ∷ []) 28
-    ∷ case (1 ∷ 0 ∷ 0 ∷ 0 ∷ 3 ∷ 0 ∷ 2 ∷ 0 ∷ []) 28
-    ∷ case (1 ∷ 0 ∷ 0 ∷ 0 ∷ 2 ∷ 0 ∷ 0 ∷ []) 29
-    ∷ case (take 110 form-a) 28
+    ∷ case (1 ∷ drop 1 form-a) 27
+    ∷ case (3 ∷ []) 27
+    ∷ case (2 ∷ []) 28
+    ∷ case (2 ∷ 0 ∷ 0 ∷ 0 ∷ []) 28
+    ∷ case (2 ∷ 0 ∷ 0 ∷ 0 ∷ 0 ∷ []) 29
+    ∷ case (2 ∷ 0 ∷ 0 ∷ 0 ∷ 1 ∷ 0 ∷ []) 28
+    ∷ case (2 ∷ 0 ∷ 0 ∷ 0 ∷ 3 ∷ 0 ∷ 2 ∷ 0 ∷ []) 28
+    ∷ case (2 ∷ 0 ∷ 0 ∷ 0 ∷ 2 ∷ 0 ∷ 0 ∷ []) 29
+    ∷ case (take 108 form-a) 28
     ∷ case (form-a ++ (0 ∷ [])) 28
     ∷ []
 

@@ -1,5 +1,5 @@
--- WHAT A READER MUST BELIEVE. What unpacking replies, and what the lent tables then hold. Document 02, L11. Assumes nothing.
-use Rattle.terms.specs.Words.{_≡_, ℕ, _≤_, _<_, length, Bytes}
+-- WHAT A READER MUST BELIEVE. What unpacking replies, and what the lent tables then hold. Document 02, L11 and L12. Assumes nothing.
+use Rattle.terms.specs.Words.{_≡_, none, ℕ, _≤_, _<_, length, Bytes}
 use Rattle.line.specs.Line.{Field}
 use Rattle.law.specs.Network.{Network, present, SpellsNetwork, SpellsText}
 use Rattle.law.specs.Tables.{Lent, HasRoom, filled, zeros}
@@ -23,6 +23,8 @@ pub record IsPackedFormOf (n : Network Field) (bytes : Bytes) : Type 0 where
   pub network : IsNetwork n
   pub form : bytes ≡ packed-form n
   pub names : NamesLie 5 (all-slots n)
+  -- L12: "Unpacking gives the network back but for the date."
+  pub dateless : n .date ≡ none
 
 -- t: the tables as they were lent
 module _ (bytes : Bytes) (t : Lent) where
@@ -30,7 +32,7 @@ module _ (bytes : Bytes) (t : Lent) where
   pub data UnpackRefuses : (file number : ℕ) → Type 0 where
     -- "1 over 16,777,215 bytes"
     too-long : most < length bytes → UnpackRefuses 1 1
-    -- "27 version not 1 or no bytes"
+    -- "27 version not 1 or no bytes", by L12 not 2
     other-version : length bytes ≤ most → (OfThisVersion bytes → ⊥) → UnpackRefuses 0 27
     -- "28 the first length is cut short or not the count of bytes behind it, or a record runs past the end"
     cut-short : length bytes ≤ most → OfThisVersion bytes → (LengthsRight bytes → ⊥) → UnpackRefuses 0 28
