@@ -188,7 +188,7 @@ typedef struct kastepuhm_answer {
     uint32_t limits;
     kastepuhm_name rndf_name;      /* in the RNDF's text, or in the packed bytes */
     kastepuhm_name rndf_version;   /* format_version; may be missing */
-    kastepuhm_name rndf_date;      /* creation_date; may be missing */
+    kastepuhm_name rndf_date;      /* creation_date; may be missing, and always is of packed bytes */
     kastepuhm_name mdf_name;       /* in the MDF's text */
     kastepuhm_name mdf_rndf;       /* the RNDF that the MDF names: the same bytes as rndf_name */
     kastepuhm_name mdf_version;
@@ -226,7 +226,7 @@ enum {
     KASTEPUHM_GOAL_NOT_MET = 23,       /* a goal is not met in order, the first (line: the goal's row, from 0) */
     KASTEPUHM_WRONG_END = 24,          /* the route does not end at the last goal's point (line 0) */
     KASTEPUHM_BARE_SPOT = 25,          /* the spot has no checkpoint (line: its first waypoint's, where that has no fault of 2 to 9) */
-    KASTEPUHM_OTHER_VERSION = 27,      /* 27 to 29: kastepuhm_read_packed only, behind 1 and before 11, in this order, file 0, line 0: there are no bytes, or they are of another version than 1 */
+    KASTEPUHM_OTHER_VERSION = 27,      /* 27 to 29: kastepuhm_read_packed only, behind 1 and before 11, in this order, file 0, line 0: there are no bytes, or they are of another version than 2 */
     KASTEPUHM_WRONG_LENGTH = 28,       /* the first length is cut short or is not the count of bytes behind it, or a record runs past the end */
     KASTEPUHM_NO_NETWORK = 29,         /* the records are not the packed form of a network */
     KASTEPUHM_NO_START = 30,           /* 30 and 31: kastepuhm_check_mission only, after all others, in this order, file 0: the start is no declared point (line 0) */
@@ -328,7 +328,7 @@ kastepuhm_answer kastepuhm_check_mission(
 
 /*
  * The writers. Two put the house writing of a file into `out`: one tab between fields, a line feed after every line, no comment, blank line or carriage return, options in their
- * listed order, no sign before 0.000000. What was written is read again as the same network or mission. One puts the map of a network there, as GeoJSON: see kastepuhm_write_map. One puts the packed network there: see
+ * listed order, no sign before 0.000000; the creation date is left out. What was written is read again as the same network or mission, but for a missing date. One puts the map of a network there, as GeoJSON: see kastepuhm_write_map. One puts the packed network there: see
  * kastepuhm_write_packed.
  *
  * A writer reads the texts first, as the reader of the same texts does, and refuses as it does. Where it accepts, the tables hold what that reader leaves, and the answer has its
@@ -380,8 +380,8 @@ kastepuhm_write_answer kastepuhm_write_map(
     uint8_t *out, size_t out_length);
 
 /*
- * The network of an RNDF, packed for a radio: a version byte, 1, the length of all that follows, and then a record for the file and for each row of each table. docs/PACKED.md lays its bytes
- * down. One network has one packed form: how its text is written, and in which edition it is read, leaves no trace. kastepuhm_read_packed gives the network back.
+ * The network of an RNDF, packed for a radio: a version byte, 2, the length of all that follows, and then a record for the file and for each row of each table. docs/PACKED.md lays its bytes
+ * down. One network has one packed form: how its text is written, in which edition it is read, and its creation date leave no trace. kastepuhm_read_packed gives the network back but for the date.
  */
 kastepuhm_write_answer kastepuhm_write_packed(
     uint32_t edition,
@@ -415,7 +415,7 @@ kastepuhm_write_answer kastepuhm_write_mdf(
 
 /*
  * A packed network, as kastepuhm_write_packed makes it (docs/PACKED.md). It answers and fills the tables as kastepuhm_read_rndf does for the text that was packed, but the names lie in the packed
- * bytes: a name is bytes + start. The fields of the MDF are 0. There is no edition: what the older one accepts, the present one accepts too, so the present rules serve both.
+ * bytes: a name is bytes + start; and the creation date is missing, whether or not the text had one. The fields of the MDF are 0. There is no edition: what the older one accepts, the present one accepts too, so the present rules serve both.
  *
  * Refusals, tried in this order: 1 (file 1) for over 16,777,215 bytes; then, with file 0, 27 for no bytes or another version, 28 for a length that is not right, so also for bytes that are missing
  * or left over at the end, 29 for records that are not the packed form of a network; then 11 (file 1) where a table has fewer rows than needed. Line and column are 0, and every number of

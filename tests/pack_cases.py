@@ -37,9 +37,9 @@ UNPACK_HELP = (UNPACK_USAGE + "\n"
                "A file may have up to 1,048,576 bytes. The status is 0 accepted, 1 refused, 2 not tried.")
 TOO_BIG = "the file is too big for this program, which takes up to 1,048,576 bytes"
 
-# docs/PACKED.md, "Yard A": the 111 bytes, a record to a line
-HEAD = "01 00 00 00 6a"
-FILE = "00 2c 00 00 00 01 00 00 00 01 00 00 00 00 00 00 00 00 00 00 00 02 00 00 00 01 00 00 00 00 00 00 00 01 00 06 79 61 72 64 5f 61 00 00 00 00"
+# docs/PACKED.md, "Yard A": the 109 bytes, a record to a line
+HEAD = "02 00 00 00 68"
+FILE = "00 2a 00 00 00 01 00 00 00 01 00 00 00 00 00 00 00 00 00 00 00 02 00 00 00 01 00 00 00 00 00 00 00 01 00 06 79 61 72 64 5f 61 00 00"
 SEGMENT = "00 08 00 00 00 00 00 01 00 00"
 LANE = "00 0a 00 00 00 00 00 02 ff ff 00 00"
 FIRST = "00 08 02 ae a5 40 fa 74 ee c0"
@@ -51,11 +51,11 @@ RECORDS = [FILE, SEGMENT, LANE, FIRST, SECOND, SEVEN, EXIT]
 ZERO = "00 08 00 00 00 00 00 00 00 00"
 ZONE = "00 0e 00 00 00 02 00 01 00 00 00 00 00 01 00 00"
 SPOT = "00 06 00 00 00 03 ff ff"
-Z_RECORDS = ["00 2c 00 00 00 01 00 00 00 01 00 00 00 01 00 00 00 01 00 00 00 05 00 00 00 02 00 00 00 00 00 00 00 01 00 06 79 61 72 64 5f 61 00 00 00 00",
+Z_RECORDS = ["00 2a 00 00 00 01 00 00 00 01 00 00 00 01 00 00 00 01 00 00 00 05 00 00 00 02 00 00 00 00 00 00 00 01 00 06 79 61 72 64 5f 61 00 00",
              SEGMENT, LANE, ZONE, SPOT, FIRST, SECOND, ZERO, ZERO, ZERO, SEVEN, "00 06 00 08 00 00 00 04", EXIT]
-# yard A with a version, a date, a segment's name, a lane's width and boundaries and a stop
+# yard A with a version, a date (which is left out), a segment's name, a lane's width and boundaries and a stop
 DRESSED = ins(ins(ins(A, 8, "lane_width>12", "left_boundary>double_yellow", "right_boundary>broken_white", "stop>1.1.1"), 6, "segment_name>Ost"), 4, "format_version>1.0", "creation_date>14-Mar-07")
-DRESSED_RECORDS = ["00 38 00 00 00 01 00 00 00 01 00 00 00 00 00 00 00 00 00 00 00 02 00 00 00 01 00 00 00 01 00 00 00 01 00 06 79 61 72 64 5f 61 00 03 31 2e 30 00 09 31 34 2d 4d 61 72 2d 30 37",
+DRESSED_RECORDS = ["00 2d 00 00 00 01 00 00 00 01 00 00 00 00 00 00 00 00 00 00 00 02 00 00 00 01 00 00 00 01 00 00 00 01 00 06 79 61 72 64 5f 61 00 03 31 2e 30",
                    "00 0b 00 00 00 00 00 01 00 03 4f 73 74", "00 0a 00 00 00 00 00 02 00 0c 01 04", FIRST, SECOND, SEVEN, "00 04 00 00 00 00", EXIT]
 YELLOW = ins(A, 8, "right_boundary>solid_yellow")
 YELLOW_RECORDS = put(RECORDS, 3, "00 0a 00 00 00 00 00 02 ff ff 00 02")
@@ -65,7 +65,7 @@ def raw(*lines):
     return bytes.fromhex(" ".join(lines))
 
 
-def form(records, version=1, more=0):
+def form(records, version=2, more=0):
     """These records behind the version and their length, or one that is so much more."""
     body = raw(*records)
     return bytes([version]) + (len(body) + more).to_bytes(4, "big") + body
@@ -93,6 +93,8 @@ def packed():
         ("a zone with a spot", [], Z, Z_RECORDS, ZONED),
         ("a zone with a spot, in the older edition", OLDER, Z, Z_RECORDS, ZONED),
         ("names, a version, a date, a width, boundaries, a stop", [], DRESSED, DRESSED_RECORDS, accepted(1, 0, 1, 2, 0, 1, 1, 1)),
+        ("the same with another date", [], put(DRESSED, 5, "creation_date>yesterday"), DRESSED_RECORDS, accepted(1, 0, 1, 2, 0, 1, 1, 1)),
+        ("the same without a date", [], cut(DRESSED, 5), DRESSED_RECORDS, accepted(1, 0, 1, 2, 0, 1, 1, 1)),
         ("solid_yellow", [], YELLOW, YELLOW_RECORDS, YARD_A),
         ("a text of 1,048,576 bytes", [], padded(A, MOST), RECORDS, YARD_A),
     ]
@@ -118,15 +120,17 @@ def refused_forms():
     return [
         ("27: no bytes", b"", 27),
         ("27: version 0", form(RECORDS, 0), 27),
-        ("27: version 2", form(RECORDS, 2), 27),
+        ("27: version 1", form(RECORDS, 1), 27),
+        ("27: version 1 as it was, with a date", form(put(RECORDS, 1, "00 2c" + FILE[5:] + " 00 00"), 1), 27),
+        ("27: version 3", form(RECORDS, 3), 27),
         ("27: a text", text(A), 27),
         ("28: the version alone", whole[:1], 28),
         ("28: three bytes of the length", whole[:4], 28),
         ("28: no record of so many", whole[:5], 28),
         ("28: the last byte cut off", whole[:-1], 28),
         ("28: a byte behind the last", whole + b"\x00", 28),
-        ("28: the length one more", form(RECORDS, 1, 1), 28),
-        ("28: the length one less", form(RECORDS, 1, -1), 28),
+        ("28: the length one more", form(RECORDS, 2, 1), 28),
+        ("28: the length one less", form(RECORDS, 2, -1), 28),
         ("28: a lone last byte", form(RECORDS + ["00"]), 28),
         ("28: a record past the end", form(put(RECORDS, 7, "00 09" + EXIT[5:])), 28),
         ("28: the first record past the end", form(put(RECORDS, 1, "ff ff" + FILE[5:])), 28),
@@ -136,7 +140,8 @@ def refused_forms():
         ("29: an exit too many", form(RECORDS + [EXIT]), 29),
         ("29: a segment before the file", form([SEGMENT, FILE] + RECORDS[2:]), 29),
         ("29: a longer record", form(put(RECORDS, 7, "00 09" + EXIT[5:] + " 00")), 29),
-        ("29: no name", form(put(RECORDS, 1, "00 26" + FILE[5:101] + " 00 00 00 00 00 00")), 29),
+        ("29: a date", form(put(RECORDS, 1, "00 2c" + FILE[5:] + " 00 00")), 29),
+        ("29: no name", form(put(RECORDS, 1, "00 24" + FILE[5:101] + " 00 00 00 00")), 29),
         ("29: a space in the name", form(put(RECORDS, 1, FILE.replace("5f", "20"))), 29),
         ("29: a latitude over 90 degrees", form(put(RECORDS, 4, "00 08 05 5d 4a 81 fa 74 ee c0")), 29),
         ("29: a boundary of 5", form(put(RECORDS, 3, LANE[:-2] + "05")), 29),
@@ -154,7 +159,7 @@ def largest_form(count):
     """So many points at 0, 0 in lanes of up to 32,768 of one segment; and how many lanes."""
     lanes = [min(32768, count - i) for i in range(0, count, 32768)]
     words = [1, len(lanes), 0, 0, count, 0, 0, 0]
-    records = ["002c" + "".join("%08x" % w for w in words) + "0006" + b"yard_a".hex() + "00000000", "0008" + "00000000" + "%04x" % len(lanes) + "0000"]
+    records = ["002a" + "".join("%08x" % w for w in words) + "0006" + b"yard_a".hex() + "0000", "0008" + "00000000" + "%04x" % len(lanes) + "0000"]
     records += ["000a" + "%08x" % (32768 * i) + "%04x" % n + "ffff0000" for i, n in enumerate(lanes)]
     return form(records + [ZERO.replace(" ", "") * count]), len(lanes)
 
@@ -211,7 +216,7 @@ def of_unpack():
     every += [said("unpack, " + label, {P: content}, [P], reason(number)) for label, content, number in refused_forms()]
     return every + [
         said("unpack: a form of %d points" % ((MOST - 200) // 10), {P: points}, [P], accepted(1, 0, lanes, (MOST - 200) // 10, 0, 0, 0, 0)),
-        said("unpack: 1,048,576 bytes that are no form", {P: b"\x01" * MOST}, [P], reason(28)),
+        said("unpack: 1,048,576 bytes that are no form", {P: b"\x02" * MOST}, [P], reason(28)),
         said("unpack: 16,777,216 bytes", {P: b"\x01" * 16777216}, [P], reason(1)),
         said("unpack: 1,048,577 bytes", {P: b"\x01" * (MOST + 1)}, [P], ("%s: %s" % (P, TOO_BIG), 2)),
         said("unpack: no such file", {}, [P], missing(P)),
@@ -247,7 +252,7 @@ def main():
     parser = argparse.ArgumentParser()
     parser.add_argument("--built", action="store_true")
     options = parser.parse_args()
-    assert len(form(RECORDS)) == 111 and form(RECORDS)[:5] == raw(HEAD)
+    assert len(form(RECORDS)) == 109 and form(RECORDS)[:5] == raw(HEAD)
     if not options.built:
         crates = os.path.join(here, "..", "crates")
         with open(os.devnull, "wb") as null:
