@@ -13,7 +13,7 @@
 # edition alone gives.
 # With a SORT, `pairs`, `maps`, `routes`, `missions` or `packed`, only that one is compared: `tests/damage.sh 200000 1 routes` judges 100,000 routes (7 minutes of processor time), `tests/damage.sh 200000 1 packed`
 # unpacks 200,000 forms and packs 50,000 RNDFs (some 25 minutes, and a gigabyte where one form has 16,777,215 bytes). Two more are run only where they are named: `tests/damage.sh 265716 1 ends` has every line end of up to
-# five signs of comments, separators and line ends, each at four places of an RNDF; `tests/damage.sh 202756 1 packed-bytes` has every prefix and every change of one byte of yard A's form and of a yard's with zones, each with
+# five signs of comments, separators and line ends, each at four places of an RNDF; `tests/damage.sh 200196 1 packed-bytes` has every prefix and every change of one byte of yard A's form and of a yard's with zones, each with
 # tables for it and with fewer.
 #
 # Builds the library first (`rt staticlib yard`), unless --built is given. Needs python3 and a C compiler (Debian: gcc; on Arm gcc-x86-64-linux-gnu, and the kit's emulator runs it);

@@ -18,7 +18,7 @@ here = os.path.dirname(os.path.abspath(__file__))
 sys.path.insert(0, os.path.join(here, "oracle"))
 import generate   # noqa: E402
 import oracle     # noqa: E402
-from yards import ROUND_1 as M, YARD_A as A, put, text  # noqa: E402
+from yards import ROUND_1 as M, YARD_A as A, ins, put, text  # noqa: E402
 
 RUN = os.path.join(here, "..", "run-house")
 LARGEST = 8192
@@ -61,6 +61,10 @@ def own_rules():
         ("a folder for the RNDF", FOLDER, m), ("a folder for the MDF", a, FOLDER), ("bad RNDF, no MDF", a[:-9], None),
         ("bad RNDF with an MDF that is too big", b"x", fill(m, 9000)), ("last LFs missing", a[:-1], m[:-1]), ("8,192 bytes, last LF missing", long_text(8192), None),
         ("the MDF names another", a, text(put(M, 2, "RNDF>yard_b"))),
+        # L12: dates are left out, and a second one is 6
+        ("dates in both", text(ins(A, 4, "creation_date>a")), text(ins(M, 3, "creation_date>b"))), ("dates before and behind the version", text(ins(A, 4, "creation_date>a", "format_version>1")),
+         text(ins(M, 3, "format_version>2", " creation_date b /* c */"))), ("a date in the RNDF alone", text(ins(A, 4, "creation_date>" + "a" * 128)), m),
+        ("two dates", text(ins(A, 4, "creation_date>a", "creation_date>a")), m), ("two dates in the MDF", a, text(ins(M, 3, "creation_date>a", "creation_date>a"))),
     ]
 
 

@@ -511,6 +511,20 @@ def editions():
         run("2007: " + label, r, m, now)
 
 
+def dates():
+    """L12: the date is still read, in both files: the table shows it, and a second one is 6."""
+    date, version = "creation_date>14-Mar-07", "format_version>2.0"
+    # line 4 of yard A begins at byte 44, line 3 of its mission at byte 29; 19 bytes are the version's line, 14 the keyword and its tab
+    for label, r, m, where in (("behind the version", ins(YARD_A, 4, version, date), None, 44 + 19 + 14),
+                               ("with a comment, in both", ins(YARD_A, 4, date), ins(ROUND_1, 3, " >" + date + "/* d */", version), 29 + 2 + 14)):
+        run("date " + label, r, m, "ok")
+        shown = collect.taken[-1].reply
+        if (shown.mission or shown.file)[-2:] != (where, 9):
+            collect.wrong.append("date %s: by hand at %d, oracle %s" % (label, where, (shown.file, shown.mission)))
+    run("date again", ins(YARD_A, 4, date, version, "  " + date), None, "1 6 6 3")
+    run("date again in the MDF", ins(YARD_A, 4, date), ins(ROUND_1, 3, date, "creation_date>d"), "2 4 6 1")
+
+
 def spread():
     """Of the corpus's other parts, for each file and answer EACH that are spread over them."""
     others = Collect()
@@ -584,7 +598,7 @@ def mutants():
 
 
 def main():
-    for part in (rooms, entries, checkpoints, values, lines, edges, two_faults, missions, columns, spot_checkpoints, editions):
+    for part in (rooms, entries, checkpoints, values, lines, edges, two_faults, missions, columns, spot_checkpoints, editions, dates):
         part()
     cases.writer = collect
     for part in WHOLE:

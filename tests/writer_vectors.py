@@ -41,8 +41,16 @@ MUTANTS = [
     ('sign = "-" if value < 0 else ""', 'sign = "-" if value <= -1_000_000 else ""'),
     ('"%s%d.%06d" % (sign', '"%s%d.%d" % (sign'),
     ('put(b"format_version", network.version)', 'pass'),
-    ('if network.version:\n        put(b"format_version", network.version)\n    if network.date:\n        put(b"creation_date", network.date)',
-     'if network.date:\n        put(b"creation_date", network.date)\n    if network.version:\n        put(b"format_version", network.version)'),
+    # L12: "the house writing and the packed form leave it out", "the table still shows it"
+    ('put(b"format_version", network.version)\n', 'put(b"format_version", network.version)\n    if network.date:\n        put(b"creation_date", network.date)\n'),
+    ('if network.version:\n        put(b"format_version", network.version)\n', 'if network.date:\n        put(b"creation_date", network.date)\n    if network.version:\n        put(b"format_version", network.version)\n'),
+    ('put(b"format_version", network.version)\n', 'put(b"format_version", network.version)\n    if network.date:\n        put(b"creation_date", b"")\n'),
+    ('if network.version:\n        put(b"format_version", network.version)\n', 'if network.version and not network.date:\n        put(b"format_version", network.version)\n'),
+    ('reply = read_rndf(text, room, edition)\n    return write_out(reply, lambda: house_rndf(network_of(reply, text)), 1,',
+     'reply = read_rndf(text, room, edition)\n    out_len = out_len - reply.file[5] if reply.file else out_len\n    return write_out(reply, lambda: house_rndf(network_of(reply, text)), 1,'),
+    ('            form.date = name\n', '            pass\n'),
+    ('        reply.mission = (mission.name + mission.rndf + mission.version\n                         + mission.date)', '        reply.mission = mission.name + mission.rndf + mission.version + MISSING_NAME'),
+    ('        given.add(what)\n\n\ndef end_of_file', '        if what != b"creation_date":\n            given.add(what)\n\n\ndef end_of_file'),
     ('put(b"segment_name", name)', 'pass'),
     ('if width != MISSING_WIDTH:\n                put(b"lane_width"', 'if width not in (0, MISSING_WIDTH):\n                put(b"lane_width"'),
     ('put(b"left_boundary", BOUNDARIES[left])', 'put(b"left_boundary", BOUNDARIES[right or left])'),
@@ -61,8 +69,9 @@ MUTANTS = [
     ('if width != MISSING_WIDTH:\n                put(b"spot_width", width)\n            put_checkpoints(first)\n',
      'put_checkpoints(first)\n            if width != MISSING_WIDTH:\n                put(b"spot_width", width)\n'),
     ('put(b"end_file")\n    return b"".join(out)\n\n\ndef house_mdf', 'put(b"end_file")\n    return b"".join(out)[:-1]\n\n\ndef house_mdf'),
-    ('if mission.version:\n        put(b"format_version", mission.version)\n    if mission.date:\n        put(b"creation_date", mission.date)',
-     'if mission.date:\n        put(b"creation_date", mission.date)\n    if mission.version:\n        put(b"format_version", mission.version)'),
+    ('put(b"format_version", mission.version)\n', 'pass\n'),
+    ('put(b"format_version", mission.version)\n', 'put(b"format_version", mission.version)\n    if mission.date:\n        put(b"creation_date", mission.date)\n'),
+    ('if mission.version:\n        put(b"format_version", mission.version)\n', 'if mission.date:\n        put(b"creation_date", mission.date)\n    if mission.version:\n        put(b"format_version", mission.version)\n'),
     ('for number, in mission.goals:', 'for number, in sorted(mission.goals):'),
     ('for identifier, minimum, maximum in mission.limits:', 'for identifier, minimum, maximum in sorted(mission.limits):'),
     ('put(identifier, minimum, maximum)', 'put(identifier, maximum, minimum)'),
@@ -184,6 +193,31 @@ def untidy():
     run("goals and limits in any order", YARD_D, put(put(MISSION_D, 4, "num_checkpoints>4"), 5, "32768", "1", "32768"), ("exact", "short"))
 
 
+def dates():
+    """L12: the house writing leaves the date out, and the tables show it. Texts that differ in dates alone have equal writings."""
+    version = "format_version>2.0"
+    spelled = {"none": [], "alone": ["creation_date>14-Mar-07"], "another": ["creation_date>15-Mar-07"], "longest": ["creation_date>" + "d" * 128], "with a comment": [" > creation_date>>14-Mar-07 /* when > */ "],
+               "directly before a comment": ["creation_date>d//**/"], "between blank lines": ["", "creation_date>format_version", "/* creation_date>x */"],
+               "before the version": ["creation_date>14-Mar-07", version], "behind the version": [version, "creation_date>14-Mar-07"], "before the version, with comments": ["creation_date>1/* */", version + "/* creation_date>2 */"],
+               "a version alone": [version], "called as the version is": [version, "creation_date>2.0"]}
+    for what, base, at in (("yard A", YARD_A, 4), ("mission A", ROUND_1, 3)):
+        writings = {}
+        for label, lines in spelled.items():
+            whole = ins(base, at, *lines)
+            texts = (whole, None) if what == "yard A" else (YARD_A, whole)
+            run("%s, date: %s; output as without it" % (what, label), *texts, ("exact", "short") if label in ("alone", "longest", "behind the version") else ("exact",))
+            done = Case("", 1 if what == "yard A" else 2, as_bytes(texts[0]), as_bytes(texts[1] or b""), MOST_OUT).reply
+            writings.setdefault(version in "".join(lines), set()).add(bytes(done.output[:done.written]))
+        assert {k: len(v) for k, v in writings.items()} == {False: 1, True: 1}, "texts that differ in dates alone"
+        again = lambda *lines: (ins(base, at, *lines), None) if what == "yard A" else (YARD_A, ins(base, at, *lines))
+        run("%s, two dates" % what, *again("creation_date>a", "creation_date>a"), ("wide",))
+        run("%s, two dates, the version between" % what, *again("creation_date>a", version, "creation_date>b>c"), ("wide",))
+    run("mission without a date, yard with one", ins(YARD_A, 4, "creation_date>y"), ROUND_1, ("exact", "short"))
+    run("mission and yard, each with a date", ins(YARD_A, 4, "creation_date>y", version), ins(ROUND_1, 3, version, "creation_date>m"), ("exact", "short"))
+    take(Case("2006: yard A, date alone", 3, as_bytes(ins(YARD_A, 4, "creation_date>y")), b"", len(text(YARD_A))))
+    take(Case("2006: mission A, date alone", 4, as_bytes(ins(YARD_A, 4, "creation_date>y")), as_bytes(ins(ROUND_1, 3, "creation_date>m")), len(text(ROUND_1))))
+
+
 def refused():
     run("empty", b"", None, ("all",))
     run("an RNDF for an MDF", YARD_A, YARD_A, ("wide",))
@@ -267,7 +301,7 @@ def mutants():
 
 
 def main():
-    for part in (lengths, untidy, refused, older, random_ones):
+    for part in (lengths, untidy, dates, refused, older, random_ones):
         part()
     if sys.argv[1:] == ["--mutants"]:
         return mutants()

@@ -24,7 +24,7 @@ space is lent with other numbers in it, ends where the memory ends and has to be
 Packed forms (request L11): as many as pairs are unpacked, of generated networks, each good or damaged by one to three of the kinds in tests/oracle/packed.py (rows, numbers, names, counts,
 references; bytes, lengths, ends), and a quarter as many RNDFs are packed, with an output that is often a byte too short. The cases worked out by hand are in the first block, forms with
 32,768 of something in every fortieth, forms of 16,777,215 bytes and one whose text would have more in the fifth, a network's form of 16,777,215 bytes in the forty-first. Beside reply, tables and output: the second judgement of packed.py has to agree with the oracle on each form; what
-was unpacked, damaged or not, is packed again by the oracle from the program's answer and has to give the same bytes; what was packed is unpacked by the oracle as the same network. Every prefix and every change of
+was unpacked, damaged or not, is packed again by the oracle from the program's answer and has to give the same bytes; what was packed is unpacked by the oracle as the same network but for its creation date (request L12). Every prefix and every change of
 one byte of two yards' forms, each with tables for it and with fewer, are unpacked where SORT is `packed-bytes`.
 
 Line ends (only where SORT is `ends`): COUNT RNDFs with every end that a line can have, of up to so many signs of comments, separators and line ends (pairs.py, end_case).
@@ -308,7 +308,7 @@ def packed_said(judged, mode, case, got):
     elif kind_of(mode) == PACKING and reply.accepted and len(got) == answer_size(mode, case):
         form = got[HEAD.size + 4 * sum(lent(mode, case)):][:written]
         again = oracle.unpack(form, packed.rows_needed(form) if packed.judged(form) == 0 else {t: 0 for t in oracle.RNDF_TABLES})
-        if not again.accepted or oracle.network_of(again, form) != oracle.network_of(reply, case.rndf):
+        if not again.accepted or oracle.network_of(again, form) != oracle.network_of(reply, case.rndf).undated():
             wrong.append("what was packed is unpacked otherwise")
         count["bytes of texts packed"], count["bytes of their forms"], count["networks packed"] = len(case.rndf), written, 1
     return wrong, count

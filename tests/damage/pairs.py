@@ -638,7 +638,7 @@ def forms_of_edge_size():
     filled = packed.framed(one * whole + (rest - 2).to_bytes(2, "big") + bytes(rest - 2))
     none = dict.fromkeys(oracle.RNDF_TABLES, 0)
     points = packed.points_form(17, 30500)
-    return cases + [form_case(filled, none, ["16,777,215 bytes"]), form_case(b"\x01" + bytes(LARGEST - 1), none, ["16,777,215 bytes"]),
+    return cases + [form_case(filled, none, ["16,777,215 bytes"]), form_case(b"\x02" + bytes(LARGEST - 1), none, ["16,777,215 bytes"]),
             form_case(points, packed.rows_needed(points), ["text over 16,777,215 bytes"])]
 
 

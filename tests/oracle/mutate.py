@@ -175,6 +175,8 @@ MUTANTS = [
     ("form.stops.append([first + waypoint[2] - 1])", "form.stops.append([waypoint[2] - 1])"),
     ("            right, = lines", "            left, = lines"),
     ("form.version = name\n", "form.date = name\n"),
+    ("            form.date = name\n", "            pass\n"),
+    ("        given.add(what)\n\n\ndef end_of_file", "        (given.add(what) if what != b'creation_date' else 0)\n\n\ndef end_of_file"),
     ("len(field)) if", "len(field) + 0 * start) if start > 0 or"),
     ("flat.extend([0] * (length - len(flat)))", "flat.extend([0] * (length // 2 * 2 - len(flat)))"),
     ("self.at = end\n", "self.at = end + 0\n"),

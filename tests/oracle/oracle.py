@@ -919,6 +919,10 @@ class Network:
     def __eq__(self, other):
         return vars(self) == vars(other)
 
+    def undated(self):
+        """L12: "the same network .. but for a missing date"."""
+        return Network(**dict(vars(self), date=b""))
+
 
 class Mission:
     def __init__(self, name, rndf, version, date, goals, limits):
@@ -929,6 +933,9 @@ class Mission:
 
     def __eq__(self, other):
         return vars(self) == vars(other)
+
+    def undated(self):
+        return Mission(**dict(vars(self), date=b""))
 
 
 def table_rows(reply, table):
@@ -1035,10 +1042,9 @@ def house_rndf(network):
     put(b"RNDF_name", network.name)
     put(b"num_segments", len(network.segments))
     put(b"num_zones", len(network.zones))
+    # L12: "the house writing and the packed form leave it out"
     if network.version:
         put(b"format_version", network.version)
-    if network.date:
-        put(b"creation_date", network.date)
     for s, (first_lane, lanes, name) in enumerate(network.segments, 1):
         put(b"segment", s)
         put(b"num_lanes", lanes)
@@ -1092,10 +1098,9 @@ def house_mdf(mission):
                             for f in fields) + b"\n")
     put(b"MDF_name", mission.name)
     put(b"RNDF", mission.rndf)
+    # L12, "in both files"
     if mission.version:
         put(b"format_version", mission.version)
-    if mission.date:
-        put(b"creation_date", mission.date)
     put(b"checkpoints")
     put(b"num_checkpoints", len(mission.goals))
     for number, in mission.goals:
@@ -1212,21 +1217,22 @@ def write_map(text, room, out_len, edition=PRESENT):
 
 # L11: "The team fixes the fields of each record in docs/."  docs/PACKED.md: the
 # words of a table's row in so many bytes, a name in place of its start and length.
-PACKED_VERSION = 1
+# L12: "The packed form's version byte becomes 2"
+PACKED_VERSION = 2
 PACKED_FIELDS = {
     "segments": (4, 2, "name"), "lanes": (4, 2, 2, 1, 1),
     "zones": (4, 2, 4, 2, "name"), "spots": (4, 2), "points": (4, 4),
     "checkpoints": (2, 4), "stops": (4,), "exits": (4, 4),
 }
-# "rows of segments 4, of lanes 4, .. of exits 4; name; format version; creation
-# date"
-PACKED_FILE = (4,) * len(RNDF_TABLES) + ("name",) * 3
+# "rows of segments 4, of lanes 4, .. of exits 4; name; format version"; L12: no
+# creation date
+PACKED_FILE = (4,) * len(RNDF_TABLES) + ("name",) * 2
 
 
 def pack(network):
-    """L11: "a version byte, 1, at the front; then the length of all that follows
-    in four bytes, big-endian; then records in table order, each with its length
-    first in two bytes, big-endian, names included."""
+    """L11: "a version byte, 1, at the front" (L12: 2); "then the length of all
+    that follows in four bytes, big-endian; then records in table order, each with its
+    length first in two bytes, big-endian, names included."""
     def record(row, fields):
         out = []
         for value, size in zip(row, fields):
@@ -1241,7 +1247,7 @@ def pack(network):
         return len(whole).to_bytes(2, "big") + whole
 
     file_row = [len(getattr(network, table)) for table in RNDF_TABLES]
-    file_row += [network.name, network.version, network.date]
+    file_row += [network.name, network.version]
     records = [record(file_row, PACKED_FILE)]
     for table in RNDF_TABLES:
         for row in getattr(network, table):
@@ -1265,7 +1271,8 @@ def unpack(data, room):
         # "Refusals, in order: 1 over 16,777,215 bytes"
         if len(data) > LARGEST_TEXT:
             raise Refused(1, 0, 1)
-        # "27 version not 1 or no bytes"
+        # "27 version not 1 or no bytes"; L12: "bytes of version 1 give 27 from then
+        # on"
         if len(data) == 0 or data[0] != PACKED_VERSION:
             raise Refused(0, 0, 27)
         records = records_in(data)          # 28
@@ -1288,7 +1295,8 @@ def unpack(data, room):
         for table in ("segments", "zones"):
             rows[table] = [row[:-1] + name for row, name in zip(rows[table], names[table])]
         accept(reply, rows, room)
-        reply.file = names["file"]
+        # L12: "Unpacking gives the network back but for the date."
+        reply.file = names["file"] + MISSING_NAME
     except Refused as refused:
         refuse(reply, refused, room, RNDF_TABLES)
     return reply
@@ -1334,7 +1342,7 @@ def rows_in_records(data, records):
     taken = fields_of(records[0], PACKED_FILE) if records else None
     if taken is None:
         return None
-    (*counts, name, version, date), file_names = taken
+    (*counts, name, version), file_names = taken
     if 1 + sum(counts) != len(records):
         return None
     rows, names = {}, {"file": file_names}
@@ -1350,7 +1358,7 @@ def rows_in_records(data, records):
     # two's complement
     rows["points"] = [tuple(n - (1 << 32) if n >= 1 << 31 else n for n in row)
                       for row in rows["points"]]
-    return Network(name, version, date, **rows), names
+    return Network(name, version, b"", **rows), names
 
 
 def text_of_rows(rows):
@@ -1428,7 +1436,6 @@ def text_of_rows(rows):
     put(b"num_segments", len(rows.segments))
     put(b"num_zones", len(rows.zones))
     put_option(b"format_version", rows.version, b"")
-    put_option(b"creation_date", rows.date, b"")
     for s, (_, count, name) in enumerate(rows.segments, 1):
         put(b"segment", s)
         put(b"num_lanes", count)

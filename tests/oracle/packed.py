@@ -17,8 +17,8 @@ from yards import YARD_A, text
 
 # docs/PACKED.md, a record to a line
 FORM_A = bytes.fromhex("""
-01 00 00 00 6a
-00 2c 00 00 00 01 00 00 00 01 00 00 00 00 00 00 00 00 00 00 00 02 00 00 00 01 00 00 00 00 00 00 00 01 00 06 79 61 72 64 5f 61 00 00 00 00
+02 00 00 00 68
+00 2a 00 00 00 01 00 00 00 01 00 00 00 00 00 00 00 00 00 00 00 02 00 00 00 01 00 00 00 00 00 00 00 01 00 06 79 61 72 64 5f 61 00 00
 00 08 00 00 00 00 00 01 00 00
 00 0a 00 00 00 00 00 02 ff ff 00 00
 00 08 02 ae a5 40 fa 74 ee c0
@@ -92,8 +92,8 @@ end_file
 """.splitlines()
 
 FORM_Z = bytes.fromhex("""
-01 00000118
-002b 00000001 00000002 00000002 00000001 00000008 00000004 00000002 00000003 0001 7a 0003 312e30 0001 64
+02 00000115
+0028 00000001 00000002 00000002 00000001 00000008 00000004 00000002 00000003 0001 7a 0003 312e30
 000c 00000000 0002 0004 4d61696e
 000a 00000000 0002 000c 01 04
 000a 00000002 0001 ffff 00 00
@@ -118,22 +118,25 @@ FORM_Z = bytes.fromhex("""
 0008 00000001 00000003
 0008 00000004 00000000
 """)
+# As the version before L12 had them, with the date's name behind the version's.
+FORM_A_1 = bytes.fromhex("01 0000006a 002c") + FORM_A[7:49] + bytes(2) + FORM_A[49:]
+FORM_Z_1 = bytes.fromhex("01 00000118 002b") + FORM_Z[7:47] + bytes.fromhex("0001 64") + FORM_Z[47:]
 TABLES_Z = {
-    "segments": [0, 2, 60, 4], "lanes": [0, 2, 12, 1, 4, 2, 1, 65535, 0, 0],
-    "zones": [3, 2, 0, 1, 104, 3, 7, 1, 0, 0, 0, 0], "spots": [5, 9],
+    "segments": [0, 2, 57, 4], "lanes": [0, 2, 12, 1, 4, 2, 1, 65535, 0, 0],
+    "zones": [3, 2, 0, 1, 101, 3, 7, 1, 0, 0, 0, 0], "spots": [5, 9],
     "points": [45_000_000, -93_000_000, -500_000, 1, 0, -1, 1_000_000, 2_000_000,
                90_000_000, 180_000_000, -90_000_000, -180_000_000, 1_000_001, 2_000_001,
                3_000_000, 3_000_000],
     "checkpoints": [1, 1, 2, 0, 3, 2, 32768, 6], "stops": [1, 2],
     "exits": [1, 2, 1, 3, 4, 0],
 }
-FILE_Z = (41, 1, 44, 3, 49, 1)
+FILE_Z = (41, 1, 44, 3, 0, 0)           # L12: no date, though yard Z has one
 
 
 # ------------------------------------------------- records, whatever they say
 
 FIELDS = {
-    "file": (4,) * 8 + ("name",) * 3, "segments": (4, 2, "name"), "lanes": (4, 2, 2, 1, 1),
+    "file": (4,) * 8 + ("name",) * 2, "segments": (4, 2, "name"), "lanes": (4, 2, 2, 1, 1),
     "zones": (4, 2, 4, 2, "name"), "spots": (4, 2), "points": (4, 4),
     "checkpoints": (2, 4), "stops": (4,), "exits": (4, 4),
 }
@@ -142,7 +145,7 @@ COUNT = {table: k for k, table in enumerate(RNDF_TABLES)}      # where the file'
 
 def records_of(network):
     """The records as [table, values], to be changed; a name is bytes."""
-    records = [["file", [len(getattr(network, t)) for t in RNDF_TABLES] + [network.name, network.version, network.date]]]
+    records = [["file", [len(getattr(network, t)) for t in RNDF_TABLES] + [network.name, network.version]]]
     for t in RNDF_TABLES:
         records += [[t, list(row)] for row in getattr(network, t)]
     return records
@@ -162,11 +165,11 @@ def encoded(records):
     return out
 
 
-def assemble(records, version=1):
+def assemble(records, version=2):
     return framed(b"".join(encoded(records)), version)
 
 
-def framed(rest, version=1):
+def framed(rest, version=2):
     return struct.pack(">BI", version, len(rest)) + rest
 
 
@@ -182,7 +185,7 @@ def judged(data):
     """1, 27, 28 or 29, or 0 for some network's packed form."""
     if len(data) > 16_777_215:
         return 1
-    if data[:1] != b"\x01":
+    if data[:1] != b"\x02":
         return 27
     if data[1:5] != struct.pack(">I", max(0, len(data) - 5)):
         return 28
@@ -207,7 +210,7 @@ class NoRows(Exception):
 
 
 def rows(bodies):
-    """Counts, the file's three names, and each table's rows."""
+    """The file's two names, and each table's rows."""
     def fixed(body, layout):
         if len(body) != struct.calcsize(layout):
             raise NoRows
@@ -229,7 +232,7 @@ def rows(bodies):
         return tuple(got)
     if not bodies:
         raise NoRows
-    counts, names = (lambda f: (f[:8], f[8:]))(named(bodies[0], ">8I", 3))
+    counts, names = (lambda f: (f[:8], f[8:]))(named(bodies[0], ">8I", 2))
     if sum(counts) != len(bodies) - 1:
         raise NoRows
     at, tables = 1, []
@@ -254,10 +257,9 @@ def good_name(name):
 def rules(names, segments, lanes, zones, spots, points, checkpoints, stops, exits):
     """Document 01 and L8, rule by rule, on rows."""
     LANE, PERIMETER, SPOT_1, SPOT_2 = "lane", "perimeter", "spot's first", "spot's second"
-    name, version, date = names
+    name, version = names
     yield good_name(name)
     yield version == b"" or good_name(version)
-    yield date == b"" or good_name(date)
     yield len(segments) > 0
     yield len(segments) + len(zones) <= 32768
     # what each point is, and the place of its part in the file
@@ -371,7 +373,7 @@ def nothing_but_a_file():
 
 def no_segments():
     """One zone with one point, and no segment."""
-    return assemble([["file", [0, 0, 1, 0, 1, 0, 0, 0, b"y", b"", b""]], ["zones", [0, 1, 0, 0, b""]], ["points", [0, 0]]])
+    return assemble([["file", [0, 0, 1, 0, 1, 0, 0, 0, b"y", b""]], ["zones", [0, 1, 0, 0, b""]], ["points", [0, 0]]])
 
 
 PLAIN = (65535, 0, 0)       # a lane without width and boundaries
@@ -388,16 +390,26 @@ HAND = [
     ("yard Z", FORM_Z, 0),
     ("no bytes", b"", 27),
     ("version 0", with_bytes(FORM_A, 0, [0]), 27),
-    ("version 2", with_bytes(FORM_A, 0, [2]), 27),
-    ("version 2 alone", b"\x02", 27),
-    ("version alone", b"\x01", 28),
-    ("four bytes", b"\x01\0\0\0", 28),
-    ("no record", b"\x01\0\0\0\0", 29),
-    ("no record, and a length of 1", b"\x01\0\0\0\1", 28),
-    ("the first length one less", with_bytes(FORM_A, 4, [0x69]), 28),
-    ("the first length one more", with_bytes(FORM_A, 4, [0x6b]), 28),
+    ("version 3", with_bytes(FORM_A, 0, [3]), 27),
+    ("version 3 alone", b"\x03", 27),
+    ("version 255", with_bytes(FORM_A, 0, [255]), 27),
+    # L12: "bytes of version 1 give 27 from then on"
+    ("yard A as version 1 had it", FORM_A_1, 27),
+    ("yard Z as version 1 had it, with its date", FORM_Z_1, 27),
+    ("version 1, and no date", with_bytes(FORM_A, 0, [1]), 27),
+    ("version 1 alone", b"\x01", 27),
+    ("version 1, cut short", FORM_A_1[:-1], 27),
+    ("version 1, no record", b"\x01\0\0\0\0", 27),
+    ("version 2 with a missing date", with_bytes(FORM_A_1, 0, [2]), 29),
+    ("version 2 with a date", with_bytes(FORM_Z_1, 0, [2]), 29),
+    ("version alone", b"\x02", 28),
+    ("four bytes", b"\x02\0\0\0", 28),
+    ("no record", b"\x02\0\0\0\0", 29),
+    ("no record, and a length of 1", b"\x02\0\0\0\1", 28),
+    ("the first length one less", with_bytes(FORM_A, 4, [0x67]), 28),
+    ("the first length one more", with_bytes(FORM_A, 4, [0x69]), 28),
     ("the first length in its high byte", with_bytes(FORM_A, 1, [1]), 28),
-    ("the first length little endian", with_bytes(FORM_A, 1, [0x6a, 0, 0, 0]), 28),
+    ("the first length little endian", with_bytes(FORM_A, 1, [0x68, 0, 0, 0]), 28),
     ("a byte cut off", FORM_A[:-1], 28),
     ("a byte cut off, the first length to match", framed(FORM_A[5:-1]), 28),
     ("a lone byte behind", beyond(FORM_A, b"\0"), 28),
@@ -405,14 +417,14 @@ HAND = [
     ("an empty record behind", beyond(FORM_A, b"\0\0"), 29),
     ("a record of one byte behind", beyond(FORM_A, b"\0\1x"), 29),
     ("a record behind that runs past the end", beyond(FORM_A, b"\0\1"), 28),
-    ("a record more: the exit again", beyond(FORM_A, FORM_A[101:]), 29),
-    ("a record more, and it is counted", with_bytes(beyond(FORM_A, FORM_A[101:]), 38, [2]), 0),
-    ("the last record left out", framed(FORM_A[5:101]), 29),
-    ("the last record left out, and not counted", with_bytes(framed(FORM_A[5:101]), 38, [0]), 0),
+    ("a record more: the exit again", beyond(FORM_A, FORM_A[99:]), 29),
+    ("a record more, and it is counted", with_bytes(beyond(FORM_A, FORM_A[99:]), 38, [2]), 0),
+    ("the last record left out", framed(FORM_A[5:99]), 29),
+    ("the last record left out, and not counted", with_bytes(framed(FORM_A[5:99]), 38, [0]), 0),
     ("an empty record", framed(b"\0\0"), 29),
-    ("a record cut, the others whole: 28 before 29", with_bytes(FORM_A, 101, [0, 9]), 28),
-    ("29 before and 28 behind", with_bytes(with_bytes(FORM_A, 40, [0]), 102, [9]), 28),
-    ("a length that takes the next record in", with_bytes(FORM_A, 52, [8 + 12]), 29),
+    ("a record cut, the others whole: 28 before 29", with_bytes(FORM_A, 99, [0, 9]), 28),
+    ("29 before and 28 behind", with_bytes(with_bytes(FORM_A, 40, [0]), 100, [9]), 28),
+    ("a length that takes the next record in", with_bytes(FORM_A, 50, [8 + 12]), 29),
     ("name's length 0", with_bytes(FORM_A, 40, [0]), 29),
     ("no name", changed(A, ("file", 0, 8, b"")), 29),
     ("`*` in a name", with_bytes(FORM_A, 43, b"*"), 29),
@@ -427,27 +439,27 @@ HAND = [
     ("`!` and `~` in a name", with_bytes(FORM_A, 43, b"!~"), 0),
     ("`//` in a name", with_bytes(FORM_A, 43, b"//"), 0),
     ("a comment in a name", changed(A, ("file", 0, 8, b"a/**/")), 29),
-    ("lines in a name", changed(A, ("file", 0, 10, b"d\nsegment\t1")), 29),
+    ("lines in a name", changed(A, ("file", 0, 9, b"v\nsegment\t1")), 29),
+    ("a date in a version", changed(A, ("file", 0, 9, b"v\ncreation_date\td")), 29),
     ("a name of 128", changed(A, ("file", 0, 8, b"n" * 128)), 0),
     ("a name of 129", changed(A, ("file", 0, 8, b"n" * 129)), 29),
     ("a version of 128", changed(A, ("file", 0, 9, b"n" * 128)), 0),
     ("a version of 129", changed(A, ("file", 0, 9, b"n" * 129)), 29),
-    ("a date of 129", changed(A, ("file", 0, 10, b"n" * 129)), 29),
-    ("a date of 65,000", changed(A, ("file", 0, 10, b"n" * 65000)), 29),
+    ("a version of 65,000", changed(A, ("file", 0, 9, b"n" * 65000)), 29),
     ("a segment's name of 128", changed(Z, ("segments", 0, 2, b"n" * 128)), 0),
     ("a segment's name of 129", changed(Z, ("segments", 0, 2, b"n" * 129)), 29),
     ("a zone's name of 129", changed(Z, ("zones", 0, 4, b"n" * 129)), 29),
     ("a zone's name with `*`", changed(Z, ("zones", 0, 4, b"*")), 29),
     ("a segment's name goes", changed(Z, ("segments", 0, 2, b"")), 0),
-    ("width 40,000", with_bytes(FORM_A, 69, [0x9c, 0x40]), 29),
-    ("width 32,768", with_bytes(FORM_A, 69, [0x80, 0]), 0),
-    ("width 32,769", with_bytes(FORM_A, 69, [0x80, 1]), 29),
-    ("width 65,534", with_bytes(FORM_A, 69, [0xff, 0xfe]), 29),
-    ("width 0", with_bytes(FORM_A, 69, [0, 0]), 0),
-    ("left 4", with_bytes(FORM_A, 71, [4]), 0),
-    ("left 5", with_bytes(FORM_A, 71, [5]), 29),
-    ("right 5", with_bytes(FORM_A, 72, [5]), 29),
-    ("solid_yellow", with_bytes(FORM_A, 72, [2]), 0),
+    ("width 40,000", with_bytes(FORM_A, 67, [0x9c, 0x40]), 29),
+    ("width 32,768", with_bytes(FORM_A, 67, [0x80, 0]), 0),
+    ("width 32,769", with_bytes(FORM_A, 67, [0x80, 1]), 29),
+    ("width 65,534", with_bytes(FORM_A, 67, [0xff, 0xfe]), 29),
+    ("width 0", with_bytes(FORM_A, 67, [0, 0]), 0),
+    ("left 4", with_bytes(FORM_A, 69, [4]), 0),
+    ("left 5", with_bytes(FORM_A, 69, [5]), 29),
+    ("right 5", with_bytes(FORM_A, 70, [5]), 29),
+    ("solid_yellow", with_bytes(FORM_A, 70, [2]), 0),
     ("latitude 90,000,000", changed(A, ("points", 0, 0, 90_000_000)), 0),
     ("latitude 90,000,001", changed(A, ("points", 0, 0, 90_000_001)), 29),
     ("latitude -90,000,001", changed(A, ("points", 0, 0, -90_000_001)), 29),
@@ -456,27 +468,27 @@ HAND = [
     ("longitude -180,000,001", changed(A, ("points", 1, 1, -180_000_001)), 29),
     ("the largest latitude", changed(A, ("points", 0, 0, 2**31 - 1)), 29),
     ("the smallest latitude", changed(A, ("points", 0, 0, -2**31)), 29),
-    ("count of points 3", with_bytes(FORM_A, 68, [3]), 29),
-    ("count of points 1", with_bytes(FORM_A, 68, [1]), 29),
-    ("count of points 0", with_bytes(FORM_A, 68, [0]), 29),
+    ("count of points 3", with_bytes(FORM_A, 66, [3]), 29),
+    ("count of points 1", with_bytes(FORM_A, 66, [1]), 29),
+    ("count of points 0", with_bytes(FORM_A, 66, [0]), 29),
     ("rows of points 3", with_bytes(FORM_A, 26, [3]), 29),
     ("rows of points 1, of checkpoints 2", changed(A, ("file", 0, 4, 1), ("file", 0, 5, 2)), 29),
     ("rows of points 4,294,967,295", with_bytes(FORM_A, 23, [255] * 4), 29),
     ("rows that sum up by going round", changed(A, ("file", 0, 4, 2**32 - 1), ("file", 0, 5, 4)), 29),
-    ("first point 1", with_bytes(FORM_A, 66, [1]), 29),
-    ("first lane 1", with_bytes(FORM_A, 56, [1]), 29),
-    ("lanes 2", with_bytes(FORM_A, 58, [2]), 29),
-    ("lanes 0", with_bytes(FORM_A, 58, [0]), 29),
-    ("checkpoint number 0", with_bytes(FORM_A, 95, [0, 0]), 29),
-    ("checkpoint number 32,768", with_bytes(FORM_A, 95, [0x80, 0]), 0),
-    ("checkpoint number 32,769", with_bytes(FORM_A, 95, [0x80, 1]), 29),
+    ("first point 1", with_bytes(FORM_A, 64, [1]), 29),
+    ("first lane 1", with_bytes(FORM_A, 54, [1]), 29),
+    ("lanes 2", with_bytes(FORM_A, 56, [2]), 29),
+    ("lanes 0", with_bytes(FORM_A, 56, [0]), 29),
+    ("checkpoint number 0", with_bytes(FORM_A, 93, [0, 0]), 29),
+    ("checkpoint number 32,768", with_bytes(FORM_A, 93, [0x80, 0]), 0),
+    ("checkpoint number 32,769", with_bytes(FORM_A, 93, [0x80, 1]), 29),
     ("checkpoint number twice", changed(Z, ("checkpoints", 1, 0, 1)), 29),
     ("checkpoint number twice, far apart", changed(Z, ("checkpoints", 3, 0, 1)), 29),
-    ("checkpoint's point 0", with_bytes(FORM_A, 100, [0]), 0),
-    ("checkpoint's point 2", with_bytes(FORM_A, 100, [2]), 29),
-    ("checkpoint's point 4,294,967,295", with_bytes(FORM_A, 97, [255] * 4), 29),
-    ("entry 2 of two points", with_bytes(FORM_A, 110, [2]), 29),
-    ("entry 1", with_bytes(FORM_A, 110, [1]), 0),
+    ("checkpoint's point 0", with_bytes(FORM_A, 98, [0]), 0),
+    ("checkpoint's point 2", with_bytes(FORM_A, 98, [2]), 29),
+    ("checkpoint's point 4,294,967,295", with_bytes(FORM_A, 95, [255] * 4), 29),
+    ("entry 2 of two points", with_bytes(FORM_A, 108, [2]), 29),
+    ("entry 1", with_bytes(FORM_A, 108, [1]), 0),
     ("checkpoints of two lanes swapped", swapped(Z, "checkpoints", 1, 2), 29),
     ("checkpoints of one lane swapped", swapped(Z, "checkpoints", 0, 1), 0),
     ("checkpoints of a lane and a spot swapped", swapped(Z, "checkpoints", 2, 3), 29),
@@ -532,9 +544,9 @@ HAND = [
     ("segments 0", no_segments(), 29),
     ("rows of segments 0", with_bytes(FORM_A, 10, [0]), 29),
     ("nothing but a file's record", nothing_but_a_file(), 29),
-    ("the file's record a byte longer", framed(b"\0\x2d" + FORM_A[7:51] + b"\0" + FORM_A[51:]), 29),
-    ("a lane's record a byte longer", framed(FORM_A[5:61] + b"\0\x0b" + FORM_A[63:73] + b"\0" + FORM_A[73:]), 29),
-    ("a lane's record a byte shorter", framed(FORM_A[5:61] + b"\0\x09" + FORM_A[63:72] + FORM_A[73:]), 29),
+    ("the file's record a byte longer", framed(b"\0\x2b" + FORM_A[7:49] + b"\0" + FORM_A[49:]), 29),
+    ("a lane's record a byte longer", framed(FORM_A[5:59] + b"\0\x0b" + FORM_A[61:71] + b"\0" + FORM_A[71:]), 29),
+    ("a lane's record a byte shorter", framed(FORM_A[5:59] + b"\0\x09" + FORM_A[61:70] + FORM_A[71:]), 29),
     ("a name that takes in the next field", with_bytes(FORM_A, 40, [8]), 29),
     ("a name that runs past its record", with_bytes(FORM_A, 40, [200]), 29),
     ("a text", text(YARD_A), 27),
@@ -587,7 +599,7 @@ def points_form(lanes, points):
     out = [struct.pack(">HIHH", 8, 0, lanes, 0)]
     out += [struct.pack(">HIHHBB", 10, n * points, points, 65535, 0, 0) for n in range(lanes)]
     out += [struct.pack(">Hii", 8, -45_000_000 - p, -120_000_000 - p) for p in range(lanes * points)]
-    file = struct.pack(">8IH", 1, lanes, 0, 0, lanes * points, 0, 0, 0, 1) + b"p" + bytes(4)
+    file = struct.pack(">8IH", 1, lanes, 0, 0, lanes * points, 0, 0, 0, 1) + b"p" + bytes(2)
     return framed(struct.pack(">H", len(file)) + file + b"".join(out))
 
 
@@ -596,7 +608,7 @@ def largest_form(more=0):
     names of 128 bytes but for those that make it fit."""
     segments, lanes, points = [], [], 0
     names = 32768 * 128
-    spare = 16_777_215 + more - 5 - (40 + 1) - 32768 * (10 + 12) - names
+    spare = 16_777_215 + more - 5 - (38 + 1) - 32768 * (10 + 12) - names
     count, less = divmod(spare, 10)
     count, less = count + 1, 10 - less          # one point more, and as many bytes of names less
     for s in range(32768):
@@ -606,7 +618,7 @@ def largest_form(more=0):
         segments.append(struct.pack(">HIHH", 8 + 128 - cut, s, 1, 128 - cut) + b"n" * (128 - cut))
         lanes.append(struct.pack(">HIHHBB", 10, points, mine, 12, 1, 4))
         points += mine
-    file = struct.pack(">8IH", 32768, 32768, 0, 0, points, 0, 0, 0, 1) + b"l" + bytes(4)
+    file = struct.pack(">8IH", 32768, 32768, 0, 0, points, 0, 0, 0, 1) + b"l" + bytes(2)
     return framed(struct.pack(">H", len(file)) + file + b"".join(segments + lanes)
                   + struct.pack(">Hii", 8, -90_000_000, 180_000_000) * points)
 
@@ -822,6 +834,12 @@ def d_record_length(rng, records):
     records[k] = ["raw", [rng.choice([whole[:-1], whole + b"\0", whole[:at] + whole[at + 1:], whole[:at] + b"\0" + whole[at:], whole + whole, b""])]]
 
 
+def d_date(rng, records):
+    """L12: the file's record with a third name, as version 1 had it, missing or not."""
+    date = rng.choice([b"", b"", b"d", g.some_name(rng)])
+    records[0] = ["raw", [encoded(records)[0][2:] + struct.pack(">H", len(date)) + date]]
+
+
 def d_no_segment(rng, records):
     """Segments, their lanes and all marks go; zones without spots stay, with first rows to match."""
     gone = {"segments", "lanes", "spots", "checkpoints", "stops", "exits"}
@@ -839,7 +857,7 @@ def d_no_segment(rng, records):
 ROWS = [(d_number, 14), (d_first, 6), (d_first_spot, 5), (d_count, 8), (d_counts_shifted, 4), (d_border_moved, 8), (d_name, 14), (d_width, 9), (d_side, 7),
         (d_degrees, 12), (d_checkpoint_number, 9), (d_point_of_mark, 12), (d_exit, 10), (d_mark_more, 14), (d_spot_checkpoint, 12), (d_rows_swapped, 12),
         (d_column_swapped, 6), (d_row_dropped, 5), (d_row_doubled, 5), (d_record_moved, 3), (d_record_behind, 5), (d_records_cut, 3),
-        (d_record_length, 6), (d_no_segment, 2)]
+        (d_record_length, 6), (d_no_segment, 2), (d_date, 4)]
 
 
 def places_of_lengths(data):
@@ -885,7 +903,7 @@ def b_first_length(rng, data):
 
 
 def b_version(rng, data):
-    return bytes([rng.choice([0, 2, 3, 0x31, 0x81, 255])]) + data[1:]
+    return bytes([rng.choice([0, 1, 1, 3, 0x32, 0x82, 255])]) + data[1:]
 
 
 def b_cut(rng, data):
@@ -914,7 +932,7 @@ def b_byte_more_or_less(rng, data):
 def b_any(rng, data):
     """Bytes that were never a form's."""
     rest = bytes(rng.choice([0, 0, 0, 1, 2, rng.randrange(256)]) for _ in range(rng.randrange(60)))
-    return rng.choice([rest, b"\x01" + rest, framed(rest), framed(struct.pack(">H", len(rest)) + rest), b""])
+    return rng.choice([rest, b"\x02" + rest, framed(rest), framed(struct.pack(">H", len(rest)) + rest), b""])
 
 
 BYTES = [(b_bytes, 30), (b_one_byte, 30), (b_length, 8), (b_first_length, 4), (b_version, 5), (b_cut, 7), (b_cut_to_match, 6), (b_behind, 3), (b_behind_to_match, 5),
@@ -971,11 +989,14 @@ def one_byte_form(k):
 
 # Small mistakes in the oracle's packing and unpacking, each of which the damage run's forms notice (tests/damage/compare.py --mutants).
 MUTANTS = [
-    ("PACKED_VERSION = 1\n", "PACKED_VERSION = 2\n"),
+    ("PACKED_VERSION = 2\n", "PACKED_VERSION = 1\n"),
+    ("data[0] != PACKED_VERSION:", "data[0] not in (1, PACKED_VERSION):"),
+    ("data[0] != PACKED_VERSION:", "data[0] < PACKED_VERSION:"),
     ('"lanes": (4, 2, 2, 1, 1),\n    "zones"', '"lanes": (4, 2, 2, 1, 2),\n    "zones"'),
     ('len(value).to_bytes(2, "big") + value', 'len(value).to_bytes(2, "little") + value'),
     ('out.append(value.to_bytes(size, "big", signed=value < 0))', 'out.append(abs(value).to_bytes(size, "big"))'),
-    ('[network.name, network.version, network.date]\n    records', '[network.name, network.date, network.version]\n    records'),
+    ('[network.name, network.version]\n    records', '[network.name, network.date]\n    records'),
+    ('[network.name, network.version]\n    records', '[network.version, network.name]\n    records'),
     ('len(rest).to_bytes(4, "big") + rest', '(len(rest) + 5).to_bytes(4, "big") + rest'),
     ("        if len(data) > LARGEST_TEXT:\n            raise Refused(1, 0, 1)\n        # \"27", "        # \"27"),
     ("if len(data) == 0 or data[0] != PACKED_VERSION:", "if len(data) > 0 and data[0] != PACKED_VERSION:"),
@@ -992,13 +1013,14 @@ MUTANTS = [
     ("if rows_in(room[table], table) < len(getattr(network, table)):", "if False:"),
     ("if rows_in(room[table], table) < len(getattr(network, table)):", "if rows_in(room[table], table) < len(getattr(network, table)) - 1:"),
     ("row[:-1] + name for row, name in zip(rows[table], names[table])", "row[:-1] + (0, 0) for row in rows[table]"),
-    ("        reply.file = names[\"file\"]\n", "        reply.file = names[\"file\"][:2] + (0,) * 4\n"),
+    ("        reply.file = names[\"file\"] + MISSING_NAME\n", "        reply.file = names[\"file\"][:2] + (0,) * 4\n"),
+    ("        reply.file = names[\"file\"] + MISSING_NAME\n", "        reply.file = names[\"file\"] * 2\n"),
     ("pack(network_of(reply, text)), 1,", "pack(network_of(reply, text)), 0,"),
 ]
 
 # Small mistakes in the rules above: each lets something through that is no network's, or refuses one that is. The forms notice each.
 RULES_LOST = [
-    "    yield good_name(name)\n", "    yield version == b\"\" or good_name(version)\n", "    yield date == b\"\" or good_name(date)\n", "    yield len(segments) > 0\n",
+    "    yield good_name(name)\n", "    yield version == b\"\" or good_name(version)\n", "    yield len(segments) > 0\n",
     "        yield first == next_lane\n", "        yield first == len(kind)\n", "        yield label == b\"\" or good_name(label)\n", "        yield 1 <= count <= 32768\n", "    yield next_lane == len(lanes)\n",
     "        yield width <= 32768 or width == 65535\n", "        yield left <= 4\n", "        yield right <= 4\n",
     "        yield first_spot == (next_spot if number > 0 else 0)\n", "            yield spots[row][0] == len(kind)\n",

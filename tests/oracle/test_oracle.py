@@ -24,7 +24,7 @@ from oracle import (RNDF_TABLES, STRIDE, TABLES, drive, house_mdf, house_rndf, l
                     mission_of, name_of, network_of, points_of, read_pair,
                     read_rndf, summary, write_map, write_mdf, write_rndf)
 from yards import (MDF_STATEMENTS, MISSION_B, RNDF_STATEMENTS, ROUND_1, YARD_A,
-                   YARD_B, YARD_C, ins, put, text)
+                   YARD_B, YARD_C, cut, ins, put, text)
 
 WIDE = {t: 50 * STRIDE[t] for t in TABLES}
 SLOW = "--slow" in sys.argv
@@ -105,9 +105,10 @@ class Document01(unittest.TestCase):
         self.assertEqual(net.checkpoints, [(1, 1), (2, 2), (31, 10), (32, 12)])
         self.assertEqual(net.stops, [(2,), (5,)])
         self.assertEqual(net.exits, [(2, 5), (2, 7), (4, 0), (6, 3), (8, 5)])
-        self.assertEqual(house_rndf(net), r)        # it is house writing
-        self.assertEqual(house_mdf(mission_of(reply, text(MISSION_B))),
-                         text(MISSION_B))
+        # it is house writing but for its date (L12)
+        self.assertEqual((net.date, house_rndf(net)), (b"14-Mar-07", text(cut(YARD_B, 5))))
+        mission = mission_of(reply, text(MISSION_B))
+        self.assertEqual((mission.date, house_mdf(mission)), (b"15-Mar-07", text(cut(MISSION_B, 4))))
 
     def test_easy_to_get_wrong(self):
         r = text(put(YARD_A, 10, "1.1.1>-0.500000>-0.000000"))
@@ -236,6 +237,37 @@ class Parts(unittest.TestCase):
             for edition in (0, 2, 3, 257, 4_294_967_295):
                 self.assertTrue(part(edition).accepted)
         self.assertEqual(summary(r, m), "ok 1 0 1 2 0 1 0 1 1 1")
+
+    def test_no_date(self):
+        """L12: "Texts that still have it are accepted and the table still shows it, in
+        both files; the house writing and the packed form leave it out."  "a second date
+        is 6, as before"."""
+        r, m = text(YARD_A), text(ROUND_1)
+        for date in ("d", "-0.000000", "creation_date", "n" * 128):
+            for k, (before, behind) in enumerate((((), ()), (("format_version>1",), ()), ((), ("format_version>1",)))):
+                rndf = text(ins(YARD_A, 4, *before, "creation_date>" + date, *behind))
+                mdf = text(ins(ROUND_1, 3, *before, "> creation_date>" + date + "/* d */", *behind), "\r\n")
+                reply = read_pair(rndf, mdf, WIDE)
+                self.assertEqual((network_of(reply, rndf).date, mission_of(reply, mdf).date), (date.encode(),) * 2)
+                self.assertEqual(reply.file[4:], (rndf.index(b"creation_date") + 14, len(date)))
+                self.assertEqual(reply.mission[6:], (mdf.index(b"creation_date") + 14, len(date)))
+                plain, plain_m = (r, m) if k == 0 else (text(ins(YARD_A, 4, "format_version>1")), text(ins(ROUND_1, 3, "format_version>1")))
+                # an output that fits only without the date, and a byte less
+                self.assertEqual(write_rndf(rndf, WIDE, len(plain)).output, plain)
+                self.assertEqual(write_rndf(rndf, WIDE, len(plain) - 1).refusal, (1, 0, 19, 0))
+                self.assertEqual(write_mdf(rndf, mdf, WIDE, len(plain_m)).output, plain_m)
+                self.assertEqual(write_mdf(rndf, mdf, WIDE, len(plain_m) - 1).refusal, (2, 0, 19, 0))
+                # the tables are the reader's, the date among them
+                self.assertEqual(write_mdf(rndf, mdf, WIDE, 999).reply.mission, reply.mission)
+                self.assertEqual(write_rndf(rndf, WIDE, 999).reply.file, reply.file)
+                self.assertEqual(oracle.write_packed(rndf, WIDE, 999).reply.file, reply.file)
+                self.assertEqual(oracle.write_packed(rndf, WIDE, 999).output, oracle.write_packed(plain, WIDE, 999).output)
+            again = text(ins(YARD_A, 4, "creation_date>" + date, "creation_date>" + date))
+            again_m = text(ins(ROUND_1, 3, "creation_date>" + date, "creation_date>" + date))
+            for part in (lambda: read_rndf(again, WIDE), lambda: write_rndf(again, WIDE, 999), lambda: oracle.write_packed(again, WIDE, 999)):
+                self.assertEqual(part().refusal, (1, 5, 6, 1))
+            self.assertEqual(read_pair(r, again_m, WIDE).refusal, (2, 4, 6, 1))
+            self.assertEqual(write_mdf(r, again_m, WIDE, 999).refusal, (2, 4, 6, 1))
 
     def test_house_order(self):
         mixed = text(YARD_A[:7] + [
@@ -468,7 +500,7 @@ class Packed(unittest.TestCase):
             room = packed.rows_needed(form)
             reply = oracle.unpack(form, room)
             self.assertEqual((reply.tables, reply.file, reply.used), (tables, file, before.used))
-            self.assertEqual(network_of(reply, form), network)
+            self.assertEqual(network_of(reply, form), network.undated())
             # numbers left over, and rows not used, are zero
             for more in (1, 7):
                 reply = oracle.unpack(form, {t: n + more for t, n in room.items()})
@@ -486,7 +518,7 @@ class Packed(unittest.TestCase):
                 self.assertEqual((got.refusal, got.output), ((1, 0, 19, 0), bytes(out)))
                 self.assertEqual(got.tables, {t: [0] * WIDE[t] for t in RNDF_TABLES})
             self.assertEqual(oracle.write_packed(r, dict(WIDE, points=3), 0).refusal, (1, 0, 11, 0))
-        self.assertEqual((len(packed.FORM_A), len(text(YARD_A)), len(packed.FORM_Z)), (111, 211, 285))
+        self.assertEqual((len(packed.FORM_A), len(text(YARD_A)), len(packed.FORM_Z)), (109, 211, 282))
         self.assertEqual(oracle.write_packed(b"", WIDE, 0).refusal, (1, 1, 10, 0))
         older = oracle.write_packed(text(ins(YARD_A, 8, "left_boundary>solid_yellow")), WIDE, 0, oracle.DECEMBER_2006)
         self.assertEqual(older.refusal, (1, 8, 8, 15))
@@ -514,6 +546,7 @@ class Packed(unittest.TestCase):
                 self.assertEqual(self.answer(data, wide), 0)
                 self.assertTrue(any(room[t] < n for t, n in packed.rows_needed(data).items()))
             if got == 0:
+                self.assertEqual(oracle.unpack(data, room).file[4:], (0, 0))
                 network = network_of(oracle.unpack(data, room), data)
                 self.assertEqual(oracle.pack(network), data)
                 house = house_rndf(network)
@@ -526,7 +559,7 @@ class Packed(unittest.TestCase):
 
     def test_there_and_back(self):
         """The generator's networks: packed from their texts, one form for one
-        network, and unpacked as the same network."""
+        network, and unpacked as the same network but for its date (L12)."""
         rng = random.Random(17)
         forms = {}
         for _ in range(300):
@@ -536,8 +569,8 @@ class Packed(unittest.TestCase):
             form = done.output[:done.written]
             self.assertEqual(form, packed.assemble(packed.records_of(made.network)))
             reply = oracle.unpack(form, packed.rows_needed(form))
-            self.assertEqual(network_of(reply, form), made.network)
-            self.assertEqual(forms.setdefault(form, made.network), made.network)
+            self.assertEqual(network_of(reply, form), made.network.undated())
+            self.assertEqual(forms.setdefault(form, made.network).undated(), made.network.undated())
 
     def test_many(self):
         for which, n in packed.MANY:
@@ -653,16 +686,17 @@ class RandomNetworks(unittest.TestCase):
             for t in TABLES:
                 self.assertEqual(reply.tables[t][rows[t] * STRIDE[t]:],
                                  [0] * (room[t] - rows[t] * STRIDE[t]))
-            # house writing: reads as the same, and is its own house writing
-            # but for the order of kinds
+            # house writing: reads as the same "but for a missing date" (L12), and is
+            # its own house writing but for the order of kinds
             house, house_m = house_rndf(made.network), house_mdf(made.mission)
-            for line in house.split(b"\n")[:-1]:
+            for line in (house + house_m).split(b"\n")[:-1]:
                 self.assertNotIn(b"/*", line)
+                self.assertNotEqual(line.split()[0], b"creation_date")
                 self.assertEqual(line, b"\t".join(line.split()))
             again = read_pair(house, house_m, room)
             self.assertTrue(again.accepted)
-            self.assertEqual(network_of(again, house), made.network)
-            self.assertEqual(mission_of(again, house_m), made.mission)
+            self.assertEqual(network_of(again, house), made.network.undated())
+            self.assertEqual(mission_of(again, house_m), made.mission.undated())
             self.assertEqual(write_rndf(house, room, len(house)).output, house)
             self.assertEqual(write_mdf(r, m, room, len(house_m)).output, house_m)
             self.assertEqual(write_rndf(r, room, len(house) - 1).refusal, (1, 0, 19, 0))
