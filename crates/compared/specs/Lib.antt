@@ -1,0 +1,2 @@
+-- Two writings compared.
+pub mod Compared
