@@ -1,0 +1,4 @@
+-- What is promised of house writings.
+pub mod Filed
+-- Worked pairs.
+pub mod Pairs
