@@ -1,7 +1,8 @@
 #!/usr/bin/env python3
 """Compares the library with the oracle on pairs of texts, well-formed and damaged (tests/damage.sh builds everything and runs this).
 
-    compare.py PROGRAM COUNT SEED [SORT]    PROGRAM is tests/damage/reader.c, compiled; COUNT pairs, in blocks that each have their own generator; with a SORT (pairs, maps, routes, missions, packed, ends, packed-bytes) only that one
+    compare.py PROGRAM COUNT SEED [SORT]    PROGRAM is tests/damage/reader.c, compiled; COUNT pairs, in blocks that each have their own generator; with a SORT (pairs, maps, routes, missions, packed, same, ends, packed-bytes) only that one
+    compare.py --oracle COUNT SEED [SORT]   no library: the oracle stands in for it, so that what is held to each other here (the two writings of twins, a writing written again) is held for the oracle alone
     compare.py --judgements COUNT SEED [SORT]   no library: does the oracle judge packed forms as the second judgement of tests/oracle/packed.py does?
     compare.py --mutants COUNT SEED [SORT]  no library: do the cases notice each small mistake of tests/oracle/mutate.py (and maps.py, routes.py, missions.py, packed.py) in a copy of the oracle?
 
@@ -27,12 +28,17 @@ references; bytes, lengths, ends), and a quarter as many RNDFs are packed, with 
 was unpacked, damaged or not, is packed again by the oracle from the program's answer and has to give the same bytes; what was packed is unpacked by the oracle as the same network but for its creation date (request L12). Every prefix and every change of
 one byte of two yards' forms, each with tables for it and with fewer, are unpacked where SORT is `packed-bytes`.
 
+Twins (request L14): half as many pairs of texts as COUNT, every second one two RNDFs, the others two MDFs, each with an RNDF of its own; spellings of one network or mission, or of near ones (tests/damage/same.py). The
+library writes both, each in an edition of its own where the older one accepts it too. Their writings have to be equal exactly where the oracle says from the tables that they are the same yard or mission (oracle.same_yard,
+oracle.same_mission), and that has to be what the generator knows; what was written is written again by the library, a mission half of the time with its RNDF's house writing, and has to give the same bytes, row counts
+and whole output. Counted by kind of change: same, not the same, and not both written.
+
 Line ends (only where SORT is `ends`): COUNT RNDFs with every end that a line can have, of up to so many signs of comments, separators and line ends (pairs.py, end_case).
 
 Every second pair, every fourth RNDF alone and half of the maps, routes, missions and packings are judged in the edition of December 6, 2006 (request L10), whose number is 1; the present one has any
 other number.
 
-A case for the program, little endian: 1 byte mode (1 RNDF alone, 2 pair, 3 map, 4 route, 5 mission, 8 packing, 9 unpacking: the bytes stand in place of the RNDF); the edition (4 bytes); both texts' lengths (8 bytes each) and how many bytes of each are given (4 each); the ten
+A case for the program, little endian: 1 byte mode (1 RNDF alone, 2 pair, 3 map, 4 route, 5 mission, 6 RNDF's house writing, 7 MDF's, 8 packing, 9 unpacking: the bytes stand in place of the RNDF); the edition (4 bytes); both texts' lengths (8 bytes each) and how many bytes of each are given (4 each); the ten
 tables' lengths and the output's (4 each); the start and how many points the route has, or words the work space (4 each); both texts' bytes; the route's points (4 each). Its answer: kastepuhm_write_answer (30 words: the column stands behind the number), the lent tables' words, the output's bytes, one word that is 0 if nothing else was written.
 """
 import array
@@ -48,6 +54,7 @@ sys.dont_write_bytecode = True
 import pairs                        # noqa: E402
 import maps                         # noqa: E402  (tests/oracle, by way of pairs)
 import packed                       # noqa: E402
+import same                         # noqa: E402
 from pairs import g, oracle         # noqa: E402
 
 ROOT = os.path.dirname(os.path.dirname(os.path.dirname(os.path.abspath(__file__))))
@@ -59,9 +66,12 @@ REQUESTED = ["9 of L8", "8 of L10", "9 of L10"]     # those that a request gives
 LIKE = ["led", "comment", "several", "field 1", "field 2", "field 3"]
 MOST_KEPT = 20                      # cases that differ, of a block
 RNDF_ALONE, PAIR, MAP, ROUTE, MISSION = 1, 2, 3, 4, 5
+WRITE_RNDF, WRITE_MDF = 6, 7        # the house writing; request L14
 PACKING, UNPACKING = 8, 9           # request L11
+STAND_IN = oracle                   # for the program, where it is `--oracle`
+VERDICTS = ["same", "not the same", "not both written"]
 OLDER = 16                          # added to a mode: in the edition of December 6, 2006
-LABELS = {PAIR: "pair", RNDF_ALONE: "RNDF alone", MAP: "map", ROUTE: "route", MISSION: "mission", PACKING: "packing", UNPACKING: "unpacking"}
+LABELS = {PAIR: "pair", RNDF_ALONE: "RNDF alone", MAP: "map", ROUTE: "route", MISSION: "mission", WRITE_RNDF: "writing", WRITE_MDF: "mission's writing", PACKING: "packing", UNPACKING: "unpacking"}
 OF_PACKED = [(PACKING, n) for n in (11, 19)] + [(UNPACKING, n) for n in (1, 11, 27, 28, 29)]    # those that have to come
 HEAD = struct.Struct("<30I")        # kastepuhm_write_answer
 ROWS = ["segments", "lanes", "zones", "spots", "points", "checkpoints", "stops", "exits", "goals", "limits"]
@@ -118,8 +128,19 @@ def packed_bytes_of(rng, number, count):
     return [(UNPACKING, pairs.one_byte_case(*packed.one_byte_form(k // 2), k)) for k in range(first, min(first + count, 2 * packed.ONE_BYTE_FORMS))]
 
 
-SORTS = {"pairs": pairs_of, "maps": maps_of, "routes": routes_of, "missions": missions_of, "packed": packed_of, "ends": ends_of, "packed-bytes": packed_bytes_of}
-USUAL = ["pairs", "maps", "routes", "missions", "packed"]     # those that are run if none is named
+def same_of(rng, number, count):
+    """Twins, RNDFs and missions in turn: two texts each, one behind the other; now and then RNDFs of the largest counts."""
+    out = []
+    for k in range(count // 2):
+        mode, twin = ((WRITE_RNDF, same.twin), (WRITE_MDF, same.mission_twin))[k % 2]
+        out += [(mode | OLDER * older, case) for older, case in twin(rng)]
+    if number % 40 == 0 and count == BLOCK:
+        out += [(WRITE_RNDF | OLDER * older, case) for older, case in same.wide_twin(rng)]
+    return out
+
+
+SORTS = {"pairs": pairs_of, "maps": maps_of, "routes": routes_of, "missions": missions_of, "packed": packed_of, "same": same_of, "ends": ends_of, "packed-bytes": packed_bytes_of}
+USUAL = ["pairs", "maps", "routes", "missions", "packed", "same"]     # those that are run if none is named
 
 
 def block_of(seed, number, count, sorts):
@@ -127,10 +148,12 @@ def block_of(seed, number, count, sorts):
     out = []
     for sort in sorts:
         rng = random.Random("%s %d %d" % (sort.replace("pairs", "damage"), seed, number))    # the pairs are those of before there were sorts
-        cases = [(mode, pairs.aged(case) if mode & OLDER and rng.random() < 0.75 else case) for mode, case in SORTS[sort](rng, number, count)]
+        cases = [(mode, pairs.aged(case) if mode & OLDER and sort != "same" and rng.random() < 0.75 else case) for mode, case in SORTS[sort](rng, number, count)]
         for mode, case in cases:
             if kind_of(mode) in (MAP, PACKING):
                 lend_output(rng, mode, case)
+            elif kind_of(mode) in (WRITE_RNDF, WRITE_MDF):
+                lend_for_writing(rng, mode, case)
         out += cases
     return out
 
@@ -140,6 +163,13 @@ def lend_output(rng, mode, case):
     reply = oracle.read_rndf(said(case.rndf, case.rndf_length), case.room)
     size = len((oracle.geojson if kind_of(mode) == MAP else oracle.pack)(oracle.network_of(reply, case.rndf))) if reply.accepted else 100
     case.out = max(0, min(size, oracle.LARGEST_TEXT + 5) + rng.choice([0, 0, 0, 0, 0, 0, 1, 1, 2, 3, 7, 300, -1, -1, -size // 2, -size]))
+
+
+def lend_for_writing(rng, mode, case):
+    """As many bytes as the house writing has, or some more; now and then one too few."""
+    case.out = len(case.rndf) + len(case.mdf) + 1           # a writing is at most a byte longer than its text
+    size = judge(oracle, kind_of(mode), case)[1] or 100
+    case.out = size + rng.choice([0] * 12 + [1, 1, 2, 7, 300, -1])
 
 
 def said(text, length):
@@ -162,6 +192,9 @@ def judge(reader, mode, case):
     if kind_of(mode) in (MAP, PACKING):
         done = (reader.write_map if kind_of(mode) == MAP else reader.write_packed)(rndf, case.room, case.out, edition)
         return done.reply, done.written or 0, done.output
+    if kind_of(mode) in (WRITE_RNDF, WRITE_MDF):
+        done = reader.write_rndf(rndf, case.room, case.out, edition) if kind_of(mode) == WRITE_RNDF else reader.write_mdf(rndf, mdf, case.room, case.out, edition)
+        return done.reply, done.written or 0, done.output
     if kind_of(mode) == UNPACKING:
         return reader.unpack(rndf, case.room), 0, b""
     if kind_of(mode) == ROUTE:
@@ -172,7 +205,7 @@ def judge(reader, mode, case):
 
 
 def has_mdf(mode):
-    return kind_of(mode) in (PAIR, ROUTE, MISSION)
+    return kind_of(mode) in (PAIR, ROUTE, MISSION, WRITE_MDF)
 
 
 def lent(mode, case):
@@ -180,7 +213,7 @@ def lent(mode, case):
 
 
 def lent_output(mode, case):
-    return case.out if kind_of(mode) in (MAP, PACKING) else 0
+    return case.out if kind_of(mode) in (MAP, PACKING, WRITE_RNDF, WRITE_MDF) else 0
 
 
 def answer_size(mode, case):
@@ -227,6 +260,8 @@ def shown(answer, mode, case):
 
 def answers(program, cases):
     """What the library answers to each; a case at which the program ends gets none, and the rest are run again."""
+    if program == "--oracle":
+        return [words(judge(STAND_IN, *c), *c) for c in cases]
     out, rest = [], cases
     while rest:
         done = subprocess.run([program], input=b"".join(encode(*c) for c in rest), stdout=subprocess.PIPE, check=False).stdout
@@ -314,6 +349,52 @@ def packed_said(judged, mode, case, got):
     return wrong, count
 
 
+def output_in(answer, mode, case):
+    """The whole output of a program's answer."""
+    return answer[len(answer) - 4 - lent_output(mode, case):len(answer) - 4]
+
+
+def writings_again(cases, gots):
+    """What was written, to be written again: into an output of the same length, in the same edition or the present one; a mission with its RNDF or that one's house writing."""
+    out = []
+    for k, ((mode, case), got) in enumerate(zip(cases, gots)):
+        if kind_of(mode) not in (WRITE_RNDF, WRITE_MDF) or len(got) != answer_size(mode, case) or HEAD.unpack_from(got)[0] != 1:
+            continue
+        writing = output_in(got, mode, case)[:HEAD.unpack_from(got)[29]]
+        rndf, mdf = (writing, b"") if kind_of(mode) == WRITE_RNDF else (case.rndf, writing)
+        if kind_of(mode) == WRITE_MDF and k % 4 < 2:
+            rndf = oracle.house_rndf(oracle.network_of(oracle.read_rndf(rndf, case.room), rndf))
+        again = pairs.text_case(rndf, mdf, case.room, ["written again"])
+        again.out, again.same = case.out, None
+        out.append((k, (mode if k % 3 else kind_of(mode), again)))
+    return out
+
+
+def written_alike(got, other):
+    """Whether two answers have the same bytes, row counts and whole output: (mode, case, answer) each."""
+    (mode, case, answer), (other_mode, other_case, other_answer) = got, other
+    if len(answer) != answer_size(mode, case) or len(other_answer) != answer_size(other_mode, other_case):
+        return False
+    head, other_head = HEAD.unpack_from(answer), HEAD.unpack_from(other_answer)
+    return head[0] == other_head[0] == 1 and head[5:15] == other_head[5:15] and head[29] == other_head[29] and output_in(answer, mode, case) == output_in(other_answer, other_mode, other_case)
+
+
+def twins_said(first, second):
+    """What is wrong with the writings of two texts, and whether they are the same yard ('same', 'not the same', or 'not both written'). Each is (mode, case, the oracle's judgement, the program's answer)."""
+    (mode, case, judged, got), (other_mode, other, other_judged, other_got) = first, second
+    if not (judged[0].accepted and other_judged[0].accepted):
+        return [], "not both written"
+    if kind_of(mode) == WRITE_RNDF:
+        alike = oracle.same_yard(judged[0], case.rndf, other_judged[0], other.rndf)
+    else:
+        alike = oracle.same_mission(judged[0], case.mdf, other_judged[0], other.mdf)
+    wrong = [] if alike == other.same else ["by construction %s, by the oracle %s" % (other.same, alike)]
+    written, other_written = (output_in(answer, m, c)[:HEAD.unpack_from(answer)[29]] if len(answer) == answer_size(m, c) else None for m, c, answer in ((mode, case, got), (other_mode, other, other_got)))
+    if written is None or other_written is None or (written == other_written) != alike:
+        wrong.append("%s by the oracle, and their writings are %s" % ("the same" if alike else "not the same", "equal" if written == other_written else "not equal"))
+    return wrong, "same" if alike else "not the same"
+
+
 def requested(refusal, rndf):
     """Whether this is the 9 of a spot's checkpoint on waypoint 1 (request L8), or the 8 or 9 of the older edition (L10)."""
     if refusal[0] != 1 or refusal[2] not in (8, 9):
@@ -364,11 +445,16 @@ def line_like(refusal, case):
 
 
 def run_block(job):
-    """Counts by reply, by kind of damage, by shape on the maps, by column of a refusal and by what its line is like, and what differs."""
+    """Counts by reply, by kind of damage, by shape on the maps, by column of a refusal and by what its line is like, of twins by kind of change, and what differs."""
     program, seed, number, count, sorts = job
     cases = block_of(seed, number, count, sorts)
-    replies, kinds, shapes, columns, differing = {}, {}, {}, {}, []
-    for k, ((mode, case), got) in enumerate(zip(cases, answers(program, cases))):
+    gots = answers(program, cases)
+    again = writings_again(cases, gots)
+    first_of = {len(cases) + i: k for i, (k, _) in enumerate(again)}
+    cases = cases + [case for _, case in again]
+    gots = gots + answers(program, [case for _, case in again])
+    replies, kinds, shapes, columns, twins, differing, before = {}, {}, {}, {}, {}, [], None
+    for k, ((mode, case), got) in enumerate(zip(cases, gots)):
         judged = judge(oracle, mode, case)
         reply = judged[0]
         want = words(judged, mode, case)
@@ -388,14 +474,27 @@ def run_block(job):
             shapes[shape] = shapes.get(shape, 0) + n
         if want != got:
             differing.append(keep(seed, number, k, mode, case, want, got) if len(differing) < MOST_KEPT else "DIFFERS")
+        if kind_of(mode) in (WRITE_RNDF, WRITE_MDF):
+            wrong = []
+            if k in first_of:
+                if not written_alike((*cases[first_of[k]], gots[first_of[k]]), (mode, case, got)):
+                    wrong = ["case %d written again is not written alike" % first_of[k]]
+            elif case.same is not None:
+                wrong, verdict = twins_said(before, (mode, case, judged, got))
+                for kind in [" all", *case.kinds]:          # once for all, and under each way in which it came about
+                    key = LABELS[kind_of(mode)], kind, verdict
+                    twins[key] = twins.get(key, 0) + 1
+            before = mode, case, judged, got
+            if wrong:
+                differing.append("DIFFERS by writing, case %d of block %d (%s): %s" % (k, number, ", ".join(case.kinds), "; ".join(wrong)))
         if by_json:
             differing.append("DIFFERS by json, case %d of block %d: %s" % (k, number, "; ".join(by_json)[:300]))
         if by_packing:
             differing.append("DIFFERS by packing or unpacking, case %d of block %d (%s): %s" % (k, number, ", ".join(case.kinds), "; ".join(by_packing)[:300]))
-    return replies, kinds, shapes, columns, differing
+    return replies, kinds, shapes, columns, twins, differing
 
 
-def print_counts(replies, kinds, shapes, columns):
+def print_counts(replies, kinds, shapes, columns, twins):
     def of(mode, key):
         return replies.get((mode, key), 0)
     for older, edition in (0, "present edition"), (OLDER, "December 6, 2006"):
@@ -422,16 +521,20 @@ def print_counts(replies, kinds, shapes, columns):
     print("\n%-40s %8s" % ("on the maps, and of packed forms", "came"))
     for shape, n in sorted(shapes.items()):
         print("%-40s %8d" % (shape, n))
+    for label, what in (LABELS[WRITE_RNDF], "twins: RNDFs"), (LABELS[WRITE_MDF], "twins: missions"):
+        print("\n%-44s %8s %8s %8s" % (what + ", by how the second came about", "same", "not", "not both written"))
+        for kind in sorted({kind for one, kind, _ in twins if one == label}):
+            print("%-44s %8d %8d %8d" % (kind, *(twins.get((label, kind, verdict), 0) for verdict in VERDICTS)))
 
 
 def compare(program, count, seed, sorts):
     jobs = [(program, seed, b, min(BLOCK, count - b * BLOCK), sorts) for b in range(-(-count // BLOCK))]
-    replies, kinds, shapes, columns, differing, done = {}, {}, {}, {}, 0, 0
+    replies, kinds, shapes, columns, twins, differing, done = {}, {}, {}, {}, {}, 0, 0
     with multiprocessing.Pool(len(os.sched_getaffinity(0))) as pool:
-        for more, more_kinds, more_shapes, more_columns, lines in pool.imap_unordered(run_block, jobs):
+        for more, more_kinds, more_shapes, more_columns, more_twins, lines in pool.imap_unordered(run_block, jobs):
             for key, n in more.items():
                 replies[key] = replies.get(key, 0) + n
-            for counted, more_counted in (shapes, more_shapes), (columns, more_columns):
+            for counted, more_counted in (shapes, more_shapes), (columns, more_columns), (twins, more_twins):
                 for key, n in more_counted.items():
                     counted[key] = counted.get(key, 0) + n
             for kind, (drawn, taken) in more_kinds.items():
@@ -442,7 +545,7 @@ def compare(program, count, seed, sorts):
             done += 1
             if done % 40 == 0:
                 print("%d of %d blocks" % (done, len(jobs)), file=sys.stderr, flush=True)
-    print_counts(replies, kinds, shapes, columns)
+    print_counts(replies, kinds, shapes, columns, twins)
     missing = [n for n in NUMBERS if not any(key != "ok" and key[1] == n for _, key in replies)]
     missing += ["%d in a line led by tabs or spaces" % n for n in OF_A_LINE if not columns.get((n, "led"))]
     missing += [which for which in REQUESTED if not any(one == which for one, _ in columns)]
@@ -450,13 +553,16 @@ def compare(program, count, seed, sorts):
     missing += ["%d with file 0" % n for n in (11, 30, 31) if "missions" in sorts and not any(key == (0, n) for _, key in replies)]
     if "packed" in sorts:
         missing += ["%d of %s" % (n, LABELS[mode]) for mode, n in OF_PACKED if not any(kind_of(one) == mode and key[1:] == (n,) for one, key in replies)]
+    if "same" in sorts:
+        missing += ["a %s that is %s" % (label, verdict) for label in (LABELS[WRITE_RNDF], LABELS[WRITE_MDF]) for verdict in VERDICTS if not any(key[::2] == (label, verdict) for key in twins)]
     if missing:
         print("never came: " + ", ".join(map(str, missing)))
     counts = [sum(n for (mode, _), n in replies.items() if kind_of(mode) == one) for one in (PAIR, RNDF_ALONE, ROUTE, MISSION, MAP)]
     counts += [sum(replies.get((mode, "ok"), 0) for mode in (MAP, MAP | OLDER)), sum(n for (mode, _), n in replies.items() if mode & OLDER)]
     forms = [sum(n for (mode, key), n in replies.items() if kind_of(mode) == one and key in keys) for one in (PACKING, UNPACKING) for keys in ({key for _, key in replies}, {"ok"})]
-    print("\nseed %d: %d pairs, %d RNDFs alone, %d routes, %d missions and %d maps (%d written), %d packings (%d packed) and %d unpackings (%d unpacked), %d of them in the older edition, %d differ"
-          % (seed, *counts[:6], *forms, counts[6], differing))
+    written = [sum(n for (mode, key), n in replies.items() if kind_of(mode) in (WRITE_RNDF, WRITE_MDF) and key in keys) for keys in ({key for _, key in replies}, {"ok"})]
+    print("\nseed %d: %d pairs, %d RNDFs alone, %d routes, %d missions and %d maps (%d written), %d packings (%d packed) and %d unpackings (%d unpacked), %d writings (%d written), %d of them in the older edition, %d differ"
+          % (seed, *counts[:6], *forms, *written, counts[6], differing))
     return 1 if differing or missing else 0
 
 
@@ -500,6 +606,13 @@ def judgements(count, seed, sorts):
     return 1 if differing else 0
 
 
+def writers_mistakes():
+    """Those of tests/writer_vectors.py."""
+    sys.path.insert(0, os.path.join(ROOT, "tests"))
+    import writer_vectors
+    return writer_vectors.MUTANTS
+
+
 def mutants(count, seed, sorts):
     import mutate
     cases = [c for b in range(-(-count // BLOCK)) for c in block_of(seed, b, min(BLOCK, count - b * BLOCK), sorts) if len(c[1].rndf) + len(c[1].mdf) < 1 << 20]
@@ -513,7 +626,7 @@ def mutants(count, seed, sorts):
     right = [told(oracle, *c) for c in cases]
     source = open(oracle.__file__).read()
     survive = 0
-    mistakes = [mistake for sort in sorts for mistake in {"pairs": mutate.MUTANTS, "maps": maps.MUTANTS, "routes": pairs.routes.MUTANTS, "missions": pairs.missions.MUTANTS, "packed": packed.MUTANTS}[sort]]
+    mistakes = [mistake for sort in sorts for mistake in {"pairs": mutate.MUTANTS, "maps": maps.MUTANTS, "routes": pairs.routes.MUTANTS, "missions": pairs.missions.MUTANTS, "packed": packed.MUTANTS, "same": writers_mistakes()}[sort]]
     for old, new in mistakes:
         assert old in source, old
         mutant = types.ModuleType("mutant")

@@ -338,9 +338,9 @@ def label(kind):
 # ---- cases
 
 class Case:
-    """Two texts, how long each is said to be, how many numbers each table has (`room`), what was done to the texts, how many bytes are lent for the map (`out`), and a
-    route with its start, or a work space."""
-    __slots__ = ("rndf", "mdf", "rndf_length", "mdf_length", "room", "kinds", "out", "start", "route")
+    """Two texts, how long each is said to be, how many numbers each table has (`room`), what was done to the texts, how many bytes are lent for the map (`out`), a
+    route with its start, or a work space; of the second of two texts that are written, whether they are the same (`same`, request L14)."""
+    __slots__ = ("rndf", "mdf", "rndf_length", "mdf_length", "room", "kinds", "out", "start", "route", "same")
 
 
 class Long(bytes):

@@ -13,7 +13,7 @@
 #include <string.h>
 #include <sys/mman.h>
 
-enum { RNDF_ALONE = 1, PAIR, MAP, ROUTE, MISSION, PACKING = 8, UNPACKING };
+enum { RNDF_ALONE = 1, PAIR, MAP, ROUTE, MISSION, WRITE_RNDF, WRITE_MDF, PACKING, UNPACKING };
 enum { SEGMENTS, LANES, ZONES, SPOTS, POINTS, CHECKPOINTS, STOPS, EXITS, GOALS, LIMITS, TABLES };
 
 #define MOST_BYTES ((size_t)1 << 33)
@@ -109,6 +109,10 @@ static kastepuhm_write_answer answer(int mode)
         read.answer = kastepuhm_check_mission(edition, TEXT(0), TEXT(1), NETWORK, LENT(GOALS), LENT(LIMITS), start, route(), route_length);
         memset(given_route, 0, route_length * sizeof *given_route);
         return read;
+    case WRITE_RNDF:
+        return kastepuhm_write_rndf(edition, TEXT(0), NETWORK, output_end - output_length, output_length);
+    case WRITE_MDF:
+        return kastepuhm_write_mdf(edition, TEXT(0), TEXT(1), NETWORK, LENT(GOALS), LENT(LIMITS), output_end - output_length, output_length);
     case PACKING:
         return kastepuhm_write_packed(edition, TEXT(0), NETWORK, output_end - output_length, output_length);
     case UNPACKING:                                         /* the packed bytes stand in place of the RNDF */

@@ -1155,6 +1155,22 @@ def write_mdf(rndf, mdf, room, out_len, edition=PRESENT):
                      room, TABLES, out_len)
 
 
+# ------------------------------------------------------------ the same yard
+
+def same_yard(one, text, other, other_text):
+    """L14: whether two accepted RNDFs "mean the same network apart from creation
+    dates".  `one` and `other` are what the reader replied to the texts, in whatever
+    edition: decided from their tables, each name by its bytes, and not from any
+    writing."""
+    return network_of(one, text).undated() == network_of(other, other_text).undated()
+
+
+def same_mission(one, mdf, other, other_mdf):
+    """"The same for missions": each was read with an RNDF of its own, of which a
+    mission holds no more than the name."""
+    return mission_of(one, mdf).undated() == mission_of(other, other_mdf).undated()
+
+
 # ------------------------------------------------------------------ the map
 
 def geojson(network):

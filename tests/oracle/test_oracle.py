@@ -617,6 +617,78 @@ class Packed(unittest.TestCase):
                 self.assertTrue(any(noticed(*one) for one in zip(forms, want)), rule)
 
 
+class Same(unittest.TestCase):
+    """L14."""
+
+    def alike(self, one, other):
+        """Whether two RNDFs are the same yard; their writings say the same."""
+        one, other = text(one) if isinstance(one, list) else one, text(other) if isinstance(other, list) else other
+        replies = read_rndf(one, WIDE), read_rndf(other, WIDE)
+        same = oracle.same_yard(replies[0], one, replies[1], other)
+        self.assertEqual(same, oracle.same_yard(replies[1], other, replies[0], one))
+        writings = [write_rndf(t, WIDE, 9999) for t in (one, other)]
+        self.assertEqual(same, writings[0].output == writings[1].output)
+        self.assertEqual(same, oracle.write_packed(one, WIDE, 9999).output == oracle.write_packed(other, WIDE, 9999).output)
+        for done in writings:
+            again = write_rndf(done.output[:done.written], WIDE, 9999)
+            self.assertEqual((again.output, again.written, again.reply.used), (done.output, done.written, done.reply.used))
+        return same
+
+    def test_by_hand(self):
+        A = YARD_A
+        lane = ["exit>1.1.2>1.1.1", "stop>1.1.1", "stop>1.1.2", "checkpoint>1.1.1>8", "lane_width>12", "checkpoint>1.1.2>7"]
+        base = A[:7] + lane + A[9:]
+        for other in (A, text(A, "\r\n"), text(A).replace(b"\t", b"  "), text(A)[:-1], [x for l in A for x in ("", l + "/* c */")], ins(A, 4, "creation_date>d")):
+            self.assertTrue(self.alike(A, other))
+        self.assertTrue(self.alike(ins(A, 4, "creation_date>c", "format_version>1"), ins(A, 4, "format_version>1", "creation_date>d")))
+        self.assertTrue(self.alike(put(A, 10, "1.1.1>-0.000000>0.000000"), put(A, 10, "1.1.1>0.000000>-0.000000")))
+        self.assertTrue(self.alike(base, A[:7] + [lane[k] for k in (4, 3, 1, 0, 2, 5)] + A[9:]))
+        for k in ((0, 2, 1, 3, 4, 5), (0, 1, 2, 5, 4, 3), (0, 1, 2, 3, 4), (0, 0, 1, 2, 3, 4, 5)):     # stops, checkpoints, one less, an exit twice
+            self.assertFalse(self.alike(base, A[:7] + [lane[i] for i in k] + A[9:]))
+        for other in (put(A, 1, "RNDF_name>yard_b"), put(A, 1, "RNDF_name>Yard_a"), ins(A, 4, "format_version>d"), ins(A, 6, "segment_name>d"), ins(A, 8, "lane_width>0"), put(A, 10, "1.1.1>45.000001>-93.000000"),
+                      put(A, 10, "1.1.1>45.000000>93.000000"), put(A, 8, "checkpoint>1.1.1>7"), put(A, 8, "checkpoint>1.1.2>8"), put(A, 9, "exit>1.1.1>1.1.2"), cut(A, 9)):
+            self.assertFalse(self.alike(A, other))
+        self.assertFalse(self.alike(ins(A, 4, "format_version>d"), ins(A, 4, "creation_date>d")))
+        self.assertFalse(self.alike(ins(A, 8, "left_boundary>solid_white"), ins(A, 8, "right_boundary>solid_white")))
+
+    def test_missions(self):
+        def alike(one, other, first=YARD_A, second=YARD_A):
+            one, other, first, second = map(text, (one, other, first, second))
+            replies = read_pair(first, one, WIDE), read_pair(second, other, WIDE)
+            same = oracle.same_mission(replies[0], one, replies[1], other)
+            self.assertEqual(same, write_mdf(first, one, WIDE, 999).output == write_mdf(second, other, WIDE, 999).output)
+            return same
+        M = ROUND_1
+        self.assertTrue(alike(M, ins(M, 3, " creation_date>d /* */")))
+        self.assertTrue(alike(M, M, YARD_A, put(YARD_A, 8, "stop>1.1.1", "checkpoint>1.1.1>7")))       # another yard of that name
+        self.assertTrue(alike(ins(M, 3, "creation_date>x", "format_version>1"), ins(M, 3, "format_version>1")))
+        for other in (put(M, 1, "MDF_name>round_2"), ins(M, 3, "format_version>d"), put(M, 9, "1>0>16"), put(M, 9, "1>1>15"), put(M, 4, "num_checkpoints>2", "7")):
+            self.assertFalse(alike(M, other))
+        self.assertFalse(alike(M, put(M, 2, "RNDF>b"), YARD_A, put(YARD_A, 1, "RNDF_name>b")))
+        two = put(YARD_A, 8, "checkpoint>1.1.2>7", "checkpoint>1.1.2>9")
+        self.assertFalse(alike(put(M, 4, "num_checkpoints>2", "9"), put(M, 4, "num_checkpoints>2", "7")[:5] + ["9"] + M[5:], two, two))
+
+    def test_random(self):
+        """Any two of many small yards, some of which are the same."""
+        rng = random.Random(21)
+        texts = []
+        for _ in range(40):
+            made = generate.make(rng, 1)
+            texts += [generate.render(rng, made.rndf_lines, rough) for rough in (0, 1)]
+            texts.append(house_rndf(made.network))
+        room = {t: 60 * STRIDE[t] for t in TABLES}
+        replies = [read_rndf(t, room) for t in texts]
+        writings = [write_rndf(t, room, len(t) + 1) for t in texts]
+        pairs = 0
+        for i, one in enumerate(replies):
+            for j, other in enumerate(replies):
+                same = oracle.same_yard(one, texts[i], other, texts[j])
+                self.assertEqual(same, writings[i].output[:writings[i].written] == writings[j].output[:writings[j].written])
+                self.assertTrue(same or i // 3 != j // 3)
+                pairs += same
+        self.assertGreaterEqual(pairs, 360)
+
+
 class Places(unittest.TestCase):
     """Which statement may stand at which place, laid out by hand: what may
     stand before each line of Yard C and of the MDF of Yard A ("0": a line
