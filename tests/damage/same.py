@@ -47,6 +47,8 @@ def date_spelled(rng, lines):
     """The date is added, removed, changed, or goes to the other side of the version."""
     _, i, j = blocks(lines)[0]
     had = [fields for fields in lines[i:j] if fields[0] == b"creation_date"]
+    if len(had) > 1:
+        return False                            # two_dates, below: it is to stay refused
     rest = [fields for fields in lines[i:j] if fields[0] != b"creation_date"]
     if not had or rng.random() < 0.6:
         version = [fields[1] for fields in rest if fields[0] == b"format_version"]
