@@ -21,7 +21,7 @@ ghost use Rattle.judge.specs.RndfLine.{rndfKind};
 ghost use Rattle.find_line.specs.FoundLines.{fieldsEnd, firstOf, rndfLineKind, digitKind, firstOrder, mdfLineKind, rndfLineIn, mdfLineIn};
 
 // Where a line's fields end: before its CR and before a comment.
-fn fields_end(s: &[u8]) -> usize
+pub fn fields_end(s: &[u8]) -> usize
     ensures { λ r. ⌜ r ≡ fieldsEnd (now (s .entry)) ⌝ }
 {
     let e = trimmed(s);
@@ -38,7 +38,7 @@ fn first_kind(s: &[u8]) -> u8
 }
 
 // The kind of a line of an RNDF, without its LF.
-fn rndf_line_kind(s: &[u8]) -> u8
+pub fn rndf_line_kind(s: &[u8]) -> u8
     ensures { λ r. ⌜ r ≡ rndfLineKind (now (s .entry)) ⌝ }
 {
     let e = fields_end(s);

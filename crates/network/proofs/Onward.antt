@@ -1,6 +1,6 @@
 -- One line of the walk, as the program tells it, and the walk's end. Assumes nothing.
 use mathlib.Core.Path.{_≡_, refl, sym, ap, _∙_}
-use mathlib.Core.List.{List, [], _∷_}
+use mathlib.Core.List.{List, [], _∷_, _++_}
 use mathlib.Core.Bool.{Bool, true, false}
 use Prim.Native.Nat.{ℕ, zero, suc, _+_, _-_, _≤_, _<_}
 use native.Mathlib.Omega.{arith}
@@ -43,7 +43,7 @@ use Rattle.network.specs.declared.Walked as DW
 use Rattle.network.specs.declared.Walked.the-variants as Walked
 use Rattle.network.specs.Storing.{Memory}
 use Rattle.network.specs.Reading.{put, told, filledOf, filledIn}
-use Rattle.network.specs.Reaching.{first-of, refusalOf, WalkEnd, stopped, reached, goes, reaching, reachedIn, stood, endedOf, ending}
+use Rattle.network.specs.Reaching.{first-of, refusalOf, WalkEnd, stopped, reached, goes, reaching, onwards, reachedIn, stood, endedOf, ending}
 
 -- ## What an edition makes of a statement
 module _ (table : List (List ℕ)) (e : Edition) (s : Statement) where
@@ -69,10 +69,6 @@ module _ (table : List (List ℕ)) (e : Edition) (s : Statement) where
 -- what the judge gives a line, by a table
 abbrev pub judged : List (List ℕ) → Bytes → ℕ → Place → Got Statement Place
 judged table = line (judging table)
-
--- the lines from a place of the text on
-abbrev pub onwards : Edition → Bytes → Place → Memory → (from i : ℕ) → WalkEnd
-onwards e s p m from i = reaching e p m from i (linesOf (drop from s))
 
 module _ (e : Edition) (table : List (List ℕ)) (right : table ≡ rndf-table) (s : Bytes) (from to : ℕ) (h : from < length s) (ends : to ≡ reach (stopsBy (Byte 10)) s from) (p : Place) (m : Memory) (i : ℕ) where
   abbrev rest : Place → Memory → WalkEnd
@@ -143,13 +139,39 @@ filled-from e text m w r tables is h = ap (λ (r : DF.Filled). told r tables) is
 pub goes-on : (e : Edition) (s : Bytes) (p q : Place) (m d : Memory) (at to i : ℕ) → p ≡ q → m ≡ d → at ≡ to + 1 → onwards e s p m at (i + 1) ≡ onwards e s q d (to + 1) (i + 1)
 goes-on e s p q m d at to i a b c = λ j. onwards e s (a j) (b j) (c j) (i + 1)
 
+-- ## Lines one behind the other
+-- from where the first lines were left, if they had no fault
+abbrev pub going-on : WalkEnd → (Place → Memory → ℕ → WalkEnd) → WalkEnd
+going-on (stopped i n) k = stopped i n
+going-on (reached p m i) k = k p m i
+
+-- the bytes of lines, with their LFs
+abbrev pub width : List Bytes → ℕ
+width [] = 0
+width (l ∷ ls) = suc (length l) + width ls
+
+pub one-behind-other : (e : Edition) (ls rs : List Bytes) (p : Place) (m : Memory) (start i : ℕ) → reaching e p m start i (ls ++ rs) ≡ going-on (reaching e p m start i ls) (λ q d j. reaching e q d (start + width ls) j rs)
+unfolding reaching
+one-behind-other e [] rs p m start i = let z : start ≡ start + 0 = omega arith in ap (λ (s : ℕ). reaching e p m s i rs) z
+one-behind-other e (l ∷ ls) rs p m start i = go (line (judging-in e) l start p) (λ q d. one-behind-other e ls rs q d (start + suc (length l)) (suc i))
+  where
+    sum : start + suc (length l) + width ls ≡ start + (suc (length l) + width ls)
+    sum = omega arith
+
+    go : (g : Got Statement Place) → ((q : Place) (d : Memory) → reaching e q d (start + suc (length l)) (suc i) (ls ++ rs) ≡ going-on (reaching e q d (start + suc (length l)) (suc i) ls) (λ x y j. reaching e x y (start + suc (length l) + width ls) j rs))
+        → goes (place start i l) p m g (λ q d. reaching e q d (start + suc (length l)) (suc i) (ls ++ rs)) ≡ going-on (goes (place start i l) p m g (λ q d. reaching e q d (start + suc (length l)) (suc i) ls)) (λ x y j. reaching e x y (start + (suc (length l) + width ls)) j rs)
+    go (bad n) f = refl
+    go blank f = f p m ∙ (λ k. going-on (reaching e p m (start + suc (length l)) (suc i) ls) (λ x y j. reaching e x y (sum k) j rs))
+    go (said s q) f = f q (put (place start i l) s m) ∙ (λ k. going-on (reaching e q (put (place start i l) s m) (start + suc (length l)) (suc i) ls) (λ x y j. reaching e x y (sum k) j rs))
+
 -- ## Numbers of the walk
 -- a line ends behind its start, and within the text
 pub within : (s : Bytes) (from e : ℕ) → from < length s → e ≡ reach (stopsBy (Byte 10)) s from → (from ≤ e) × (e ≤ length s)
 within s from e h q = (omega (arith, q, reach-from (stopsBy (Byte 10)) s from), omega (arith, q, reach-le (stopsBy (Byte 10)) s from (omega arith)))
 
-pub next-within : (n from e line at : ℕ) → at ≡ e + 1 → (from ≤ e) × (e ≤ n) → line ≤ from + 1 → (at ≤ n + 1) × (line + 1 ≤ at + 1)
-next-within n from e line at a h k = (omega (arith, a, h .0, h .1), omega (arith, a, h .0, h .1))
+-- lines and rows are counted on from `first` and `had`
+pub next-within : (n from e line at first : ℕ) → at ≡ e + 1 → (from ≤ e) × (e ≤ n) → line ≤ first + from → line + 1 ≤ first + at
+next-within n from e line at first a h k = omega (arith, a, h .0, h .1)
 
 pub next-less : (n from e at : ℕ) → at ≡ e + 1 → (from ≤ e) × (e ≤ n) → n + 1 - at < n + 1 - from
 next-less n from e at a h = omega (arith, a, h .0, h .1)
@@ -163,14 +185,17 @@ last-fits s from e last k h q is =
     let long = stretch-long s from e (inside .1) in
     record { fits = omega (arith, is, last-within from (stretch s from e), long, inside .0, inside .1, k) }
 
-pub line-fits : (n from line : ℕ) → n ≤ 16777215 → from < n → line ≤ from + 1 → Fits w32 (line + 1)
-line-fits n from line k h l = record { fits = omega arith }
+pub line-fits : (n from line first : ℕ) → n ≤ 16777215 → from < n → first ≤ 16777216 → line ≤ first + from → Fits w32 (line + 1)
+line-fits n from line first k h f l = record { fits = omega arith }
 
 pub few-bytes : (n : ℕ) → n ≤ 16777215 → n < 4294967296
 few-bytes n h = omega arith
 
-pub few-rows : (n from line rows : ℕ) → n ≤ 16777215 → from < n → line ≤ from + 1 → rows ≤ line → rows < 4294967295
-few-rows n from line rows h k l m = omega arith
+pub few-rows : (n from had rows : ℕ) → n ≤ 16777215 → from < n → had ≤ 16777216 → rows ≤ had + from → rows < 4294967295
+few-rows n from had rows h k l m = omega arith
 
-pub no-more : (rows line : ℕ) → rows ≤ line → rows ≤ line + 1
-no-more rows line h = omega arith
+pub no-more : (rows had from e at : ℕ) → at ≡ e + 1 → from ≤ e → rows ≤ had + from → rows ≤ had + at
+no-more rows had from e at a h k = omega arith
+
+pub one-more-row : (rows had from e at more : ℕ) → at ≡ e + 1 → from ≤ e → rows ≤ had + from → more ≤ rows + 1 → more ≤ had + at
+one-more-row rows had from e at more a h k l = omega arith

@@ -2,7 +2,7 @@
 -- behind them. Assumes nothing.
 use mathlib.Core.List.{List, [], _∷_}
 use Prim.Native.Nat.{ℕ, suc, _+_}
-use lib.ListN.{length}
+use lib.ListN.{length, drop}
 use lib.Dec.{eqb}
 use Rattle.terms.specs.Ascii.{Bytes}
 use Rattle.terms.specs.Words.{pick}
@@ -46,6 +46,10 @@ goes w p m (said s q) k = k q (put w s m)
 unfoldable pub reaching : Edition → Place → Memory → (start i : ℕ) → List Bytes → WalkEnd
 reaching e p m start i [] = reached p m i
 reaching e p m start i (l ∷ ls) = goes (place start i l) p m (line (judging-in e) l start p) (λ q d. reaching e q d (start + suc (length l)) (suc i) ls)
+
+-- those of a text from a place of it on
+abbrev pub onwards : Edition → Bytes → Place → Memory → (from i : ℕ) → WalkEnd
+onwards e s p m from i = reaching e p m from i (linesOf (drop from s))
 
 -- 1 of a text that is too long; else the walk
 unfoldable pub reachedIn : Edition → Bytes → Memory → WalkEnd

@@ -31,12 +31,15 @@ use said_line::Line;
 use said_line::line_said;
 use statement::Statement;
 ghost use mathlib.Core.Path.{_≡_};
+ghost use Prim.Native.Nat.{_≤_};
+ghost use lib.ListN.{length};
+ghost use Rattle.refusal.specs.Size.{most};
 ghost use Rattle.grammar.specs.PlaceTable.{rndf-table};
 ghost use Rattle.edition.specs.Editions.{inner};
-ghost use Rattle.progress.specs.After.{noProgress};
+ghost use Rattle.progress.specs.After.{noProgress, total};
 ghost use Rattle.network.specs.Storing.{Memory, memory, storePart, stored};
 ghost use Rattle.network.specs.Reading.{told, filledIn};
-ghost use Rattle.network.specs.Reaching.{refusalOf, stood, reachedIn, endedOf};
+ghost use Rattle.network.specs.Reaching.{refusalOf, stood, onwards, reachedIn, endedOf};
 
 pub enum Filled {
     Fault(Fault),
@@ -102,11 +105,19 @@ fn refused(edition: Edition, p: Place, cell: u8, s: Statement) -> u8
     barred(edition, s)
 }
 
-// One walk over the lines of a text. The table is `place_table::rndf_table()`, lent so that it does not lie on the stack below the walk.
-pub fn walk_lines(
+// The number of the line behind the longest text that has a byte on every line: no text has one with a larger number.
+const LAST_LINE: u32 = 16777216;
+
+// The walk over the lines of a text from a place of it on, where a reader stands at `at` and has gained `had`; the first of them has the number `first`. The table is `place_table::rndf_table()`,
+// lent so that it does not lie on the stack below the walk. 1 of a text that is too long, and of a line whose number no text has.
+pub fn walk_part(
     edition: Edition,
     table: &[[u8; 30]; 27],
     text: &[u8],
+    start: usize,
+    at: Place,
+    had: Progress,
+    first: u32,
     segments: &mut [u32],
     lanes: &mut [u32],
     zones: &mut [u32],
@@ -116,15 +127,18 @@ pub fn walk_lines(
     stops: &mut [u32],
     exits: &mut [u32],
 ) -> Walked
-    ensures { λ r. ⌜ (now (table .entry) ≡ rndf-table → stood r (λ p. memory p (now (segments .exit)) (now (lanes .exit)) (now (zones .exit)) (now (spots .exit)) (now (points .exit)) (now (checkpoints .exit)) (now (stops .exit)) (now (exits .exit))) ≡ reachedIn (inner edition) (now (text .entry)) (memory noProgress (now (segments .entry)) (now (lanes .entry)) (now (zones .entry)) (now (spots .entry)) (now (points .entry)) (now (checkpoints .entry)) (now (stops .entry)) (now (exits .entry)))) ⌝ }
+    ensures { λ r. ⌜ (now (table .entry) ≡ rndf-table → length (now (text .entry)) ≤ most → total had ≤ 16777216 → first ≤ 16777216 → stood r (λ p. memory p (now (segments .exit)) (now (lanes .exit)) (now (zones .exit)) (now (spots .exit)) (now (points .exit)) (now (checkpoints .exit)) (now (stops .exit)) (now (exits .exit))) ≡ onwards (inner edition) (now (text .entry)) at (memory had (now (segments .entry)) (now (lanes .entry)) (now (zones .entry)) (now (spots .entry)) (now (points .entry)) (now (checkpoints .entry)) (now (stops .entry)) (now (exits .entry))) start first) ⌝ }
 {
     if LONGEST_TEXT < text.len() {
         return Walked::Fault(Fault { line: 0, number: 1 });
     }
-    let mut place = Place::start();
-    let mut gained = Progress::none();
-    let mut from: usize = 0;
-    let mut line: u32 = 1;
+    if LAST_LINE < first {
+        return Walked::Fault(Fault { line: 0, number: 1 });
+    }
+    let mut place = at;
+    let mut gained = had;
+    let mut from = start;
+    let mut line = first;
     while from < text.len() {
         match line_said(table, text, from, place) {
             Line::Blank(e) => {
@@ -159,6 +173,44 @@ pub fn walk_lines(
         line += 1;
     }
     Walked::Ended(place, gained, line)
+}
+
+// All lines of a text.
+pub fn walk_lines(
+    edition: Edition,
+    table: &[[u8; 30]; 27],
+    text: &[u8],
+    segments: &mut [u32],
+    lanes: &mut [u32],
+    zones: &mut [u32],
+    spots: &mut [u32],
+    points: &mut [i32],
+    checkpoints: &mut [u32],
+    stops: &mut [u32],
+    exits: &mut [u32],
+) -> Walked
+    ensures { λ r. ⌜ (now (table .entry) ≡ rndf-table → stood r (λ p. memory p (now (segments .exit)) (now (lanes .exit)) (now (zones .exit)) (now (spots .exit)) (now (points .exit)) (now (checkpoints .exit)) (now (stops .exit)) (now (exits .exit))) ≡ reachedIn (inner edition) (now (text .entry)) (memory noProgress (now (segments .entry)) (now (lanes .entry)) (now (zones .entry)) (now (spots .entry)) (now (points .entry)) (now (checkpoints .entry)) (now (stops .entry)) (now (exits .entry)))) ⌝ }
+{
+    if LONGEST_TEXT < text.len() {
+        return Walked::Fault(Fault { line: 0, number: 1 });
+    }
+    walk_part(
+        edition,
+        table,
+        text,
+        0,
+        Place::start(),
+        Progress::none(),
+        1,
+        segments,
+        lanes,
+        zones,
+        spots,
+        points,
+        checkpoints,
+        stops,
+        exits,
+    )
 }
 
 // Behind all lines: 10 where the text ends before `end_file`.

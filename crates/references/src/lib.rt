@@ -39,7 +39,7 @@ ghost use Rattle.references.specs.Exits.{namedAt, done, tried, onward, w
 
 // ## The entry at a place
 // 0.0.0 where there is no identifier.
-fn id_from(t: Triple) -> Id
+pub fn id_from(t: Triple) -> Id
     ensures { λ r. ⌜ r ≡ idFrom t ⌝ }
 {
     match t {

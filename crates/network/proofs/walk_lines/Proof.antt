@@ -1,309 +1,66 @@
--- `network::walk_lines` meets its contract. Assumes nothing.
-use mathlib.Core.Path.{_≡_, refl, sym, ap, _∙_}
-use mathlib.Core.Logic.{⊎-elim}
-use Prim.Native.Nat.{ℕ, _+_, _-_, _≤_, _<_}
+-- `network::walk_lines` meets its contract: it walks from the first place on, with nothing gained. Assumes nothing.
+use mathlib.Core.Path.{sym, _∙_}
 use native.Mathlib.Omega.{arith}
-use lib.ListN.{length}
 use borrow.Author.Needs.{needs}
-use Rattle.scan.specs.Reach.{reach, stopsBy}
-use Rattle.scan.specs.declared.Until.the-variants.{Byte}
-use Rattle.line_fields.specs.LineFields.{lineFields, lastStart}
-use Rattle.grammar.specs.PlaceTable.{rndf-table}
-use Rattle.edition.specs.Editions.{inner}
-use Rattle.judge.specs.Judging.{blank, bad}
-use Rattle.judge.specs.RndfLine.{judging}
-use Rattle.plain_parts.specs.Stands.{stretch}
-use Rattle.plain_fields.specs.LineStands.{stated}
-use Rattle.progress.specs.After.{total, noProgress}
-use Rattle.progress.specs.Given.{rowOf}
-use Rattle.progress.proofs.Shown.{counts}
-use Rattle.walk.specs.Standing.{place}
-use Rattle.refusal.specs.Size.{most}
 use Rattle.refusal.proofs.Sized.{too-long, not-too-long}
-use Rattle.network.specs.Storing.{Memory, memory}
-use Rattle.network.specs.Reading.{put}
 use Rattle.network.specs.Reaching.{reachedIn}
-use Rattle.network.proofs.Steps.{Lengths, lengths, put-long, stepped, grown}
-use Rattle.network.proofs.Onward.{judged, onwards, blank-line, bad-line, refused-line, moved-line, goes-on, at-end, within, next-within, next-less, no-more, place-fits, last-fits, line-fits, few-bytes, few-rows}
 use Rattle.network.proofs.walk_lines.Statement.{statement}
 use Rattle.network.proofs.walk_lines.Tie as tie
 
-abbrev Inv-loop : tie.InvT-loop
-Inv-loop edition table text segments₀ lanes₀ zones₀ spots₀ points₀ checkpoints₀ stops₀ exits₀ place₀ gained₀ from₀ line₀ segments lanes zones spots points checkpoints stops exits place gained from line =
-    (from ≤ length text + 1) × (line ≤ from + 1) × (total gained ≤ line) × (lengths (memory gained segments lanes zones spots points checkpoints stops exits) ≡ lengths (memory noProgress segments₀ lanes₀ zones₀ spots₀ points₀ checkpoints₀ stops₀ exits₀)) × (table ≡ rndf-table → onwards (inner edition) text place (memory gained segments lanes zones spots points checkpoints stops exits) from line ≡ reachedIn (inner edition) text (memory noProgress segments₀ lanes₀ zones₀ spots₀ points₀ checkpoints₀ stops₀ exits₀)) × (length text ≤ most)
-
-abbrev μ-loop : tie.MeasureT-loop
-μ-loop edition table text segments₀ lanes₀ zones₀ spots₀ points₀ checkpoints₀ stops₀ exits₀ place₀ gained₀ from₀ line₀ segments lanes zones spots points checkpoints stops exits place gained from line = length text + 1 - from
-
-returns : tie.Need-returns Inv-loop μ-loop
+returns : tie.Need-returns
 unfolding reachedIn
 returns c = λ right. sym (too-long (c .before .before .before .before .before .before .before .before .before .args .text .now) _ _ (c .if1 .taken))
 
-start-requires : tie.Need-start-requires Inv-loop μ-loop
+start-requires : tie.Need-start-requires
 start-requires c κs = search needs
 
-none-requires : tie.Need-none-requires Inv-loop μ-loop
+none-requires : tie.Need-none-requires
 none-requires c κs = search needs
 
-loop-holds : tie.Need-loop-holds Inv-loop μ-loop
+walk-part-requires : tie.Need-walk-part-requires
+walk-part-requires c κs = search needs
+
+same-length : tie.Need-same-length
+same-length c = c .before .before .before .before .before .before .before .before .before .before .before .before .before .before .before .walk-part .kept .1 .1 .1 .1 .1 .1 .1 .0
+
+same-length-2 : tie.Need-same-length-2
+same-length-2 c = c .before .before .before .before .before .before .before .before .before .before .before .before .before .before .before .walk-part .kept .1 .1 .1 .1 .1 .1 .1 .1 .0
+
+same-length-3 : tie.Need-same-length-3
+same-length-3 c = c .before .before .before .before .before .before .before .before .before .before .before .before .before .before .before .walk-part .kept .1 .1 .1 .1 .1 .1 .1 .1 .1 .0
+
+same-length-4 : tie.Need-same-length-4
+same-length-4 c = c .before .before .before .before .before .before .before .before .before .before .before .before .before .before .before .walk-part .kept .1 .1 .1 .1 .1 .1 .1 .1 .1 .1 .0
+
+same-length-5 : tie.Need-same-length-5
+same-length-5 c = c .before .before .before .before .before .before .before .before .before .before .before .before .before .before .before .walk-part .kept .1 .1 .1 .1 .1 .1 .1 .1 .1 .1 .1 .0
+
+same-length-6 : tie.Need-same-length-6
+same-length-6 c = c .before .before .before .before .before .before .before .before .before .before .before .before .before .before .before .walk-part .kept .1 .1 .1 .1 .1 .1 .1 .1 .1 .1 .1 .1 .0
+
+same-length-7 : tie.Need-same-length-7
+same-length-7 c = c .before .before .before .before .before .before .before .before .before .before .before .before .before .before .before .walk-part .kept .1 .1 .1 .1 .1 .1 .1 .1 .1 .1 .1 .1 .1 .0
+
+same-length-8 : tie.Need-same-length-8
+same-length-8 c = c .before .before .before .before .before .before .before .before .before .before .before .before .before .before .before .walk-part .kept .1 .1 .1 .1 .1 .1 .1 .1 .1 .1 .1 .1 .1 .1 .0
+
+returns-2 : tie.Need-returns-2
 unfolding reachedIn
-loop-holds c = (omega arith, omega arith, rw (c .none .ensures) (omega arith), refl, λ right. rw (c .none .ensures, c .before .start .ensures) (sym (not-too-long (c .before .before .before .before .before .before .before .before .before .before .before .args .text .now) _ _ (omega arith))), omega arith)
-
-line-said-requires : tie.Need-line-said-requires Inv-loop μ-loop
-line-said-requires c κs = search needs
-
-enum-known-e : tie.Need-enum-known-e Inv-loop μ-loop
-enum-known-e c = search needs
-
-add-from : tie.Need-add-from Inv-loop μ-loop
-add-from c =
-    let A = c .before .before .before .before .before .before .before .before .before .before .before .before .before .before .before .before .before .args in
-    let s = A .text .now in
-    let l = c .before .before .before .before .before .loop in
-    let t = A .table .now in
-    let h = c .before .before .before .before .loop-test .taken in
-    let ls = c .before .before .before .line-said in
-    let few = few-bytes (length s) (l .inv .5) in
-    let e = c .before .e .given .0 .0 in
-    let says : (e ≡ reach (stopsBy (Byte 10)) s (l .from)) × (judged t (stretch s (l .from) e) (l .from) (l .place) ≡ blank) = rw (c .before .e .given .1) at (ls .ensures h few) in
-    place-fits (length s) (l .from) e (l .inv .5) (within s (l .from) e h (says .0))
-
-enum-known-kind : tie.Need-enum-known-kind Inv-loop μ-loop
-enum-known-kind c = search needs
-
-cell-requires : tie.Need-cell-requires Inv-loop μ-loop
-cell-requires c κs = search needs
-
-refused-requires : tie.Need-refused-requires Inv-loop μ-loop
-refused-requires c κs = search needs
-
-same-length : tie.Need-same-length Inv-loop μ-loop
-same-length c = ap (λ (x : Lengths). x .segments) (c .before .before .before .before .before .before .before .before .loop .inv .3)
-
-same-length-2 : tie.Need-same-length-2 Inv-loop μ-loop
-same-length-2 c = ap (λ (x : Lengths). x .lanes) (c .before .before .before .before .before .before .before .before .loop .inv .3)
-
-same-length-3 : tie.Need-same-length-3 Inv-loop μ-loop
-same-length-3 c = ap (λ (x : Lengths). x .zones) (c .before .before .before .before .before .before .before .before .loop .inv .3)
-
-same-length-4 : tie.Need-same-length-4 Inv-loop μ-loop
-same-length-4 c = ap (λ (x : Lengths). x .spots) (c .before .before .before .before .before .before .before .before .loop .inv .3)
-
-same-length-5 : tie.Need-same-length-5 Inv-loop μ-loop
-same-length-5 c = ap (λ (x : Lengths). x .points) (c .before .before .before .before .before .before .before .before .loop .inv .3)
-
-same-length-6 : tie.Need-same-length-6 Inv-loop μ-loop
-same-length-6 c = ap (λ (x : Lengths). x .checkpoints) (c .before .before .before .before .before .before .before .before .loop .inv .3)
-
-same-length-7 : tie.Need-same-length-7 Inv-loop μ-loop
-same-length-7 c = ap (λ (x : Lengths). x .stops) (c .before .before .before .before .before .before .before .before .loop .inv .3)
-
-same-length-8 : tie.Need-same-length-8 Inv-loop μ-loop
-same-length-8 c = ap (λ (x : Lengths). x .exits) (c .before .before .before .before .before .before .before .before .loop .inv .3)
-
-returns-2 : tie.Need-returns-2 Inv-loop μ-loop
 returns-2 c =
-    let A = c .before .before .before .before .before .before .before .before .before .before .before .before .before .before .before .before .before .before .before .before .args in
-    let s = A .text .now in
-    let l = c .before .before .before .before .before .before .before .before .loop in
-    let t = A .table .now in
-    let h = c .before .before .before .before .before .before .before .loop-test .taken in
-    let ls = c .before .before .before .before .before .before .line-said in
-    let few = few-bytes (length s) (l .inv .5) in
-    let k = c .before .before .before .before .kind .given .0 in
-    let says : (k .1 .1 .0 ≡ reach (stopsBy (Byte 10)) s (l .from)) × (judged t (stretch s (l .from) (k .1 .1 .0)) (l .from) (l .place) ≡ stated (judging t) (k .0) (k .1 .0) (l .place)) × (k .1 .1 .1 .0 ≡ lastStart (lineFields (l .from) (stretch s (l .from) (k .1 .1 .0)))) = rw (c .before .before .before .before .kind .given .1) at (ls .ensures h few) in
-    let cell = c .before .before .cell in
-    let n = c .before .refused in
-    λ right. sym (refused-line (inner (A .edition)) t right s (l .from) (k .1 .1 .0) h (says .0) (l .place) (memory (l .gained) (l .segments) (l .lanes) (l .zones) (l .spots) (l .points) (l .checkpoints) (l .stops) (l .exits)) (l .line) (k .0) (cell .result) (n .result) (k .1 .0) (says .1) (cell .ensures) (n .ensures) (c .if2 .taken)) ∙ l .inv .4 right
-
-moved-requires : tie.Need-moved-requires Inv-loop μ-loop
-moved-requires c κs = search needs
-
-cast-row : tie.Need-cast-row Inv-loop μ-loop
-cast-row c =
-    let s = c .before .before .before .before .before .before .before .before .before .before .before .before .before .before .before .before .before .before .before .before .before .before .before .before .before .before .before .before .before .args .text .now in
-    let l = c .before .before .before .before .before .before .before .before .before .before .before .before .before .before .before .before .before .loop in
-    let h = c .before .before .before .before .before .before .before .before .before .before .before .before .before .before .before .before .loop-test .taken in
-    let few = few-bytes (length s) (l .inv .5) in
-    let says = rw (c .before .before .before .before .before .before .before .before .before .before .before .before .before .kind .given .1) at (c .before .before .before .before .before .before .before .before .before .before .before .before .before .before .before .line-said .ensures h few) in
-    last-fits s (l .from) _ _ (l .inv .5) h (says .0) (says .2)
-
-row-requires : tie.Need-row-requires Inv-loop μ-loop
-row-requires c κs = search needs
-
-store-requires : tie.Need-store-requires Inv-loop μ-loop
-store-requires c κs = search needs
-
-after-requires : tie.Need-after-requires Inv-loop μ-loop
-after-requires c κs = tt
-
-add-from-2 : tie.Need-add-from-2 Inv-loop μ-loop
-add-from-2 c =
-    let A = c .before .before .before .before .before .before .before .before .before .before .before .before .before .before .before .before .before .before .before .before .before .before .before .before .before .before .before .before .before .before .before .before .before .before .before .before .before .before .before .before .before .before .before .before .before .before .before .args in
-    let s = A .text .now in
-    let l = c .before .before .before .before .before .before .before .before .before .before .before .before .before .before .before .before .before .before .before .before .before .before .before .before .before .before .before .before .before .before .before .before .before .before .before .loop in
-    let t = A .table .now in
-    let h = c .before .before .before .before .before .before .before .before .before .before .before .before .before .before .before .before .before .before .before .before .before .before .before .before .before .before .before .before .before .before .before .before .before .before .loop-test .taken in
-    let ls = c .before .before .before .before .before .before .before .before .before .before .before .before .before .before .before .before .before .before .before .before .before .before .before .before .before .before .before .before .before .before .before .before .before .line-said in
-    let few = few-bytes (length s) (l .inv .5) in
-    let k = c .before .before .before .before .before .before .before .before .before .before .before .before .before .before .before .before .before .before .before .before .before .before .before .before .before .before .before .before .before .before .before .kind .given .0 in
-    let says : (k .1 .1 .0 ≡ reach (stopsBy (Byte 10)) s (l .from)) × (judged t (stretch s (l .from) (k .1 .1 .0)) (l .from) (l .place) ≡ stated (judging t) (k .0) (k .1 .0) (l .place)) × (k .1 .1 .1 .0 ≡ lastStart (lineFields (l .from) (stretch s (l .from) (k .1 .1 .0)))) = rw (c .before .before .before .before .before .before .before .before .before .before .before .before .before .before .before .before .before .before .before .before .before .before .before .before .before .before .before .before .before .before .before .kind .given .1) at (ls .ensures h few) in
-    place-fits (length s) (l .from) (k .1 .1 .0) (l .inv .5) (within s (l .from) (k .1 .1 .0) h (says .0))
-
-enum-known-n : tie.Need-enum-known-n Inv-loop μ-loop
-enum-known-n c = search needs
-
-same-length-9 : tie.Need-same-length-9 Inv-loop μ-loop
-same-length-9 c = ap (λ (x : Lengths). x .segments) (c .before .before .before .before .before .loop .inv .3)
-
-same-length-10 : tie.Need-same-length-10 Inv-loop μ-loop
-same-length-10 c = ap (λ (x : Lengths). x .lanes) (c .before .before .before .before .before .loop .inv .3)
-
-same-length-11 : tie.Need-same-length-11 Inv-loop μ-loop
-same-length-11 c = ap (λ (x : Lengths). x .zones) (c .before .before .before .before .before .loop .inv .3)
-
-same-length-12 : tie.Need-same-length-12 Inv-loop μ-loop
-same-length-12 c = ap (λ (x : Lengths). x .spots) (c .before .before .before .before .before .loop .inv .3)
-
-same-length-13 : tie.Need-same-length-13 Inv-loop μ-loop
-same-length-13 c = ap (λ (x : Lengths). x .points) (c .before .before .before .before .before .loop .inv .3)
-
-same-length-14 : tie.Need-same-length-14 Inv-loop μ-loop
-same-length-14 c = ap (λ (x : Lengths). x .checkpoints) (c .before .before .before .before .before .loop .inv .3)
-
-same-length-15 : tie.Need-same-length-15 Inv-loop μ-loop
-same-length-15 c = ap (λ (x : Lengths). x .stops) (c .before .before .before .before .before .loop .inv .3)
-
-same-length-16 : tie.Need-same-length-16 Inv-loop μ-loop
-same-length-16 c = ap (λ (x : Lengths). x .exits) (c .before .before .before .before .before .loop .inv .3)
-
-returns-3 : tie.Need-returns-3 Inv-loop μ-loop
-returns-3 c =
-    let A = c .before .before .before .before .before .before .before .before .before .before .before .before .before .before .before .before .before .args in
-    let s = A .text .now in
-    let l = c .before .before .before .before .before .loop in
-    let t = A .table .now in
-    let h = c .before .before .before .before .loop-test .taken in
-    let ls = c .before .before .before .line-said in
-    let few = few-bytes (length s) (l .inv .5) in
-    let n = c .before .n in
-    let says : judged t (stretch s (l .from) (reach (stopsBy (Byte 10)) s (l .from))) (l .from) (l .place) ≡ bad (n .given .0 .0) = rw (n .given .1) at (ls .ensures h few) in
-    λ right. sym (bad-line (inner (A .edition)) t right s (l .from) (reach (stopsBy (Byte 10)) s (l .from)) h refl (l .place) (memory (l .gained) (l .segments) (l .lanes) (l .zones) (l .spots) (l .points) (l .checkpoints) (l .stops) (l .exits)) (l .line) (n .given .0 .0) says) ∙ l .inv .4 right
-
-add-line : tie.Need-add-line Inv-loop μ-loop
-add-line c =
-    let l = c .before .before .before .loop in
-    let h = c .before .before .loop-test .taken in
-    line-fits (length (c .before .before .before .before .before .before .before .before .before .before .before .before .before .before .before .args .text .now)) (l .from) (l .line) (l .inv .5) h (l .inv .1)
-
-loop-less : tie.Need-loop-less Inv-loop μ-loop
-loop-less c =
-    let A = c .before .before .before .before .before .before .before .before .before .before .before .before .before .before .before .args in
-    let s = A .text .now in
-    let l = c .before .before .before .loop in
-    let t = A .table .now in
-    let h = c .before .before .loop-test .taken in
-    let ls = c .before .line-said in
-    let few = few-bytes (length s) (l .inv .5) in
-    ⊎-elim
-    (λ w.
-    let e = w .1 .given .0 .0 in
-    let says : (e ≡ reach (stopsBy (Byte 10)) s (l .from)) × (judged t (stretch s (l .from) e) (l .from) (l .place) ≡ blank) = rw (w .1 .given .1) at (ls .ensures h few) in
-    next-less (length s) (l .from) e (c .match .from) (w .13) (within s (l .from) e h (says .0)))
-    (λ w.
-    let k = w .1 .given .0 in
-    let says : (k .1 .1 .0 ≡ reach (stopsBy (Byte 10)) s (l .from)) × (judged t (stretch s (l .from) (k .1 .1 .0)) (l .from) (l .place) ≡ stated (judging t) (k .0) (k .1 .0) (l .place)) × (k .1 .1 .1 .0 ≡ lastStart (lineFields (l .from) (stretch s (l .from) (k .1 .1 .0)))) = rw (w .1 .given .1) at (ls .ensures h few) in
-    next-less (length s) (l .from) (k .1 .1 .0) (c .match .from) (w .43) (within s (l .from) (k .1 .1 .0) h (says .0)))
-    (c .match .came)
-
-loop-again : tie.Need-loop-again Inv-loop μ-loop
-loop-again c =
-    let A = c .before .before .before .before .before .before .before .before .before .before .before .before .before .before .before .args in
-    let s = A .text .now in
-    let l = c .before .before .before .loop in
-    let t = A .table .now in
-    let h = c .before .before .loop-test .taken in
-    let ls = c .before .line-said in
-    let few = few-bytes (length s) (l .inv .5) in
-    ⊎-elim
-    (λ w.
-    let e = w .1 .given .0 .0 in
-    let says : (e ≡ reach (stopsBy (Byte 10)) s (l .from)) × (judged t (stretch s (l .from) e) (l .from) (l .place) ≡ blank) = rw (w .1 .given .1) at (ls .ensures h few) in
-    let inside = within s (l .from) e h (says .0) in
-    let same : (memory (c .match .gained) (c .match .segments) (c .match .lanes) (c .match .zones) (c .match .spots) (c .match .points) (c .match .checkpoints) (c .match .stops) (c .match .exits)) ≡ (memory (l .gained) (l .segments) (l .lanes) (l .zones) (l .spots) (l .points) (l .checkpoints) (l .stops) (l .exits)) = λ i. memory (w .12 i) (w .3 i) (w .4 i) (w .5 i) (w .6 i) (w .7 i) (w .8 i) (w .9 i) (w .10 i) in
-    let bounds = next-within (length s) (l .from) e (l .line) (c .match .from) (w .13) inside (l .inv .1) in (
-      bounds .0,
-      bounds .1,
-      rw (w .12) (no-more (total (l .gained)) (l .line) (l .inv .2)),
-      ap lengths same ∙ l .inv .3,
-      λ right. goes-on (inner (A .edition)) s (c .match .place) (l .place) (memory (c .match .gained) (c .match .segments) (c .match .lanes) (c .match .zones) (c .match .spots) (c .match .points) (c .match .checkpoints) (c .match .stops) (c .match .exits)) (memory (l .gained) (l .segments) (l .lanes) (l .zones) (l .spots) (l .points) (l .checkpoints) (l .stops) (l .exits)) (c .match .from) e (l .line) (w .11) same (w .13) ∙ sym (blank-line (inner (A .edition)) t right s (l .from) e h (says .0) (l .place) (memory (l .gained) (l .segments) (l .lanes) (l .zones) (l .spots) (l .points) (l .checkpoints) (l .stops) (l .exits)) (l .line) (says .1)) ∙ l .inv .4 right,
-      l .inv .5,
-    ))
-    (λ w.
-    let k = w .1 .given .0 in
-    let says : (k .1 .1 .0 ≡ reach (stopsBy (Byte 10)) s (l .from)) × (judged t (stretch s (l .from) (k .1 .1 .0)) (l .from) (l .place) ≡ stated (judging t) (k .0) (k .1 .0) (l .place)) × (k .1 .1 .1 .0 ≡ lastStart (lineFields (l .from) (stretch s (l .from) (k .1 .1 .0)))) = rw (w .1 .given .1) at (ls .ensures h few) in
-    let e = k .1 .1 .0 in
-    let st = k .1 .0 in
-    let inside = within s (l .from) e h (says .0) in
-    let rows = few-rows (length s) (l .from) (l .line) (total (l .gained)) (l .inv .5) h (l .inv .1) (l .inv .2) in
-    let counted = w .32 .ensures ∙ counts st (l .gained) rows in
-    let same : (memory (c .match .gained) (c .match .segments) (c .match .lanes) (c .match .zones) (c .match .spots) (c .match .points) (c .match .checkpoints) (c .match .stops) (c .match .exits)) ≡ put (place (l .from) (l .line) (stretch s (l .from) e)) st (memory (l .gained) (l .segments) (l .lanes) (l .zones) (l .spots) (l .points) (l .checkpoints) (l .stops) (l .exits)) = (λ i. memory (w .42 i) (w .33 i) (w .34 i) (w .35 i) (w .36 i) (w .37 i) (w .38 i) (w .39 i) (w .40 i)) ∙ stepped st (w .15 .result) (place (l .from) (l .line) (stretch s (l .from) e)) (w .32 .result) (memory (l .gained) (l .segments) (l .lanes) (l .zones) (l .spots) (l .points) (l .checkpoints) (l .stops) (l .exits)) _ (w .16 .ensures) (w .15 .ensures ∙ ap (λ (n : ℕ). rowOf st n (l .gained)) (says .2)) counted in
-    let bounds = next-within (length s) (l .from) e (l .line) (c .match .from) (w .43) inside (l .inv .1) in (
-      bounds .0,
-      bounds .1,
-      grown _ _ _ (l .line) (w .42 ∙ counted) (l .inv .2),
-      ap lengths same ∙ put-long _ _ _ ∙ l .inv .3,
-      λ right. goes-on (inner (A .edition)) s (c .match .place) (w .6 .result) (memory (c .match .gained) (c .match .segments) (c .match .lanes) (c .match .zones) (c .match .spots) (c .match .points) (c .match .checkpoints) (c .match .stops) (c .match .exits)) (put (place (l .from) (l .line) (stretch s (l .from) e)) st (memory (l .gained) (l .segments) (l .lanes) (l .zones) (l .spots) (l .points) (l .checkpoints) (l .stops) (l .exits))) (c .match .from) e (l .line) (w .41) same (w .43) ∙ sym (moved-line (inner (A .edition)) t right s (l .from) e h (says .0) (l .place) (memory (l .gained) (l .segments) (l .lanes) (l .zones) (l .spots) (l .points) (l .checkpoints) (l .stops) (l .exits)) (l .line) (k .0) (w .3 .result) (w .4 .result) st (says .1) (w .3 .ensures) (w .4 .ensures) (w .5 .left) (w .6 .result) (w .6 .ensures)) ∙ l .inv .4 right,
-      l .inv .5,
-    ))
-    (c .match .came)
-
-same-length-17 : tie.Need-same-length-17 Inv-loop μ-loop
-same-length-17 c = ap (λ (x : Lengths). x .segments) (c .before .loop .inv .3)
-
-same-length-18 : tie.Need-same-length-18 Inv-loop μ-loop
-same-length-18 c = ap (λ (x : Lengths). x .lanes) (c .before .loop .inv .3)
-
-same-length-19 : tie.Need-same-length-19 Inv-loop μ-loop
-same-length-19 c = ap (λ (x : Lengths). x .zones) (c .before .loop .inv .3)
-
-same-length-20 : tie.Need-same-length-20 Inv-loop μ-loop
-same-length-20 c = ap (λ (x : Lengths). x .spots) (c .before .loop .inv .3)
-
-same-length-21 : tie.Need-same-length-21 Inv-loop μ-loop
-same-length-21 c = ap (λ (x : Lengths). x .points) (c .before .loop .inv .3)
-
-same-length-22 : tie.Need-same-length-22 Inv-loop μ-loop
-same-length-22 c = ap (λ (x : Lengths). x .checkpoints) (c .before .loop .inv .3)
-
-same-length-23 : tie.Need-same-length-23 Inv-loop μ-loop
-same-length-23 c = ap (λ (x : Lengths). x .stops) (c .before .loop .inv .3)
-
-same-length-24 : tie.Need-same-length-24 Inv-loop μ-loop
-same-length-24 c = ap (λ (x : Lengths). x .exits) (c .before .loop .inv .3)
-
-returns-4 : tie.Need-returns-4 Inv-loop μ-loop
-returns-4 c =
-    let A = c .before .before .before .before .before .before .before .before .before .before .before .before .before .args in
-    let l = c .before .loop in
-    λ right. sym (at-end (inner (A .edition)) (A .text .now) (l .place) (memory (l .gained) (l .segments) (l .lanes) (l .zones) (l .spots) (l .points) (l .checkpoints) (l .stops) (l .exits)) (l .from) (l .line) (omega arith)) ∙ l .inv .4 right
+    let w = c .before .before .before .before .before .before .before .before .before .before .before .before .before .before .before .walk-part in
+    let n = c .before .before .before .before .before .before .before .before .before .before .before .before .before .before .before .before .before .before .before .before .before .before .before .before .none in
+    let p = c .before .before .before .before .before .before .before .before .before .before .before .before .before .before .before .before .before .before .before .before .before .before .before .before .before .start in
+    let size = c .before .before .before .before .before .before .before .before .before .before .before .before .before .before .before .before .before .before .before .before .before .before .before .before .before .before .if1 .left in
+    λ right. w .ensures right size (rw (n .ensures) (omega arith)) (omega arith) ∙ rw (n .ensures, p .ensures) (sym (not-too-long (c .before .before .before .before .before .before .before .before .before .before .before .before .before .before .before .before .before .before .before .before .before .before .before .before .before .before .before .before .before .before .before .before .before .before .before .args .text .now) _ _ size))
 
 pub walk-lines-spec : {M : Type 1} → statement M
 walk-lines-spec =
     tie.close
     (tie.spec
-    Inv-loop
-    μ-loop
     returns
     start-requires
     none-requires
-    loop-holds
-    line-said-requires
-    enum-known-e
-    add-from
-    enum-known-kind
-    cell-requires
-    refused-requires
+    walk-part-requires
     same-length
     same-length-2
     same-length-3
@@ -312,32 +69,4 @@ walk-lines-spec =
     same-length-6
     same-length-7
     same-length-8
-    returns-2
-    moved-requires
-    cast-row
-    row-requires
-    store-requires
-    after-requires
-    add-from-2
-    enum-known-n
-    same-length-9
-    same-length-10
-    same-length-11
-    same-length-12
-    same-length-13
-    same-length-14
-    same-length-15
-    same-length-16
-    returns-3
-    add-line
-    loop-less
-    loop-again
-    same-length-17
-    same-length-18
-    same-length-19
-    same-length-20
-    same-length-21
-    same-length-22
-    same-length-23
-    same-length-24
-    returns-4)
+    returns-2)
