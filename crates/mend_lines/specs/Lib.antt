@@ -1,0 +1,2 @@
+-- What becomes of a line, going forward.
+pub mod Forward

@@ -1,0 +1,2 @@
+-- What comes out of the mending tool, piece by piece.
+pub mod Steps
