@@ -1,0 +1,2 @@
+-- What a walk says and gathers, but for where names start.
+pub mod Plain
