@@ -1,0 +1,2 @@
+-- The mending tool's own tests.
+pub mod Mending
