@@ -10,13 +10,13 @@
  * What it does
  *   It reads the text of a route network (RNDF) and of a mission (MDF) in the format of March 14, 2007, or in its edition of December 6, 2006, as document 01 narrows it, and either fills
  *   the tables that you lend and accepts, or refuses with file, line, one number and the column in that line. It also puts the house writing of either file, a map of the network, or the network packed for a radio, into an output
- *   that you lend, and fills the tables from a packed network; and it tells whether a route is drivable, and whether a mission can be driven at all. That it does so for all texts, all packed bytes, all tables, all outputs, all
- *   routes and all work spaces is proved of its source (crates/yard, crates/replies/specs/Replies.antt, crates/writings/specs/Writes.antt, crates/unpackings/specs/Unpacks.antt, crates/pair_checks/specs/Checks.antt,
+ *   that you lend, and fills the tables from a packed network; and it tells whether a route is drivable, and whether a mission can be driven at all; and it mends three kinds of trouble in an RNDF. That it does so for all texts, all packed bytes, all tables, all outputs, all
+ *   routes and all work spaces is proved of its source (crates/yard, crates/replies/specs/Replies.antt, crates/writings/specs/Writes.antt, crates/unpackings/specs/Unpacks.antt, crates/mend_law/specs/Mends.antt, crates/pair_checks/specs/Checks.antt,
  *   crates/reach_checks/specs/Checks.antt); the compiler, the declarations below and your calls are not part of that proof.
  *
  * What you hand over
  *   Every slice is a pointer and then its length: how many elements it has, not how many rows or bytes. Nothing is asked of what a slice holds, and no length is too short:
- *   a table or a work space with too few rows is refusal 11, an output that is too short refusal 19. But a pointer must be what C says it is:
+ *   a table, a list or a work space with too few rows is refusal 11, an output that is too short refusal 19. But a pointer must be what C says it is:
  *   - it is never NULL, also where the length is 0 (any address that fits the type will do then), and it is aligned for its type;
  *   - that many elements can be read there, and written where the pointer is not const;
  *   - a slice that is written overlaps no other slice of the same call. The two texts may overlap: they are only read.
@@ -26,7 +26,7 @@
  *   returns. Calls in several threads at once do not disturb each other as long as no two of them write the same tables, work space or output; texts and packed bytes may be shared.
  *
  * Stack, as the kit's compiler builds it (tests/stack.py measures it)
- *   kastepuhm_read_rndf, kastepuhm_write_rndf, kastepuhm_write_map, kastepuhm_write_packed and kastepuhm_read_packed take less than 8 KiB, kastepuhm_read_pair, kastepuhm_write_mdf, kastepuhm_check_route and
+ *   kastepuhm_read_rndf, kastepuhm_write_rndf, kastepuhm_write_map, kastepuhm_write_packed, kastepuhm_read_packed and kastepuhm_mend take less than 8 KiB, kastepuhm_read_pair, kastepuhm_write_mdf, kastepuhm_check_route and
  *   kastepuhm_check_mission less than 12 KiB: 4,096 bytes of marks for each file, or for the packed bytes, are in it.
  *   kastepuhm_point_of takes a few words. Give a thread that calls them a stack to match.
  *
@@ -226,6 +226,7 @@ enum {
     KASTEPUHM_GOAL_NOT_MET = 23,       /* a goal is not met in order, the first (line: the goal's row, from 0) */
     KASTEPUHM_WRONG_END = 24,          /* the route does not end at the last goal's point (line 0) */
     KASTEPUHM_BARE_SPOT = 25,          /* the spot has no checkpoint (line: its first waypoint's, where that has no fault of 2 to 9) */
+    KASTEPUHM_PAST_MENDING = 26,       /* kastepuhm_mend only, behind 1 and 11 and before 19: with the three changes the text would still be refused (file 0, line 0) */
     KASTEPUHM_OTHER_VERSION = 27,      /* 27 to 29: kastepuhm_read_packed only, behind 1 and before 11, in this order, file 0, line 0: there are no bytes, or they are of another version than 2 */
     KASTEPUHM_WRONG_LENGTH = 28,       /* the first length is cut short or is not the count of bytes behind it, or a record runs past the end */
     KASTEPUHM_NO_NETWORK = 29,         /* the records are not the packed form of a network */
@@ -436,6 +437,47 @@ kastepuhm_answer kastepuhm_read_packed(
     uint32_t *checkpoints, size_t checkpoints_length,
     uint32_t *stops, size_t stops_length,
     uint32_t *exits, size_t exits_length);
+
+/* The list of what was mended: a row for each changed line, in order. */
+enum {
+    KASTEPUHM_MEND_LINE,           /* the line's number in the given text, from 1 */
+    KASTEPUHM_MEND_WHICH,          /* one of the three below */
+    KASTEPUHM_MEND_STRIDE
+};
+
+enum {
+    KASTEPUHM_MENDED_COUNT = 1,    /* a count that disagreed with its items: the number was replaced */
+    KASTEPUHM_MENDED_AGAIN = 2,    /* a single option given again: the line was taken out */
+    KASTEPUHM_MENDED_BEHIND = 3    /* a line with fields behind end_file: it was taken out */
+};
+
+/* What mending answers. */
+typedef struct kastepuhm_mend_answer {
+    uint32_t accepted;             /* 1: the output has the mended text, 0: refused */
+    uint32_t file;                 /* the refusal's file, line (0), number and column (0); 0 where accepted */
+    uint32_t line;
+    uint32_t number;
+    uint32_t column;
+    uint32_t rows;                 /* rows of the list used, 0 of a refusal and where nothing was to mend */
+    uint32_t length;               /* bytes written, 0 of a refusal */
+} kastepuhm_mend_answer;
+
+/*
+ * Mends an RNDF: counts that disagree with their items, single options given again and lines behind the first end_file, and nothing else. The mended text is put into `out`, which is zero behind it, and
+ * every changed line is listed; lines that are not listed come out byte for byte and in order. A text that kastepuhm_read_rndf accepts comes out the same with an empty list; what comes out is accepted by
+ * it, in the same edition and given room enough, and mending it again changes nothing.
+ *
+ * Refusals, tried in this order: 1 (file 1) for a text over 16,777,215 bytes; 11 (file 1) where the list has fewer rows than the text has lines; 26 (file 0) exactly if a reader with room enough would
+ * still refuse the mended text; 19 (file 1) where that text is longer than the output. Line and column are 0, and every number of the list and every byte of the output is 0 then.
+ *
+ * The list is the work space too: what it held before does not matter, and its rows that are not used are 0 afterwards. An output of the text's length and 4 bytes for each line is always long enough:
+ * a count grows from one digit to five at the most. (That is counted by hand and not proved.)
+ */
+kastepuhm_mend_answer kastepuhm_mend(
+    uint32_t edition,
+    const uint8_t *text, size_t text_length,
+    uint32_t *list, size_t list_length,
+    uint8_t *out, size_t out_length);
 
 /* Where no row has the number. */
 #define KASTEPUHM_NO_POINT 4294967295u

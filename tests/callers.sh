@@ -3,7 +3,7 @@
 # tests/callers.sh --built   the same with the library as it was last built
 #
 # Compared: yard A as a pair and alone, yard A written untidily and with spaces for tabs (its house writing is the same), yard B (every table; its answer was worked out by hand), two damaged texts and a
-# missing file; these in the edition of December 6, 2006 too, with a boundary and a zone that it has not (request L10); routes over yard A (request L5), and whether its mission can be driven at all (request L13); yards A and B packed and unpacked, with too few rows and with damaged bytes (request L11); then document 01's cases and the edges of the summary program's rules (tests/summary_cases.py), and every reply and every lent number of the oracle's corpus and of
+# missing file; these in the edition of December 6, 2006 too, with a boundary and a zone that it has not (request L10); routes over yard A (request L5), and whether its mission can be driven at all (request L13); yards A and B packed and unpacked, with too few rows and with damaged bytes (request L11); yard A with each kind of trouble, mended (request L9); then document 01's cases and the edges of the summary program's rules (tests/summary_cases.py), and every reply and every lent number of the oracle's corpus and of
 # 2,000 random pairs (tests/callers/corpus.c).
 # The last line is 'N passed, M failed, K skipped'; the status is 0 if none failed.
 #
@@ -203,6 +203,44 @@ unpacked 'yard A, a byte too few, unpacked' 'refused 0 0 28 0' "$work/short.pack
 unpacked 'yard A, a byte too many, unpacked' 'refused 0 0 28 0' "$work/long.packed"
 unpacked 'yard A, entry 2, unpacked' 'refused 0 0 29 0' "$work/entry.packed"
 unpacked 'yard A, entry 2, unpacked into no rows' 'refused 0 0 29 0' "$work/entry.packed" 0 0 0 0 0 0 0 0
+
+# L9: yard A mended: its counts, an option given again, a line behind end_file; nothing; a row and a byte too few; past mending, which comes before a byte too few
+# mended LABEL ROWS TEXT NETWORK [WORDS ..]: ROWS are the lines of the list, TEXT what comes out
+mended() {
+    { printf 'mended %d %d\n' "$(printf %s "$2" | grep -c . || true)" "$(wc -c <"$3")"; [ -z "$2" ] || echo "$2"; cat "$3"; } >"$work/answer"
+    what=$1 network=$4
+    shift 4
+    compare "$what" "$work/answer" "$network" mend "$@"
+}
+# unmended LABEL ANSWER NETWORK [WORDS ..]
+unmended() {
+    echo "$2" >"$work/answer"
+    what=$1 network=$3
+    shift 3
+    compare "$what" "$work/answer" "$network" mend "$@"
+}
+sed "s/^num_waypoints${tab}2\$/num_waypoints${tab}3/" "$a/network.rndf" >"$work/count.rndf"
+sed "s/^num_waypoints.*/&\nlane_width${tab}12/" "$a/network.rndf" >"$work/wide.rndf"
+sed "s/^lane_width.*/&\nlane_width${tab}13/" "$work/wide.rndf" >"$work/again.rndf"
+{ cat "$a/network.rndf"; echo 'left over'; } >"$work/behind.rndf"
+{ sed "s/^num_waypoints${tab}2\$/num_waypoints${tab}9/" "$work/again.rndf"; echo 'left over'; } >"$work/three.rndf"
+mended 'yard A, mended' '' "$a/network.rndf" "$a/network.rndf"
+mended 'yard A with num_waypoints 3, mended' 'line 7 1' "$a/network.rndf" "$work/count.rndf"
+mended 'yard A with an option given again, mended' 'line 9 2' "$work/wide.rndf" "$work/again.rndf"
+mended 'yard A with a line behind end_file, mended' 'line 15 3' "$a/network.rndf" "$work/behind.rndf"
+mended 'yard A with all three, mended' 'line 7 1
+line 9 2
+line 17 3' "$work/wide.rndf" "$work/three.rndf"
+mended 'yard A, mended with just enough rows and bytes' '' "$a/network.rndf" "$a/network.rndf" 14 "$(wc -c <"$a/network.rndf")"
+unmended 'yard A, mended with 13 rows' 'refused 1 0 11 0' "$a/network.rndf" 13
+unmended 'yard A, mended with a byte too few' 'refused 1 0 19 0' "$a/network.rndf" 14 "$(($(wc -c <"$a/network.rndf") - 1))"
+unmended 'yard A with num_waypoints 3, mended with a byte too few' 'refused 1 0 19 0' "$work/count.rndf" 14 "$(($(wc -c <"$a/network.rndf") - 1))"
+unmended 'yard A with an entry 1.1.3, mended' 'refused 0 0 26 0' "$work/entry.rndf"
+unmended 'yard A with an entry 1.1.3, mended with no bytes' 'refused 0 0 26 0' "$work/entry.rndf" 14 0
+unmended 'yard A with an entry 1.1.3, mended with no rows' 'refused 1 0 11 0' "$work/entry.rndf" 0 0
+mended 'solid_yellow, mended' '' "$work/yellow.rndf" "$work/yellow.rndf"
+echo 'refused 0 0 26 0' >"$work/answer"
+compare 'solid_yellow, mended, 2006' "$work/answer" --2006 "$work/yellow.rndf" mend
 
 # document 01's cases, by the first line that a caller prints
 if command -v python3 >/dev/null; then

@@ -46,9 +46,9 @@ def listed(table):
 
 def main():
     readme = listed(of_readme())
-    differ = len(readme) != 30
+    differ = len(readme) != 31
     if differ:
-        print("README.md has %d refusal numbers, not 30" % len(readme))
+        print("README.md has %d refusal numbers, not 31" % len(readme))
     work = of_work()
     if len(work[0]) != 1 or work != [work[0]] * 3:
         differ = True

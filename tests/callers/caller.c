@@ -2,7 +2,8 @@
  * A worked caller in C: caller NETWORK [MISSION] reads an RNDF, alone or with its MDF, and prints the summary program's line, what stands in the tables, and then the
  * length and first line of the house writing, and the network's map; caller NETWORK MISSION START [POINT ..] prints whether the route of these points is drivable from there (request L5);
  * caller NETWORK MISSION drive START ROWS whether the mission can be driven from there at all, with so many rows of work space (request L13);
- * caller NETWORK pack the bytes of the packed network, and caller FILE unpack [ROWS ..] what stands in the tables of such bytes, with so many rows lent of the first tables (request L11).
+ * caller NETWORK pack the bytes of the packed network, and caller FILE unpack [ROWS ..] what stands in the tables of such bytes, with so many rows lent of the first tables (request L11);
+ * caller NETWORK mend [ROWS [BYTES]] the lines that were mended, and the mended text, with so many rows of the list and so many bytes of the output lent (request L9).
  * With --2006 before all these words the texts are read in the edition of December 6, 2006 (request L10), else in the present one.
  * Texts up to 8,192 bytes, 256 points and 128 rows of every other table, as the summary program has them; all of it lies in this program's own memory.
  */
@@ -18,6 +19,7 @@ _Static_assert(sizeof(kastepuhm_answer) == 29 * sizeof(uint32_t), "the library's
 _Static_assert(sizeof(kastepuhm_list_answer) == 5 * sizeof(uint32_t), "a list's answer has 5 words");
 _Static_assert(KASTEPUHM_GOAL_STRIDE == 1, "a goal's row is its number");
 _Static_assert(sizeof(kastepuhm_write_answer) == 30 * sizeof(uint32_t), "a writer's answer has one word more");
+_Static_assert(sizeof(kastepuhm_mend_answer) == 7 * sizeof(uint32_t), "the mending tool's answer has 7 words");
 #endif
 
 #define LENGTH(table) (sizeof(table) / sizeof((table)[0]))
@@ -47,6 +49,9 @@ static uint8_t house[MOST_BYTES + 1];
 static uint8_t map[8 * MOST_BYTES];
 /* A packed network is shorter than its text. */
 static uint8_t packed[MOST_BYTES];
+/* A text has at most a line to each byte, and comes out of the mending tool with at most 4 bytes to 3. */
+static uint32_t list[MOST_BYTES * KASTEPUHM_MEND_STRIDE];
+static uint8_t mended[MOST_BYTES * 4 / 3 + 1];
 
 /* Whether the file could be taken; if not, why is printed. */
 static int load(const char *path, uint8_t *text, size_t *length)
@@ -299,6 +304,37 @@ static void print_unpacked(size_t length, char **words, int count)
         printf("and the tables are not as they should be\n");
 }
 
+/* The words are how many rows of the list and how many bytes of the output are lent; without them all. */
+static void print_mended(size_t rndf_length, char **words, int count)
+{
+    size_t rows = count > 0 ? (size_t)strtoul(words[0], NULL, 10) : MOST_BYTES;
+    size_t bytes = count > 1 ? (size_t)strtoul(words[1], NULL, 10) : LENGTH(mended);
+    size_t at = 0;
+    kastepuhm_mend_answer a;
+    if (rows > MOST_BYTES)
+        rows = MOST_BYTES;
+    if (bytes > LENGTH(mended))
+        bytes = LENGTH(mended);
+    memset(list, 0xAA, sizeof list);
+    memset(mended, 0xAA, sizeof mended);
+    a = kastepuhm_mend(edition, rndf, rndf_length, list, rows * KASTEPUHM_MEND_STRIDE, mended, bytes);
+    if (a.accepted) {
+        printf("mended %" PRIu32 " %" PRIu32 "\n", a.rows, a.length);
+        for (uint32_t i = 0; i < a.rows; i++)
+            printf("line %" PRIu32 " %" PRIu32 "\n", list[i * KASTEPUHM_MEND_STRIDE + KASTEPUHM_MEND_LINE], list[i * KASTEPUHM_MEND_STRIDE + KASTEPUHM_MEND_WHICH]);
+        fwrite(mended, 1, a.length, stdout);
+    } else {
+        printf("refused %" PRIu32 " %" PRIu32 " %" PRIu32 " %" PRIu32 "\n", a.file, a.line, a.number, a.column);
+    }
+    if (!all_zero(list + a.rows * KASTEPUHM_MEND_STRIDE, (rows - a.rows) * KASTEPUHM_MEND_STRIDE))
+        printf("and the list is not zero behind its rows\n");
+    for (at = a.length; at < bytes; at++)
+        if (mended[at] != 0) {
+            printf("and the output is not zero behind the text\n");
+            break;
+        }
+}
+
 int main(int count, char **words)
 {
     size_t rndf_length, mdf_length;
@@ -312,7 +348,7 @@ int main(int count, char **words)
     }
     drive = count > 3 && strcmp(words[3], "drive") == 0;
     if (count < 2 || count > 4 + STEPS || (drive && count != 6)) {
-        fputs("usage: caller [--2006] NETWORK [MISSION [START [POINT ..] | drive START ROWS] | pack | unpack [ROWS ..]]\n", stderr);
+        fputs("usage: caller [--2006] NETWORK [MISSION [START [POINT ..] | drive START ROWS] | pack | unpack [ROWS ..] | mend [ROWS [BYTES]]]\n", stderr);
         return 2;
     }
     if (!load(words[1], rndf, &rndf_length))
@@ -323,6 +359,10 @@ int main(int count, char **words)
     }
     if (count >= 3 && strcmp(words[2], "unpack") == 0) {
         print_unpacked(rndf_length, words + 3, count - 3);
+        return 0;
+    }
+    if (count >= 3 && strcmp(words[2], "mend") == 0) {
+        print_mended(rndf_length, words + 3, count - 3);
         return 0;
     }
     if (count >= 3 && !load(words[2], mdf, &mdf_length))

@@ -1,5 +1,5 @@
 //! A worked caller in Rust, without crates: `caller NETWORK [MISSION]` reads an RNDF, alone or with its MDF, and prints the summary program's line, what stands in the tables, and
-//! then the length and first line of the house writing, and the network's map; `caller NETWORK MISSION START [POINT ..]` prints whether the route of these points is drivable from there (request L5), `caller NETWORK MISSION drive START ROWS` whether the mission can be driven from there at all, with so many rows of work space (request L13), `caller NETWORK pack` the bytes of the packed network, and `caller FILE unpack [ROWS ..]` what stands in the tables of such bytes, with so many rows lent of the first tables (request L11). With `--2006` before all these words
+//! then the length and first line of the house writing, and the network's map; `caller NETWORK MISSION START [POINT ..]` prints whether the route of these points is drivable from there (request L5), `caller NETWORK MISSION drive START ROWS` whether the mission can be driven from there at all, with so many rows of work space (request L13), `caller NETWORK pack` the bytes of the packed network, and `caller FILE unpack [ROWS ..]` what stands in the tables of such bytes, with so many rows lent of the first tables (request L11), and `caller NETWORK mend [ROWS [BYTES]]` the lines that were mended, and the mended text, with so many rows of the list and so many bytes of the output lent (request L9). With `--2006` before all these words
 //! the texts are read in the edition of December 6, 2006 (request L10), else in the present one. The module `kastepuhm` is what to copy: the declarations and safe functions over them. include/kastepuhm.h says what every column and number means.
 //! Texts up to 8,192 bytes, 256 points and 128 rows of every other table, as the summary program has them.
 use std::io::Read;
@@ -61,6 +61,20 @@ mod kastepuhm {
     #[derive(Clone, Copy)]
     pub struct WriteAnswer {
         pub answer: Answer,
+        pub length: u32,
+    }
+
+    /// What the mending tool answers: how many rows of the list it used and how many bytes came out.
+    #[repr(C)]
+    #[derive(Clone, Copy)]
+    #[allow(dead_code)]
+    pub struct MendAnswer {
+        pub accepted: u32,
+        pub file: u32,
+        pub line: u32,
+        pub number: u32,
+        pub column: u32,
+        pub rows: u32,
         pub length: u32,
     }
 
@@ -230,6 +244,13 @@ mod kastepuhm {
             stops: *mut u32, stops_length: usize,
             exits: *mut u32, exits_length: usize,
         ) -> Answer;
+
+        fn kastepuhm_mend(
+            edition: u32,
+            text: *const u8, text_length: usize,
+            list: *mut u32, list_length: usize,
+            out: *mut u8, out_length: usize,
+        ) -> MendAnswer;
 
         fn kastepuhm_point_of(checkpoints: *const u32, checkpoints_length: usize, number: u32) -> u32;
 
@@ -430,6 +451,12 @@ mod kastepuhm {
         }
     }
 
+    /// The text with three kinds of trouble mended, and a row of two words for each changed line; or refused with 1, 11, 26 or 19.
+    pub fn mend(edition: Edition, text: &[u8], list: &mut [u32], out: &mut [u8]) -> MendAnswer {
+        // Safe: as in `read_rndf`.
+        unsafe { kastepuhm_mend(edition as u32, text.as_ptr(), text.len(), list.as_mut_ptr(), list.len(), out.as_mut_ptr(), out.len()) }
+    }
+
     /// The point of the first row with that checkpoint number, or `NO_POINT`.
     pub fn point_of(checkpoints: &[u32], number: u32) -> u32 {
         // Safe: as in `read_rndf`.
@@ -620,6 +647,30 @@ fn run_unpack(file: &str, rows: &[usize]) -> Result<(), &'static str> {
     Ok(())
 }
 
+/// `lent`: how many rows of the list and how many bytes of the output; without them enough for every text.
+fn run_mend(edition: Edition, network: &str, lent: &[usize]) -> Result<(), &'static str> {
+    let rndf = load(network)?;
+    let mut list = vec![0xAAAA_AAAA; 2 * lent.first().copied().unwrap_or(rndf.len())];
+    let mut out = vec![0xAA; lent.get(1).copied().unwrap_or(rndf.len() * 4 / 3 + 1)];
+    let a = kastepuhm::mend(edition, &rndf, &mut list, &mut out);
+    if a.accepted == 0 {
+        println!("refused {} {} {} {}", a.file, a.line, a.number, a.column);
+    } else {
+        println!("mended {} {}", a.rows, a.length);
+        for row in list.chunks(2).take(a.rows as usize) {
+            println!("line {} {}", row[0], row[1]);
+        }
+        print!("{}", String::from_utf8_lossy(&out[..a.length as usize]));
+    }
+    if list[2 * a.rows as usize..].iter().any(|&word| word != 0) {
+        println!("and the list is not zero behind its rows");
+    }
+    if out[a.length as usize..].iter().any(|&byte| byte != 0) {
+        println!("and the output is not zero behind the text");
+    }
+    Ok(())
+}
+
 fn run(edition: Edition, network: &str, mission: Option<&str>) -> Result<(), &'static str> {
     let rndf = load(network)?;
     let mdf = mission.map(load).transpose()?;
@@ -663,13 +714,15 @@ fn main() {
     }
     let pack = words.len() == 3 && words[2] == "pack";
     let unpack = words.len() >= 3 && words[2] == "unpack";
+    let mend = words.len() >= 3 && words[2] == "mend";
     let numbers: Vec<u32> = words.iter().skip(3).filter_map(|word| word.parse().ok()).collect();
     if words.len() < 2 || (words.len() > 3 && numbers.len() + 3 != words.len()) {
-        eprintln!("usage: caller [--2006] NETWORK [MISSION [START [POINT ..] | drive START ROWS] | pack | unpack [ROWS ..]]");
+        eprintln!("usage: caller [--2006] NETWORK [MISSION [START [POINT ..] | drive START ROWS] | pack | unpack [ROWS ..] | mend [ROWS [BYTES]]]");
         std::process::exit(2);
     }
     let done = match numbers.split_first() {
         _ if pack => run_pack(edition, &words[1]),
+        _ if mend => run_mend(edition, &words[1], &numbers.iter().map(|&lent| lent as usize).collect::<Vec<_>>()),
         _ if unpack => run_unpack(&words[1], &numbers.iter().map(|&rows| rows as usize).collect::<Vec<_>>()),
         Some((&start, rows)) if drive => run_drive(edition, &words[1], &words[2], start, rows[0] as usize),
         Some((&start, route)) => run_route(edition, &words[1], &words[2], start, route),

@@ -5,5 +5,6 @@ pub mod ListSettled
 pub mod RouteSettled
 pub mod MissionSettled
 pub mod UnpackSettled
+pub mod MendSettled
 pub mod MissionAgreed
 pub mod Whole

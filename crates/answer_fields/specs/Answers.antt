@@ -27,6 +27,9 @@ use Rattle.writings.specs.declared.WriteMdfReply.the-variants as WriteMdf
 use Rattle.house_text.specs.House.{HouseRndf}
 use Rattle.writings.specs.Writes.{Writes, MapOf, PackedOf, WritesMdf}
 use Rattle.unpackings.specs.Unpacks.{Unpacks}
+use Rattle.mend_law.specs.declared.MendReply.{MendReply}
+use Rattle.mend_law.specs.declared.MendReply.the-variants as Mend
+use Rattle.mend_law.specs.Mends.{Mends}
 use Rattle.pair_checks.specs.Checks.{ChecksRoute}
 use Rattle.reach_checks.specs.Checks.{ChecksMission}
 use Rattle.answer_fields.specs.declared.Name.{Name}
@@ -36,6 +39,7 @@ use Rattle.look_up.specs.declared.ListReply.the-variants as Listed
 use Rattle.look_up.specs.Listed.{PointsOf}
 use Rattle.answer_fields.specs.declared.WriteAnswer.{WriteAnswer}
 use Rattle.answer_fields.specs.declared.ListAnswer.{ListAnswer}
+use Rattle.answer_fields.specs.declared.MendAnswer.{MendAnswer}
 
 -- 01: "A name is its start and length in the lent text"
 abbrev pub named : Stretch → Name
@@ -168,3 +172,13 @@ pub record AnswersList (t numbers : List ℕ) (lent : ℕ) (given : ListAnswer) 
   pub reply : ListReply
   pub looks : PointsOf t numbers lent reply left
   pub told : given ≡ list-answer reply
+
+-- ## Mending. Request L9. list: the list as it was lent, two words to a row; lent: the length of the lent output; left and out: what both then hold
+abbrev pub mend-answer : MendReply → MendAnswer
+mend-answer (Mend.Mended rows n) = record { accepted = 1; file = 0; line = 0; number = 0; column = 0; rows = rows; length = n }
+mend-answer (Mend.Refused x) = record { accepted = 0; file = x .file; line = x .line; number = x .number; column = x .column; rows = 0; length = 0 }
+
+pub record AnswersMend (edition : Edition) (text : Bytes) (list : List ℕ) (lent : ℕ) (given : MendAnswer) (left : List ℕ) (out : Bytes) : Type 0 where
+  pub reply : MendReply
+  pub mends : Mends (rules-of edition) text list lent reply left out
+  pub told : given ≡ mend-answer reply

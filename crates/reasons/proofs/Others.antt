@@ -47,23 +47,14 @@ behind : (n : ℕ) → 32 ≤ n → reason n ≡ no-reason
 unfolding reason reasons
 behind n l = List·getD-eq-default reasons no-reason {n = n} (omega arith)
 
--- 26 waits for its request
-not-below : (n : ℕ) → n < 27 → reason-from 26 n ≡ no-reason
-unfolding reason-from reason reasons
-not-below n u =
-    ⊎-elim
-    (λ (l : n < 26). rw (lt-ltb n 26 l) refl)
-    (λ (l : 26 ≤ n). let e : n ≡ 26 = omega arith in rw e refl)
-    (below-or-not n 26)
-
 -- the last part has five numbers
-pub none-else : (n : ℕ) → NoneOf 27 5 n → no-reason ≡ reason-from 26 n
+pub none-else : (n : ℕ) → NoneOf 27 5 n → no-reason ≡ reason-from 27 n
 unfolding reason-from
 none-else n h =
     sym
     (⊎-elim
-    (λ (l : n < 27). not-below n l)
-    (λ (l : 32 ≤ n). let k : 26 ≤ n = omega arith in rw (le-ltb n 26 k) (behind n l))
+    (λ (l : n < 27). rw (lt-ltb n 27 l) refl)
+    (λ (l : 32 ≤ n). let k : 27 ≤ n = omega arith in rw (le-ltb n 27 k) (behind n l))
     (outside 27 5 n h))
 
 -- ## 11 of file 0, and every other

@@ -10,7 +10,7 @@ use Rattle.terms.specs.Words.{pick}
 abbrev pub no-reason : Bytes
 no-reason = ascii "no such refusal"
 
--- 01, "Refusal numbers", and those that the requests add (L4: 20; L5: 21 to 24; L8: 25; L11: 27 to 29; L13: 30 and 31): from 0, which none has
+-- 01, "Refusal numbers", and those that the requests add (L4: 20; L5: 21 to 24; L8: 25; L9: 26; L11: 27 to 29; L13: 30 and 31): from 0, which none has
 unfoldable pub reasons : List Bytes
 reasons =
     no-reason
@@ -39,7 +39,7 @@ reasons =
     ∷ ascii "a goal is not met in order"
     ∷ ascii "the route does not end at the last goal's point"
     ∷ ascii "the spot has no checkpoint"
-    ∷ no-reason
+    ∷ ascii "past mending"
     ∷ ascii "the bytes are of another version, or there are none"
     ∷ ascii "a length is wrong: the first is cut short or not the count of the bytes behind it, or a record runs past the end"
     ∷ ascii "the records are not the packed form of a network"

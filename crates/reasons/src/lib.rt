@@ -108,19 +108,20 @@ fn put_reason_from_20(out: &mut [u8], at: usize, number: u8) -> usize
     }
 }
 
-// 25: a spot's checkpoint.
+// 25: a spot's checkpoint; 26: mending.
 fn put_reason_from_25(out: &mut [u8], at: usize, number: u8) -> usize
     ensures { λ r. ⌜ Wrote (pen (now (out .entry)) at) (reason-from 25 number) (pen (now (out .exit)) r) ⌝ }
 {
     match number {
         25 => put_bytes(out, at, b"the spot has no checkpoint"),
-        _ => put_reason_from_26(out, at, number),
+        26 => put_bytes(out, at, b"past mending"),
+        _ => put_reason_from_27(out, at, number),
     }
 }
 
-// 27 to 29: a packed network; 30 and 31: whether a mission can be driven. No reply has another number: 26 waits for its request.
-fn put_reason_from_26(out: &mut [u8], at: usize, number: u8) -> usize
-    ensures { λ r. ⌜ Wrote (pen (now (out .entry)) at) (reason-from 26 number) (pen (now (out .exit)) r) ⌝ }
+// 27 to 29: a packed network; 30 and 31: whether a mission can be driven. No reply has another number.
+fn put_reason_from_27(out: &mut [u8], at: usize, number: u8) -> usize
+    ensures { λ r. ⌜ Wrote (pen (now (out .entry)) at) (reason-from 27 number) (pen (now (out .exit)) r) ⌝ }
 {
     match number {
         27 => put_bytes(

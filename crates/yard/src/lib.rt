@@ -2,13 +2,14 @@
 // `edition` is the number of `edition`/specs/Editions: 1 reads by the edition of December 6, 2006, any other number by the present one.
 // Every function here takes plain slices (C hands over a pointer, then how many elements) and numbers, requires nothing of them, keeps nothing and allocates nothing.
 //
-// The answers and the contracts are `answer_fields`, with their laws; what a reader must believe beside them: replies/specs/Replies, writings/specs/Writes, unpackings/specs/Unpacks, pair_checks/specs/Checks, reach_checks/specs/Checks, look_up/specs/LookUp, Listed.
+// The answers and the contracts are `answer_fields`, with their laws; what a reader must believe beside them: replies/specs/Replies, writings/specs/Writes, unpackings/specs/Unpacks, mend_law/specs/Mends, pair_checks/specs/Checks, reach_checks/specs/Checks, look_up/specs/LookUp, Listed.
 //
 // Left out: asking for a name (`rows::name_of`), since a part of a slice cannot be returned to C. There a name is `text + start`, of a packed network `bytes + start`, for `length` bytes.
 //
-// Rests on `answer_fields`, `edition`, `reader`, `writer`, `map_writer`, `packer`, `unpacker`, `route`, `reach`, `look_up` and what they rest on.
+// Rests on `answer_fields`, `edition`, `reader`, `writer`, `map_writer`, `packer`, `unpacker`, `mend`, `route`, `reach`, `look_up` and what they rest on.
 use answer_fields::Answer;
 use answer_fields::ListAnswer;
+use answer_fields::MendAnswer;
 use answer_fields::Name;
 use answer_fields::WriteAnswer;
 use counts::Counts;
@@ -18,6 +19,8 @@ use look_up::ListReply;
 use look_up::point_of_word;
 use look_up::points_of;
 use map_writer::write_map;
+use mend::mend;
+use mend_law::MendReply;
 use packer::write_packed;
 use reach::check_mission;
 use reader::read_pair;
@@ -39,7 +42,7 @@ ghost use lib.ListN.{length};
 ghost use Rattle.law.specs.Tables.{lent, mission-lent};
 ghost use Rattle.edition.specs.Editions.{numbered};
 ghost use Rattle.look_up.specs.LookUp.{PointOf};
-ghost use Rattle.answer_fields.specs.Answers.{named, laid-out, taken, refused, rndf-answer, pair-answer, write-answer, write-mdf-answer, list-answer, AnswersRndf, AnswersPair, AnswersRoute, AnswersMission, AnswersWriteRndf, AnswersWriteMap, AnswersWritePacked, AnswersWriteMdf, AnswersUnpack, AnswersList};
+ghost use Rattle.answer_fields.specs.Answers.{named, laid-out, taken, refused, rndf-answer, pair-answer, write-answer, write-mdf-answer, list-answer, mend-answer, AnswersRndf, AnswersPair, AnswersRoute, AnswersMission, AnswersWriteRndf, AnswersWriteMap, AnswersWritePacked, AnswersWriteMdf, AnswersUnpack, AnswersMend, AnswersList};
 
 fn named(s: Stretch) -> Name
     ensures { λ r. ⌜ r ≡ named s ⌝ }
@@ -202,6 +205,31 @@ fn list_answer(reply: ListReply) -> ListAnswer
             line: why.line,
             number: why.number as u32,
             column: why.column,
+        },
+    }
+}
+
+fn mend_answer(reply: MendReply) -> MendAnswer
+    ensures { λ r. ⌜ r ≡ mend-answer reply ⌝ }
+{
+    match reply {
+        MendReply::Mended(rows, length) => MendAnswer {
+            accepted: 1,
+            file: 0,
+            line: 0,
+            number: 0,
+            column: 0,
+            rows,
+            length,
+        },
+        MendReply::Refused(why) => MendAnswer {
+            accepted: 0,
+            file: why.file as u32,
+            line: why.line,
+            number: why.number as u32,
+            column: why.column,
+            rows: 0,
+            length: 0,
         },
     }
 }
@@ -529,6 +557,21 @@ pub extern "C" fn kastepuhm_read_packed(
         exits,
     );
     rndf_answer(reply)
+}
+
+// An RNDF with three kinds of trouble mended, into `out`; a row of `list` for each changed line.
+#[no_mangle]
+pub extern "C" fn kastepuhm_mend(
+    edition: u32,
+    text: &[u8],
+    list: &mut [u32],
+    out: &mut [u8],
+) -> MendAnswer
+    ensures { λ r. ⌜ AnswersMend (numbered edition) (now (text .entry)) (now (list .entry)) (length (now (out .entry))) r (now (list .exit)) (now (out .exit)) ⌝ }
+{
+    let by = edition_of(edition);
+    let reply = mend(by, text, list, out);
+    mend_answer(reply)
 }
 
 // The point of the first row with that checkpoint number, or 4,294,967,295.
