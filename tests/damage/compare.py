@@ -1,7 +1,7 @@
 #!/usr/bin/env python3
 """Compares the library with the oracle on pairs of texts, well-formed and damaged (tests/damage.sh builds everything and runs this).
 
-    compare.py PROGRAM COUNT SEED [SORT]    PROGRAM is tests/damage/reader.c, compiled; COUNT pairs, in blocks that each have their own generator; with a SORT (pairs, maps, routes, missions, packed, same, ends, packed-bytes) only that one
+    compare.py PROGRAM COUNT SEED [SORT]    PROGRAM is tests/damage/reader.c, compiled; COUNT pairs, in blocks that each have their own generator; with a SORT (pairs, maps, routes, missions, packed, same, mend, ends, packed-bytes) only that one
     compare.py --oracle COUNT SEED [SORT]   no library: the oracle stands in for it, so that what is held to each other here (the two writings of twins, a writing written again) is held for the oracle alone
     compare.py --judgements COUNT SEED [SORT]   no library: does the oracle judge packed forms as the second judgement of tests/oracle/packed.py does?
     compare.py --mutants COUNT SEED [SORT]  no library: do the cases notice each small mistake of tests/oracle/mutate.py (and maps.py, routes.py, missions.py, packed.py) in a copy of the oracle?
@@ -33,13 +33,18 @@ library writes both, each in an edition of its own where the older one accepts i
 oracle.same_mission), and that has to be what the generator knows; what was written is written again by the library, a mission half of the time with its RNDF's house writing, and has to give the same bytes, row counts
 and whole output. Counted by kind of change: same, not the same, and not both written.
 
+Mending (request L9): as many RNDFs as pairs, mostly accepted ones into which one to five of the three troubles were put, also near comments, CRs and spaces; others have none, were damaged further or otherwise
+(tests/damage/mends.py). Every second one is in the older edition; the list is often a row or a word short, the output a byte. Where only the three troubles were put in, what comes out and what is listed are known by
+construction, and the oracle is held to that too; so is it to the second judgement of tests/oracle/mending.py, line by line. What came out is mended again, which has to change nothing. The cases by hand are in the first
+block, 32,768 and 32,769 items too (where the block is whole), texts of 16,777,215 bytes in the fifth.
+
 Line ends (only where SORT is `ends`): COUNT RNDFs with every end that a line can have, of up to so many signs of comments, separators and line ends (pairs.py, end_case).
 
 Every second pair, every fourth RNDF alone and half of the maps, routes, missions and packings are judged in the edition of December 6, 2006 (request L10), whose number is 1; the present one has any
 other number.
 
-A case for the program, little endian: 1 byte mode (1 RNDF alone, 2 pair, 3 map, 4 route, 5 mission, 6 RNDF's house writing, 7 MDF's, 8 packing, 9 unpacking: the bytes stand in place of the RNDF); the edition (4 bytes); both texts' lengths (8 bytes each) and how many bytes of each are given (4 each); the ten
-tables' lengths and the output's (4 each); the start and how many points the route has, or words the work space (4 each); both texts' bytes; the route's points (4 each). Its answer: kastepuhm_write_answer (30 words: the column stands behind the number), the lent tables' words, the output's bytes, one word that is 0 if nothing else was written.
+A case for the program, little endian: 1 byte mode (1 RNDF alone, 2 pair, 3 map, 4 route, 5 mission, 6 RNDF's house writing, 7 MDF's, 8 packing, 9 unpacking: the bytes stand in place of the RNDF; 10 mending: the list stands in place of the segments); the edition (4 bytes); both texts' lengths (8 bytes each) and how many bytes of each are given (4 each); the ten
+tables' lengths and the output's (4 each); the start and how many points the route has, or words the work space (4 each); both texts' bytes; the route's points (4 each). Its answer: kastepuhm_write_answer (30 words: the column stands behind the number), the lent tables' words, the output's bytes, one word that is 0 if nothing else was written. Of mending the first seven words of the answer are kastepuhm_mend_answer, and the others 0.
 """
 import array
 import multiprocessing
@@ -53,6 +58,8 @@ import types
 sys.dont_write_bytecode = True
 import pairs                        # noqa: E402
 import maps                         # noqa: E402  (tests/oracle, by way of pairs)
+import mending                      # noqa: E402
+import mends                        # noqa: E402
 import packed                       # noqa: E402
 import same                         # noqa: E402
 from pairs import g, oracle         # noqa: E402
@@ -68,10 +75,12 @@ MOST_KEPT = 20                      # cases that differ, of a block
 RNDF_ALONE, PAIR, MAP, ROUTE, MISSION = 1, 2, 3, 4, 5
 WRITE_RNDF, WRITE_MDF = 6, 7        # the house writing; request L14
 PACKING, UNPACKING = 8, 9           # request L11
+MEND = 10                           # request L9
 STAND_IN = oracle                   # for the program, where it is `--oracle`
+OF_MENDING = [1, 11, 19, 26]
 VERDICTS = ["same", "not the same", "not both written"]
 OLDER = 16                          # added to a mode: in the edition of December 6, 2006
-LABELS = {PAIR: "pair", RNDF_ALONE: "RNDF alone", MAP: "map", ROUTE: "route", MISSION: "mission", WRITE_RNDF: "writing", WRITE_MDF: "mission's writing", PACKING: "packing", UNPACKING: "unpacking"}
+LABELS = {PAIR: "pair", RNDF_ALONE: "RNDF alone", MAP: "map", ROUTE: "route", MISSION: "mission", WRITE_RNDF: "writing", WRITE_MDF: "mission's writing", PACKING: "packing", UNPACKING: "unpacking", MEND: "mending"}
 OF_PACKED = [(PACKING, n) for n in (11, 19)] + [(UNPACKING, n) for n in (1, 11, 27, 28, 29)]    # those that have to come
 HEAD = struct.Struct("<30I")        # kastepuhm_write_answer
 ROWS = ["segments", "lanes", "zones", "spots", "points", "checkpoints", "stops", "exits", "goals", "limits"]
@@ -139,8 +148,19 @@ def same_of(rng, number, count):
     return out
 
 
-SORTS = {"pairs": pairs_of, "maps": maps_of, "routes": routes_of, "missions": missions_of, "packed": packed_of, "same": same_of, "ends": ends_of, "packed-bytes": packed_bytes_of}
-USUAL = ["pairs", "maps", "routes", "missions", "packed", "same"]     # those that are run if none is named
+def mend_of(rng, number, count):
+    """RNDFs to be mended; in the first block also those worked out by hand, and those of the largest counts; in the fifth those of the largest size."""
+    out = [(MEND | OLDER * (k % 2), mends.mend_case(rng, k % 2)) for k in range(count)]
+    if number == 0:
+        out += [(MEND | OLDER * older, case) for older in (0, 1) for case in mends.by_hand(older)]
+        out += [(MEND, case) for case in (mends.many_cases(rng) if count == BLOCK else [])]
+    if number == 4:
+        out += [(MEND, case) for case in mends.largest_cases()]
+    return out
+
+
+SORTS = {"pairs": pairs_of, "maps": maps_of, "routes": routes_of, "missions": missions_of, "packed": packed_of, "same": same_of, "mend": mend_of, "ends": ends_of, "packed-bytes": packed_bytes_of}
+USUAL = ["pairs", "maps", "routes", "missions", "packed", "same", "mend"]     # those that are run if none is named
 
 
 def block_of(seed, number, count, sorts):
@@ -148,7 +168,7 @@ def block_of(seed, number, count, sorts):
     out = []
     for sort in sorts:
         rng = random.Random("%s %d %d" % (sort.replace("pairs", "damage"), seed, number))    # the pairs are those of before there were sorts
-        cases = [(mode, pairs.aged(case) if mode & OLDER and sort != "same" and rng.random() < 0.75 else case) for mode, case in SORTS[sort](rng, number, count)]
+        cases = [(mode, pairs.aged(case) if mode & OLDER and sort not in ("same", "mend") and rng.random() < 0.75 else case) for mode, case in SORTS[sort](rng, number, count)]
         for mode, case in cases:
             if kind_of(mode) in (MAP, PACKING):
                 lend_output(rng, mode, case)
@@ -192,6 +212,9 @@ def judge(reader, mode, case):
     if kind_of(mode) in (MAP, PACKING):
         done = (reader.write_map if kind_of(mode) == MAP else reader.write_packed)(rndf, case.room, case.out, edition)
         return done.reply, done.written or 0, done.output
+    if kind_of(mode) == MEND:
+        done = getattr(reader, "mend", mending.mend)(edition, rndf, case.room["segments"] // 2, case.out)
+        return done, done.length, done.output
     if kind_of(mode) in (WRITE_RNDF, WRITE_MDF):
         done = reader.write_rndf(rndf, case.room, case.out, edition) if kind_of(mode) == WRITE_RNDF else reader.write_mdf(rndf, mdf, case.room, case.out, edition)
         return done.reply, done.written or 0, done.output
@@ -213,7 +236,7 @@ def lent(mode, case):
 
 
 def lent_output(mode, case):
-    return case.out if kind_of(mode) in (MAP, PACKING, WRITE_RNDF, WRITE_MDF) else 0
+    return case.out if kind_of(mode) in (MAP, PACKING, WRITE_RNDF, WRITE_MDF, MEND) else 0
 
 
 def answer_size(mode, case):
@@ -233,6 +256,9 @@ def words(judged, mode, case):
     reply, written, output = judged
     if not reply.accepted:
         return HEAD.pack(0, *reply.refusal, *[0] * 25) + bytes(4 * sum(lent(mode, case))) + output + bytes(4)
+    if kind_of(mode) == MEND:
+        rows = [word for row in reply.list for word in row]
+        return HEAD.pack(1, 0, 0, 0, 0, reply.rows, reply.length, *[0] * 23) + struct.pack("<%dI" % case.room["segments"], *rows, *[0] * (case.room["segments"] - len(rows))) + output + bytes(4)
     head = HEAD.pack(1, 0, 0, 0, 0, *[reply.used.get(t, 0) for t in ROWS], *reply.file, *(reply.mission or [0] * 8), written)
     tables = [array.array("i" if t == "points" else "I", reply.tables[t]) for t in ROWS if t in reply.tables]
     if sys.byteorder == "big":
@@ -247,6 +273,9 @@ def shown(answer, mode, case):
         return "no answer: the program ended"
     head = HEAD.unpack_from(answer)
     at = HEAD.size
+    if kind_of(mode) == MEND and head[0]:
+        return "accepted, %d rows, %d bytes, then %s\n  list %s\n  output %s%s" % (head[5], head[6], head[7:], struct.unpack_from("<%dI" % case.room["segments"], answer, at), output_in(answer, mode, case),
+                                                                                "\n  something else was written" * any(answer[-4:]))
     out = ["accepted, rows %s, names %s, bytes written %d" % (head[5:15], head[15:29], head[29]) if head[0]
            else "refused %d %d %d %d" % head[1:5] + (", then %s" % (head[5:],) if any(head[5:]) else "")]
     for table, length in zip(ROWS, lent(mode, case)):
@@ -355,9 +384,14 @@ def output_in(answer, mode, case):
 
 
 def writings_again(cases, gots):
-    """What was written, to be written again: into an output of the same length, in the same edition or the present one; a mission with its RNDF or that one's house writing."""
+    """What was mended, to be mended again; what was written, to be written again: into an output of the same length, in the same edition or the present one; a mission with its RNDF or that one's house writing."""
     out = []
     for k, ((mode, case), got) in enumerate(zip(cases, gots)):
+        if kind_of(mode) == MEND and len(got) == answer_size(mode, case) and HEAD.unpack_from(got)[0] == 1:
+            mended = output_in(got, mode, case)[:HEAD.unpack_from(got)[6]]
+            again = mends.lent_case(None, mended, ["mended again"], ([], mended), mode & OLDER, True)
+            again.out = case.out
+            out.append((k, (mode, again)))
         if kind_of(mode) not in (WRITE_RNDF, WRITE_MDF) or len(got) != answer_size(mode, case) or HEAD.unpack_from(got)[0] != 1:
             continue
         writing = output_in(got, mode, case)[:HEAD.unpack_from(got)[29]]
@@ -377,6 +411,41 @@ def written_alike(got, other):
         return False
     head, other_head = HEAD.unpack_from(answer), HEAD.unpack_from(other_answer)
     return head[0] == other_head[0] == 1 and head[5:15] == other_head[5:15] and head[29] == other_head[29] and output_in(answer, mode, case) == output_in(other_answer, other_mode, other_case)
+
+
+def mended_alike(got, other):
+    """Whether the second answer, to what came out of the first, has an empty list and the same output."""
+    (mode, case, answer), (other_mode, other_case, other_answer) = got, other
+    if len(answer) != answer_size(mode, case) or len(other_answer) != answer_size(other_mode, other_case):
+        return False
+    head, other_head = HEAD.unpack_from(answer), HEAD.unpack_from(other_answer)
+    return other_head == (1, 0, 0, 0, 0, 0, head[6], *[0] * 23) and output_in(answer, mode, case) == output_in(other_answer, other_mode, other_case)
+
+
+def mend_said(judged, mode, case):
+    """What construction and the second judgement say otherwise of a mending, and what is counted of it."""
+    reply, wrong, count = judged[0], [], {}
+    number = 0 if reply.accepted else reply.refusal[2]
+    rows = reply.list[:reply.rows]
+    edition = oracle.DECEMBER_2006 if mode & OLDER else oracle.PRESENT
+    if number not in (0, 19, 26):
+        return wrong, count
+    if case.comes_out is not None:
+        room = {t: oracle.STRIDE[t] * (len(case.rndf) + 1) for t in oracle.RNDF_TABLES}
+        if oracle.read_rndf(case.comes_out[1], room, edition).accepted != (number != 26) or number == 0 and (rows, judged[2][:judged[1]]) != case.comes_out:
+            wrong.append("by construction otherwise: %s" % (case.comes_out[0],))
+        count["mended as it was by construction" if number == 0 else "not mended, by construction"] = 1
+    if len(case.rndf) < 20000:
+        second = mending.second(edition, case.rndf)
+        if (second is None) != (number == 26) or number == 0 and second != (rows, judged[2][:judged[1]]):
+            wrong.append("the second judgement has %s" % ("26" if second is None else second[0]))
+        count["mendings judged twice"] = 1
+    if number == 0 and case.kinds != ["mended again"]:
+        count["mended, lines listed: %s" % (str(len(rows)) if len(rows) < 6 else "6 or more")] = 1
+        for which in (1, 2, 3):
+            count["lines listed as %d" % which] = sum(row[1] == which for row in rows)
+        count["mended though damaged further or otherwise"] = int(bool(rows) and case.comes_out is None)
+    return wrong, count
 
 
 def twins_said(first, second):
@@ -464,12 +533,19 @@ def run_block(job):
             for which in [reply.refusal[2]] + requested(reply.refusal, case.rndf):
                 for key in [reply.refusal[3]] + line_like(reply.refusal, case):
                     columns[which, key] = columns.get((which, key), 0) + 1
-        for kind in set(case.kinds) if has_mdf(mode) or kind_of(mode) == UNPACKING else ():
+        for kind in set(case.kinds) if has_mdf(mode) or kind_of(mode) in (UNPACKING, MEND) else ():
             drawn, taken = kinds.get((kind_of(mode), kind), (0, 0))
             kinds[kind_of(mode), kind] = (drawn + 1, taken + reply.accepted)
         by_json, more = map_said(judged, mode, case, got)
         by_packing, counted = packed_said(judged, mode, case, got)
         more.update(counted)
+        if kind_of(mode) == MEND:
+            wrong, counted = mend_said(judged, mode, case)
+            more.update(counted)
+            if k in first_of and not mended_alike((*cases[first_of[k]], gots[first_of[k]]), (mode, case, got)):
+                wrong.append("case %d mended again is not the same" % first_of[k])
+            if wrong:
+                differing.append("DIFFERS by mending, case %d of block %d (%s): %s" % (k, number, ", ".join(case.kinds), "; ".join(wrong)))
         for shape, n in more.items():
             shapes[shape] = shapes.get(shape, 0) + n
         if want != got:
@@ -509,7 +585,10 @@ def print_counts(replies, kinds, shapes, columns, twins):
     for key, number in [("ok", "accepted")] + [(n, n) for n in (*range(1, 14), 19, 25, 27, 28, 29)]:
         both = [sum(n for (one, reply), n in replies.items() if one == mode and (reply == key or reply[1:] == (key,))) for mode in (PACKING, PACKING | OLDER, UNPACKING)]
         print("%-16s %16d %16d %10d" % (number, *both))
-    for mode in (PAIR, ROUTE, MISSION, UNPACKING):
+    print("\n%-16s %16s %16s" % ("mending", "present", "December 6, 2006"))
+    for key, number in [("ok", "accepted")] + [(n, n) for n in OF_MENDING]:
+        print("%-16s %16d %16d" % (number, *(sum(n for (one, reply), n in replies.items() if one == mode and (reply == key or reply[1:] == (key,))) for mode in (MEND, MEND | OLDER))))
+    for mode in (PAIR, ROUTE, MISSION, UNPACKING, MEND):
         print("\n%-28s %8s %8s" % ("damage (%ss)" % LABELS[mode], "drawn", "accepted"))
         for (_, kind), (drawn, taken) in sorted(item for item in kinds.items() if item[0][0] == mode):
             print("%-28s %8d %8d" % (kind[:28], drawn, taken))
@@ -518,7 +597,7 @@ def print_counts(replies, kinds, shapes, columns, twins):
         found = sorted(((n, column) for (one, column), n in columns.items() if one == number and column not in LIKE), reverse=True)
         print("%-8s %8d %8d %s  %s" % (number, sum(n for n, _ in found), len(found), " ".join("%8d" % columns.get((number, like), 0) for like in LIKE),
                                        ", ".join("%d: %d" % (column, n) for n, column in found[:5])))
-    print("\n%-40s %8s" % ("on the maps, and of packed forms", "came"))
+    print("\n%-40s %8s" % ("on the maps, of packed forms and mendings", "came"))
     for shape, n in sorted(shapes.items()):
         print("%-40s %8d" % (shape, n))
     for label, what in (LABELS[WRITE_RNDF], "twins: RNDFs"), (LABELS[WRITE_MDF], "twins: missions"):
@@ -553,6 +632,8 @@ def compare(program, count, seed, sorts):
     missing += ["%d with file 0" % n for n in (11, 30, 31) if "missions" in sorts and not any(key == (0, n) for _, key in replies)]
     if "packed" in sorts:
         missing += ["%d of %s" % (n, LABELS[mode]) for mode, n in OF_PACKED if not any(kind_of(one) == mode and key[1:] == (n,) for one, key in replies)]
+    if "mend" in sorts:
+        missing += ["%d of mending" % n for n in OF_MENDING if not any(kind_of(mode) == MEND and key[1:] == (n,) for mode, key in replies)]
     if "same" in sorts:
         missing += ["a %s that is %s" % (label, verdict) for label in (LABELS[WRITE_RNDF], LABELS[WRITE_MDF]) for verdict in VERDICTS if not any(key[::2] == (label, verdict) for key in twins)]
     if missing:
@@ -560,9 +641,10 @@ def compare(program, count, seed, sorts):
     counts = [sum(n for (mode, _), n in replies.items() if kind_of(mode) == one) for one in (PAIR, RNDF_ALONE, ROUTE, MISSION, MAP)]
     counts += [sum(replies.get((mode, "ok"), 0) for mode in (MAP, MAP | OLDER)), sum(n for (mode, _), n in replies.items() if mode & OLDER)]
     forms = [sum(n for (mode, key), n in replies.items() if kind_of(mode) == one and key in keys) for one in (PACKING, UNPACKING) for keys in ({key for _, key in replies}, {"ok"})]
+    mended = [sum(n for (mode, key), n in replies.items() if kind_of(mode) == MEND and key in keys) for keys in ({key for _, key in replies}, {"ok"})]
     written = [sum(n for (mode, key), n in replies.items() if kind_of(mode) in (WRITE_RNDF, WRITE_MDF) and key in keys) for keys in ({key for _, key in replies}, {"ok"})]
-    print("\nseed %d: %d pairs, %d RNDFs alone, %d routes, %d missions and %d maps (%d written), %d packings (%d packed) and %d unpackings (%d unpacked), %d writings (%d written), %d of them in the older edition, %d differ"
-          % (seed, *counts[:6], *forms, *written, counts[6], differing))
+    print("\nseed %d: %d pairs, %d RNDFs alone, %d routes, %d missions and %d maps (%d written), %d packings (%d packed) and %d unpackings (%d unpacked), %d writings (%d written), %d mendings (%d mended), %d of them in the older edition, %d differ"
+          % (seed, *counts[:6], *forms, *written, *mended, counts[6], differing))
     return 1 if differing or missing else 0
 
 
@@ -620,21 +702,23 @@ def mutants(count, seed, sorts):
     def told(reader, mode, case):
         try:
             r, *written = judge(reader, mode, case)
-            return r.refusal, r.used, r.file, r.mission, r.tables, written
+            return (r.refusal, r.rows, r.list, written) if kind_of(mode) == MEND else (r.refusal, r.used, r.file, r.mission, r.tables, written)
         except Exception:
             return None
     right = [told(oracle, *c) for c in cases]
-    source = open(oracle.__file__).read()
     survive = 0
-    mistakes = [mistake for sort in sorts for mistake in {"pairs": mutate.MUTANTS, "maps": maps.MUTANTS, "routes": pairs.routes.MUTANTS, "missions": pairs.missions.MUTANTS, "packed": packed.MUTANTS, "same": writers_mistakes()}[sort]]
-    for old, new in mistakes:
+    mistakes = [(mending if sort == "mend" else oracle, *mistake) for sort in sorts for mistake in {"pairs": mutate.MUTANTS, "maps": maps.MUTANTS, "routes": pairs.routes.MUTANTS, "missions": pairs.missions.MUTANTS, "packed": packed.MUTANTS, "same": writers_mistakes(), "mend": mending.MUTANTS}[sort]]
+    for mistaken, old, new in mistakes:
+        source = open(mistaken.__file__).read()
         assert old in source, old
         mutant = types.ModuleType("mutant")
         exec(compile(source.replace(old, new, 1), "mutant", "exec"), mutant.__dict__)
+        if mistaken is mending:                             # the oracle with this `mend`
+            mutant = types.SimpleNamespace(**{**vars(oracle), "mend": mutant.mend})
         if old not in mutate.HARMLESS and all(told(mutant, *c) == want for c, want in zip(cases, right)):
             survive += 1
             print("not noticed: %r -> %r" % (old, new))
-    print("%d mistakes, %d not noticed" % (sum(old not in mutate.HARMLESS for old, _ in mistakes), survive))
+    print("%d mistakes, %d not noticed" % (sum(old not in mutate.HARMLESS for _, old, _ in mistakes), survive))
     return 1 if survive else 0
 
 

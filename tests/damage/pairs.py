@@ -10,6 +10,7 @@ import sys
 sys.path.insert(0, os.path.join(os.path.dirname(os.path.dirname(os.path.abspath(__file__))), "oracle"))
 import generate as g    # noqa: E402
 import maps             # noqa: E402
+import mending          # noqa: E402
 import oracle           # noqa: E402
 import missions         # noqa: E402
 import packed           # noqa: E402
@@ -339,8 +340,9 @@ def label(kind):
 
 class Case:
     """Two texts, how long each is said to be, how many numbers each table has (`room`), what was done to the texts, how many bytes are lent for the map (`out`), a
-    route with its start, or a work space; of the second of two texts that are written, whether they are the same (`same`, request L14)."""
-    __slots__ = ("rndf", "mdf", "rndf_length", "mdf_length", "room", "kinds", "out", "start", "route", "same")
+    route with its start, or a work space; of the second of two texts that are written, whether they are the same (`same`, request L14); of a text to be mended (request L9)
+    what is listed and comes out, if that is known (`comes_out`), its list standing in place of the segments."""
+    __slots__ = ("rndf", "mdf", "rndf_length", "mdf_length", "room", "kinds", "out", "start", "route", "same", "comes_out")
 
 
 class Long(bytes):

@@ -13,7 +13,7 @@
 #include <string.h>
 #include <sys/mman.h>
 
-enum { RNDF_ALONE = 1, PAIR, MAP, ROUTE, MISSION, WRITE_RNDF, WRITE_MDF, PACKING, UNPACKING };
+enum { RNDF_ALONE = 1, PAIR, MAP, ROUTE, MISSION, WRITE_RNDF, WRITE_MDF, PACKING, UNPACKING, MEND };
 enum { SEGMENTS, LANES, ZONES, SPOTS, POINTS, CHECKPOINTS, STOPS, EXITS, GOALS, LIMITS, TABLES };
 
 #define MOST_BYTES ((size_t)1 << 33)
@@ -118,6 +118,12 @@ static kastepuhm_write_answer answer(int mode)
     case UNPACKING:                                         /* the packed bytes stand in place of the RNDF */
         read.answer = kastepuhm_read_packed(TEXT(0), NETWORK);
         return read;
+    case MEND: {                                            /* the list stands in place of the segments, the answer's seven words in place of the first */
+        kastepuhm_mend_answer mended = kastepuhm_mend(edition, TEXT(0), LENT(SEGMENTS), output_end - output_length, output_length);
+        _Static_assert(sizeof mended == 7 * sizeof(uint32_t) && sizeof mended <= sizeof read, "accepted, file, line, number, column, rows, length");
+        memcpy(&read, &mended, sizeof mended);
+        return read;
+    }
     default:
         exit(2);
     }

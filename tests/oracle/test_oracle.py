@@ -16,6 +16,7 @@ import casefile
 import generate
 import lists
 import maps
+import mending
 import missions
 import oracle
 import packed
@@ -687,6 +688,89 @@ class Same(unittest.TestCase):
                 self.assertTrue(same or i // 3 != j // 3)
                 pairs += same
         self.assertGreaterEqual(pairs, 360)
+
+
+class Mending(unittest.TestCase):
+    """L9."""
+
+    def mend(self, edition, whole, rows=None, out=None):
+        """The number and what a refusal has to be, or (list, what came out) and what else holds."""
+        lines = whole.count(b"\n") + (whole[-1:] not in (b"", b"\n"))
+        rows = lines if rows is None else rows
+        out = len(whole) + 9 if out is None else out
+        reply = mending.mend(edition, whole, rows, out)
+        self.assertEqual((len(reply.list), len(reply.output)), (rows, out))
+        if not reply.accepted:
+            number = reply.refusal[2]
+            self.assertEqual(reply.refusal, (0 if number == 26 else 1, 0, number, 0))
+            self.assertEqual((reply.rows, reply.length, reply.list, reply.output), (0, 0, [(0, 0)] * rows, bytes(out)))
+            return number
+        self.assertEqual(reply.list[reply.rows:], [(0, 0)] * (rows - reply.rows))
+        self.assertEqual(reply.output[reply.length:], bytes(out - reply.length))
+        return reply.list[:reply.rows], reply.output[:reply.length]
+
+    def test_by_hand(self):
+        """Both judgements; each length of the list and of the output that tells."""
+        for label, edition, given, want, rows in mending.HAND:
+            given, want = (t if t is None or isinstance(t, bytes) else text(t) for t in (given, want))
+            second = mending.second(edition, given)
+            lines = len(mending.pieces_of(given))
+            if want is None:
+                self.assertEqual((self.mend(edition, given), second), (26, None), label)
+                self.assertEqual(self.mend(edition, given, out=0), 26, label)          # before 19
+            else:
+                self.assertEqual((self.mend(edition, given), second), ((rows, want),) * 2, label)
+                self.assertEqual(self.mend(edition, given, lines + 5, len(want)), (rows, want), label)
+                self.assertEqual(self.mend(edition, given, out=len(want) - 1), 19, label)
+                self.assertEqual(self.mend(edition, want), ([], want), label)
+                if edition == 1:
+                    self.assertEqual(self.mend(0, given), (rows, want), label)
+                # every line that is not listed comes out, and no other
+                listed = {n for n, which in rows}
+                kept = [piece for n, piece in enumerate(mending.pieces_of(given), 1) if n not in listed]
+                counts = {n for n, which in rows if which == 1}
+                left = mending.pieces_of(want)
+                places = [n for n in range(1, lines + 1) if n not in listed or n in counts]
+                self.assertEqual([piece for n, piece in zip(places, left) if n not in counts], kept, label)
+                self.assertEqual(len(left), len(places), label)
+            if lines:
+                self.assertEqual(self.mend(edition, given, rows=lines - 1, out=0), 11, label)
+                self.assertEqual(self.mend(edition, given, rows=0), 11, label)
+
+    def test_sizes(self):
+        A = text(YARD_A)
+        self.assertEqual(self.mend(0, b"", 0, 0), 26)
+        self.assertEqual(self.mend(0, bytes(16_777_216), 0, 0), 1)
+        self.assertEqual(self.mend(0, b"x" * 16_777_215, 0, 0), 11)
+        # a count that makes a text of 16,777,216 bytes, and of one less
+        for more, want in ((0, 26), (-1, None)):
+            nine = text(put(mending.TEN, 7, "num_waypoints>9"))
+            fill = 16_777_215 + more - len(nine)
+            filled = nine + (b"/*" + b"p" * 507 + b"*/\n") * (fill // 512) + b"\n" * (fill % 512)
+            got = self.mend(0, filled, out=16_777_300)
+            self.assertEqual(got if want else got[0], want or [(7, 1)])
+        self.assertEqual(self.mend(0, A), ([], A))
+
+    def test_many(self):
+        """32,768 items, and one more."""
+        for which, n in mending.MANY:
+            given = text(mending.many(which, n, 1))
+            good = text(mending.many(which, n, n - (which == "zones")))
+            got = self.mend(0, given)
+            self.assertEqual(got if n == 32769 else got[1], 26 if n == 32769 else good, (which, n))
+
+    def test_accepted_stays(self):
+        """"An accepted text comes out the same with an empty list", in each edition; what
+        the reader refuses is never listed as nothing."""
+        rng = random.Random(22)
+        for _ in range(300):
+            mode, r, _, _ = generate.one_case(rng)
+            for edition in (0, 1):
+                accepted = read_rndf(r, {t: STRIDE[t] * (len(r) + 1) for t in TABLES}, edition).accepted
+                got = self.mend(edition, r)
+                self.assertEqual(accepted, got == ([], r))
+                second = mending.second(edition, r)
+                self.assertEqual(got, 26 if second is None else second)
 
 
 class Places(unittest.TestCase):
