@@ -26,7 +26,7 @@
  *   returns. Calls in several threads at once do not disturb each other as long as no two of them write the same tables, work space or output; texts and packed bytes may be shared.
  *
  * Stack, as the kit's compiler builds it (tests/stack.py measures it)
- *   kastepuhm_read_rndf, kastepuhm_write_rndf, kastepuhm_write_map, kastepuhm_write_packed, kastepuhm_read_packed and kastepuhm_mend take less than 8 KiB, kastepuhm_read_pair, kastepuhm_write_mdf, kastepuhm_check_route and
+ *   kastepuhm_read_rndf, kastepuhm_write_rndf, kastepuhm_write_map, kastepuhm_write_packed and kastepuhm_read_packed take less than 8 KiB, kastepuhm_mend, kastepuhm_read_pair, kastepuhm_write_mdf, kastepuhm_check_route and
  *   kastepuhm_check_mission less than 12 KiB: 4,096 bytes of marks for each file, or for the packed bytes, are in it.
  *   kastepuhm_point_of takes a few words. Give a thread that calls them a stack to match.
  *
