@@ -28,7 +28,7 @@ ghost use Rattle.answers.specs.Answers.{place, detail, why-of, sentence,
 // ## Refusals
 
 // `:9`, and nothing for 0.
-fn put_place(out: &mut [u8], at: usize, n: u32) -> usize
+pub fn put_place(out: &mut [u8], at: usize, n: u32) -> usize
     ensures { λ r. ⌜ Wrote (pen (now (out .entry)) at) (place n) (pen (now (out .exit)) r) ⌝ }
 {
     if n == 0 {
@@ -50,7 +50,7 @@ fn put_detail(out: &mut [u8], at: usize, line: &[u8], number: u8, column: u32) -
 }
 
 // The reason and the number, and below them the line with a caret.
-fn put_why(out: &mut [u8], at: usize, line: &[u8], number: u8, column: u32) -> usize
+pub fn put_why(out: &mut [u8], at: usize, line: &[u8], number: u8, column: u32) -> usize
     ensures { λ r. ⌜ Wrote (pen (now (out .entry)) at) (why-of (now (line .entry)) number column) (pen (now (out .exit)) r) ⌝ }
 {
     let a = put_reason(out, at, number);

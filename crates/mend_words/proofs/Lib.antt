@@ -1,0 +1,2 @@
+-- Steps, and the law of what is told.
+pub mod Forward

@@ -1,0 +1,2 @@
+-- What planners are told of mending.
+pub mod Told

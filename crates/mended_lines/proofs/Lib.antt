@@ -1,0 +1,2 @@
+-- Steps, and the law of numbers.
+pub mod Numbers

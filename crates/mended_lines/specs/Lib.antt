@@ -1,0 +1,2 @@
+-- Which line of the given text a line of the mended text is.
+pub mod Given
