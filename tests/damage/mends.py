@@ -190,7 +190,7 @@ def many_cases(rng):
     out = []
     for which, n in mending.MANY:
         parts = n - 1 if which == "zones" else n
-        given, good = (mending.text(mending.many(which, n, said)) for said in (rng.choice([0, 1, 2, 32767]), parts))
+        given, good = (mending.text(mending.many(which, n, said)) for said in (rng.choice([other for other in (0, 1, 2, 32767) if other != parts]), parts))
         number = 3 if which == "zones" else next(i for i, (a, b) in enumerate(zip(given.split(b"\n"), good.split(b"\n")), 1) if a != b)
         out.append(lent_case(None, given, ["%d %s" % (n, which)], ([(number, 1)], good) if n == 32768 else None, 0, True))
     return out
