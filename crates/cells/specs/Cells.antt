@@ -1,12 +1,10 @@
 -- What a cell of the table of places by statements says of every spelling. Document 01: "Which statement may stand at which place is one table of places by statements, and the grammar's agreement with it is proved over the whole table." Assumes nothing.
-use mathlib.Core.Path.{_≡_}
-use mathlib.Core.List.{List, [], _∷_, _++_}
-use Prim.Native.Nat.{ℕ, _<_, _≤_}
 use lib.ListN.{getD}
-use Rattle.terms.specs.Words.{Each}
+use Rattle.terms.specs.Words.{_≡_, List, [], _∷_, _++_, ℕ, _<_, _≤_, Each}
 use Rattle.grammar.specs.Language.{Lang, S}
 use Rattle.grammar.specs.Machine.{Machine, Stand, over, inside, next, Place, at, run}
-use Rattle.grammar.specs.Places.{rndf}
+use Rattle.grammar.specs.Network.{Under}
+use Rattle.grammar.specs.Places.{rndf-by}
 use Rattle.grammar.specs.MissionPlaces.{mdf}
 use Rattle.grammar.specs.PlaceTable.{rndf-table, mdf-table, cell}
 use Rattle.grammar.specs.PlaceRows.{kind-row, rndf-row, mission-kind-row, mdf-row}
@@ -23,8 +21,9 @@ pub record Numbered {L : Lang} (A : Machine L) : Type 0 where
 abbrev pub rndf-named : ℕ → ℕ
 rndf-named i = getD (0 ∷ 1 ∷ 2 ∷ 3 ∷ 4 ∷ 4 ∷ 4 ∷ 7 ∷ 8 ∷ 9 ∷ 9 ∷ 11 ∷ 12 ∷ 13 ∷ 13 ∷ 15 ∷ 16 ∷ 17 ∷ 18 ∷ 19 ∷ 19 ∷ 21 ∷ 21 ∷ 23 ∷ 24 ∷ 25 ∷ 26 ∷ []) i 255
 
-abbrev pub rndf-numbered : (N : Type 0) → Numbered (rndf N)
-rndf-numbered N = record { table = rndf-table; column = kind-row; row = rndf-row; last = 26; named = rndf-named }
+-- one table for every edition, and for the grammar with L8's rule and the one without
+abbrev pub rndf-numbered : (N : Type 0) (by : Under) → Numbered (rndf-by N by)
+rndf-numbered N by = record { table = rndf-table; column = kind-row; row = rndf-row; last = 26; named = rndf-named }
 
 -- 4 and 5, 8 and 9
 abbrev pub mdf-named : ℕ → ℕ

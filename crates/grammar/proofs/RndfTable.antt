@@ -1,4 +1,4 @@
--- The RNDF's table fits the RNDF's places: a computed test over every row. Assumes nothing.
+-- The RNDF's table fits the RNDF's places: a computed test over every row; in each edition, with L8's rule and without. Assumes nothing.
 use mathlib.Core.Path.{_≡_, refl}
 use mathlib.Core.Option.{Option, none, some}
 use mathlib.Core.Bool.{true}
@@ -7,7 +7,9 @@ use lib.Dec.{T, ltb}
 use lib.ListN.{getD, length}
 use Rattle.terms.proofs.Computed.{every}
 use Rattle.grammar.specs.Statements.{Kind, Says, RNDF-name, num-segments, num-zones, format-version, creation-date, segment, num-lanes, segment-name, end-segment, lane, num-waypoints, lane-width, left-boundary, right-boundary, checkpoint, stop, exit, end-lane, zone, num-spots, zone-name, end-zone, perimeter, num-perimeterpoints, end-perimeter, spot, spot-width, end-spot, end-file, point}
-use Rattle.grammar.specs.Places.{rndf, Base, opts, due, name-due, num-segments-due, num-zones-due, first-segment-due, part-due, num-lanes-due, first-lane-due, lane-due, num-waypoints-due, first-waypoint-due, waypoint-due, num-spots-due, perimeter-due, num-perimeterpoints-due, first-perimeterpoint-due, perimeterpoint-due, spot-due, first-of-spot-due, second-of-spot-due, end-spot-due}
+use Rattle.grammar.specs.Editions.{march}
+use Rattle.grammar.specs.Network.{Under, under}
+use Rattle.grammar.specs.Places.{rndf-by, rndf, Base, opts, due-in, name-due, num-segments-due, num-zones-due, first-segment-due, part-due, num-lanes-due, first-lane-due, lane-due, num-waypoints-due, first-waypoint-due, waypoint-due, num-spots-due, perimeter-due, num-perimeterpoints-due, first-perimeterpoint-due, perimeterpoint-due, spot-due, first-of-spot-due, second-of-spot-due, end-spot-due}
 use Rattle.grammar.specs.PlaceTable.{rndf-table, cell}
 use Rattle.grammar.specs.PlaceRows.{kinds, kind-row, rndf-row, rndf-stem}
 use Rattle.grammar.proofs.Tabled.{fits, Tabled}
@@ -128,63 +130,68 @@ module _ (N : Type 0) where
   few (second-of-spot-due m z n s) = tt
   few (end-spot-due m z n s) = tt
 
-  pub beside : (b : Base) → every (fits (rndf N) rndf-table rndf-row kind-row b) kinds ≡ true
-  unfolding rndf-table
-  beside name-due = refl
-  beside num-segments-due = refl
-  beside (num-zones-due o) = refl
-  beside (first-segment-due o z) = refl
-  beside (part-due m (suc o) z) = refl
-  beside (part-due m zero (suc z)) = refl
-  beside (part-due m zero zero) = refl
-  beside (num-lanes-due m o z) = refl
-  beside (first-lane-due m o z l) = refl
-  beside (lane-due m o z n (suc l)) = refl
-  beside (lane-due m o z n zero) = refl
-  beside (num-waypoints-due m o z n l) = refl
-  beside (first-waypoint-due m o z n l w) = refl
-  beside (waypoint-due m o z n l k (suc w)) = refl
-  beside (waypoint-due m o z n l k zero) = refl
-  beside (num-spots-due m z) = refl
-  beside (perimeter-due m z s) = refl
-  beside (num-perimeterpoints-due m z s) = refl
-  beside (first-perimeterpoint-due m z s p) = refl
-  beside (perimeterpoint-due m z s k (suc p)) = refl
-  beside (perimeterpoint-due m z s k zero) = refl
-  beside (spot-due m z n (suc s)) = refl
-  beside (spot-due m z n zero) = refl
-  beside (first-of-spot-due m z n s) = refl
-  beside (second-of-spot-due m z n s) = refl
-  beside (end-spot-due m z n s) = refl
+  module _ (by : Under) where
+    pub beside : (b : Base) → every (fits (rndf-by N by) rndf-table rndf-row kind-row b) kinds ≡ true
+    unfolding rndf-table
+    beside name-due = refl
+    beside num-segments-due = refl
+    beside (num-zones-due o) = refl
+    beside (first-segment-due o z) = refl
+    beside (part-due m (suc o) z) = refl
+    beside (part-due m zero (suc z)) = refl
+    beside (part-due m zero zero) = refl
+    beside (num-lanes-due m o z) = refl
+    beside (first-lane-due m o z l) = refl
+    beside (lane-due m o z n (suc l)) = refl
+    beside (lane-due m o z n zero) = refl
+    beside (num-waypoints-due m o z n l) = refl
+    beside (first-waypoint-due m o z n l w) = refl
+    beside (waypoint-due m o z n l k (suc w)) = refl
+    beside (waypoint-due m o z n l k zero) = refl
+    beside (num-spots-due m z) = refl
+    beside (perimeter-due m z s) = refl
+    beside (num-perimeterpoints-due m z s) = refl
+    beside (first-perimeterpoint-due m z s p) = refl
+    beside (perimeterpoint-due m z s k (suc p)) = refl
+    beside (perimeterpoint-due m z s k zero) = refl
+    beside (spot-due m z n (suc s)) = refl
+    beside (spot-due m z n zero) = refl
+    beside (first-of-spot-due m z n s) = refl
+    beside (second-of-spot-due m z n s) = refl
+    beside (end-spot-due m z n s) = refl
 
-  pub leads : (b : Base) (v : Says N (due N b .on)) → cell rndf-table (rndf-row b) (kind-row (due N b .on)) ≡ rndf-stem (due N b .then v)
-  unfolding rndf-table
-  leads name-due v = refl
-  leads num-segments-due v = refl
-  leads (num-zones-due o) v = refl
-  leads (first-segment-due o z) v = refl
-  leads (part-due m (suc o) z) v = refl
-  leads (part-due m zero (suc z)) v = refl
-  leads (part-due m zero zero) v = refl
-  leads (num-lanes-due m o z) v = refl
-  leads (first-lane-due m o z l) v = refl
-  leads (lane-due m o z n (suc l)) v = refl
-  leads (lane-due m o z n zero) v = refl
-  leads (num-waypoints-due m o z n l) v = refl
-  leads (first-waypoint-due m o z n l w) v = refl
-  leads (waypoint-due m o z n l k (suc w)) v = refl
-  leads (waypoint-due m o z n l k zero) v = refl
-  leads (num-spots-due m z) v = refl
-  leads (perimeter-due m z s) v = refl
-  leads (num-perimeterpoints-due m z s) v = refl
-  leads (first-perimeterpoint-due m z s p) v = refl
-  leads (perimeterpoint-due m z s k (suc p)) v = refl
-  leads (perimeterpoint-due m z s k zero) v = refl
-  leads (spot-due m z n (suc s)) v = refl
-  leads (spot-due m z n zero) v = refl
-  leads (first-of-spot-due m z n s) v = refl
-  leads (second-of-spot-due m z n s) v = refl
-  leads (end-spot-due m z n s) v = refl
+    pub leads : (b : Base) (v : Says N (due-in N (by .edition) b .on)) → cell rndf-table (rndf-row b) (kind-row (due-in N (by .edition) b .on)) ≡ rndf-stem (due-in N (by .edition) b .then v)
+    unfolding rndf-table
+    leads name-due v = refl
+    leads num-segments-due v = refl
+    leads (num-zones-due o) v = refl
+    leads (first-segment-due o z) v = refl
+    leads (part-due m (suc o) z) v = refl
+    leads (part-due m zero (suc z)) v = refl
+    leads (part-due m zero zero) v = refl
+    leads (num-lanes-due m o z) v = refl
+    leads (first-lane-due m o z l) v = refl
+    leads (lane-due m o z n (suc l)) v = refl
+    leads (lane-due m o z n zero) v = refl
+    leads (num-waypoints-due m o z n l) v = refl
+    leads (first-waypoint-due m o z n l w) v = refl
+    leads (waypoint-due m o z n l k (suc w)) v = refl
+    leads (waypoint-due m o z n l k zero) v = refl
+    leads (num-spots-due m z) v = refl
+    leads (perimeter-due m z s) v = refl
+    leads (num-perimeterpoints-due m z s) v = refl
+    leads (first-perimeterpoint-due m z s p) v = refl
+    leads (perimeterpoint-due m z s k (suc p)) v = refl
+    leads (perimeterpoint-due m z s k zero) v = refl
+    leads (spot-due m z n (suc s)) v = refl
+    leads (spot-due m z n zero) v = refl
+    leads (first-of-spot-due m z n s) v = refl
+    leads (second-of-spot-due m z n s) v = refl
+    leads (end-spot-due m z n s) v = refl
 
+    abbrev pub rndf-tabled-by : Tabled (rndf-by N by)
+    rndf-tabled-by = record { kinds = kinds; code = kind-row; first = RNDF-name; coded = coded; short = short; row = rndf-row; stem = rndf-stem; table = rndf-table; few = few; beside = beside; leads = leads; stems = stems }
+
+  -- in the present edition, with it
   abbrev pub rndf-tabled : Tabled (rndf N)
-  rndf-tabled = record { kinds = kinds; code = kind-row; first = RNDF-name; coded = coded; short = short; row = rndf-row; stem = rndf-stem; table = rndf-table; few = few; beside = beside; leads = leads; stems = stems }
+  rndf-tabled = rndf-tabled-by (under march true)
