@@ -35,8 +35,7 @@ use Rattle.statement.specs.Meaning.{meant}
 use Rattle.made_out.specs.Names.{stretch-of, behind}
 use Rattle.made_out.specs.Made.{id-of, shapes, needs-of}
 use Rattle.place.specs.declared.Place.{Place}
-use Rattle.place.specs.declared.Outcome.the-variants.{Next, Refused}
-use Rattle.place.specs.Step.{permitsOf, afterOf, hasOf, optedOf, readyOf, dueOf, optionOf, cellOf, byCell, refusesBy}
+use Rattle.place.specs.Step.{permitsOf, afterOf, hasOf, optedOf, readyOf, dueOf, optionOf, cellOf, byCell, refusesBy, Next, Refused}
 use Rattle.place.specs.Abstract.{seen, absOf}
 use Rattle.place.proofs.Theorems.{Sound}
 use Rattle.judge.specs.RndfLine.{rndf-judging}

@@ -39,9 +39,7 @@ use Rattle.made_out.specs.Names.{stretch-of, behind, told-as}
 use Rattle.made_out.specs.Made.{shapes, needs-of, madeOf, made-from}
 use Rattle.made_out.proofs.Ties.{made-is}
 use Rattle.place.specs.declared.Place.{Place}
-use Rattle.place.specs.declared.Outcome as DO
-use Rattle.place.specs.declared.Outcome.the-variants.{Next, Refused}
-use Rattle.place.specs.Step.{cellOf, byCell, stepOf, refusesBy}
+use Rattle.place.specs.Step.{cellOf, byCell, stepOf, refusesBy, Outcome, Next, Refused}
 use Rattle.place.specs.Abstract.{seen, absOf}
 use Rattle.place.proofs.Theorems.{Sound, the-step, next-sound, refuses-is, step-by, refuses-by}
 use Rattle.judge.specs.RndfLine.{rndfKind, rndf-judging}
@@ -246,9 +244,9 @@ by-kind : (p : Place) (s : Statement) (t : G.Statement Field) → meant s ≡ st
 by-kind p s t m = ap (λ (x : G.Statement Stretch). byCell p s (cellOf rndf-table p (kind-row (x .kind)))) (sym m) ∙ step-by p s
 
 pub step-is : (p : Place) → Sound p → (s : Statement) (t : G.Statement Field) → meant s ≡ statement-named stretch-of t → mapOut absOf (seen (byCell p s (cellOf rndf-table p (kind-row (t .kind))))) ≡ step (rndf Field) (absOf p) t
-step-is p i s t m = ap (λ (o : DO.Outcome). mapOut absOf (seen o)) (by-kind p s t m) ∙ the-step p s i ∙ ap (step (rndf Stretch) (absOf p)) m ∙ rndf-renamed stretch-of (absOf p) t
+step-is p i s t m = ap (λ (o : Outcome). mapOut absOf (seen o)) (by-kind p s t m) ∙ the-step p s i ∙ ap (step (rndf Stretch) (absOf p)) m ∙ rndf-renamed stretch-of (absOf p) t
 
-next-was : (o : DO.Outcome) (q : Place) → seen o ≡ next q → o ≡ Next q
+next-was : (o : Outcome) (q : Place) → seen o ≡ next q → o ≡ Next q
 next-was (Next r) q e = ap Next (let z : r ≡ q = cc in z)
 next-was (Refused c) q e = absurd (let z : _≡_ {A = ℕ} 0 1 = cc in omega arith)
 

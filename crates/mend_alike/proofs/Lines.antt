@@ -22,8 +22,7 @@ use Rattle.made_out.specs.declared.Made.{Made}
 use Rattle.made_out.specs.declared.Made.the-variants.{Is, No}
 use Rattle.made_out.specs.Made.{shapes, needs-of, namedOf, nameMade, madeOf, made-from}
 use Rattle.place.specs.declared.Place.{Place}
-use Rattle.place.specs.declared.Outcome as DO
-use Rattle.place.specs.Step.{cellOf, refusesBy, dueOf, optionOf, byCell}
+use Rattle.place.specs.Step.{cellOf, refusesBy, dueOf, optionOf, byCell, Outcome}
 use Rattle.place.specs.Abstract.{seen}
 use Rattle.judge.specs.Judging.{Got, bad, blank, said, taken, valued, ofKind, known, told, formed, content, line}
 use Rattle.judge.specs.RndfLine.{rndfKind}
@@ -133,7 +132,7 @@ bars-plain december st.EndFile = refl
 bars-plain december (st.Point i a o) = refl
 
 step-plain : (e : Edition) (p : Place) (c : ℕ) (s : Statement) → onlyHad e s (seen (byCell p s c)) ≡ onlyHad e (plain s) (seen (byCell p (plain s) c))
-step-plain e p c s = had (seen (byCell p s c)) ∙ ap (λ (o : DO.Outcome). onlyHad e (plain s) (seen o)) (cell-plain p c s)
+step-plain e p c s = had (seen (byCell p s c)) ∙ ap (λ (o : Outcome). onlyHad e (plain s) (seen o)) (cell-plain p c s)
   where
     had : (o : Out Place) → onlyHad e s o ≡ onlyHad e (plain s) o
     had (next q) = ap (λ (n : ℕ). pick (eqb n 0) (next q) (refuse n)) (bars-plain e s)

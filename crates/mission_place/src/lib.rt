@@ -33,7 +33,7 @@ fn permits(s: Order) -> bool
     match s {
         Order::NumCheckpoints(k) => permitted::counted(k),
         Order::NumSpeedLimits(k) => permitted::counted(k),
-        Order::Goal(k) => permitted::counted(k),
+        Order::Goal(k) => permitted::checkpoint_number(k),
         Order::Limit(i, a, b) => permitted::limited(i, a, b),
         _ => true,
     }

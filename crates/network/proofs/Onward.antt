@@ -22,9 +22,8 @@ use Rattle.grammar.specs.Editions.{Edition}
 use Rattle.grammar.specs.PlaceTable.{rndf-table}
 use Rattle.statement.specs.declared.Statement.{Statement}
 use Rattle.place.specs.declared.Place.{Place}
-use Rattle.place.specs.declared.Outcome as DO
 use Rattle.place.specs.Abstract.{seen}
-use Rattle.place.specs.Step.{firstPlace, overOf, cellOf, refusesBy, byCell, testedOf, movedOf}
+use Rattle.place.specs.Step.{firstPlace, overOf, cellOf, refusesBy, byCell, testedOf, movedOf, Outcome}
 use Rattle.place.proofs.Stepped.{outcome, stepped}
 use Rattle.progress.specs.declared.Progress.{Progress}
 use Rattle.judge.specs.Judging.{Got, bad, blank, said, taken, line}
@@ -48,7 +47,7 @@ use Rattle.network.specs.Reaching.{first-of, refusalOf, WalkEnd, stopped
 -- ## What an edition makes of a statement
 module _ (table : List (List ℕ)) (e : Edition) (s : Statement) where
   -- r by the kind, t by the values, b by the edition
-  by-three : (r t b : ℕ) (o : DO.Outcome) (q : Place) → (r ≡ 0 → o ≡ outcome t q) → barsOf e s ≡ b
+  by-three : (r t b : ℕ) (o : Outcome) (q : Place) → (r ≡ 0 → o ≡ outcome t q) → barsOf e s ≡ b
       → barGot e (pick (eqb r 0) (taken (judging table) s (seen o)) (bad r)) ≡ pick (eqb (first-of r (first-of t b)) 0) (said s q) (bad (first-of r (first-of t b)))
   by-three zero zero b o q f g = rw (f refl, g) refl
   by-three zero (suc t) b o q f g = let z : eqb (suc t) 0 ≡ false = ne-eqb (suc t) 0 (λ h. omega arith) in rw (f refl, z, z) refl

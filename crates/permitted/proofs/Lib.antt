@@ -2,4 +2,5 @@
 pub mod Decided
 pub mod Signs
 pub mod Computes
+pub mod Taken
 pub mod Owed

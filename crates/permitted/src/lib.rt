@@ -1,9 +1,10 @@
 // What the places of an RNDF and of an MDF share: which values a statement may have, a test for each form of `grammar`'s specs/Permitted and
-// specs/MissionPlaces, and what is owed. Every number is handled, whatever its size: 32,768 is the largest that is permitted, never one that is relied on.
+// specs/MissionPlaces, and what is owed. A width, a speed, a checkpoint number and the identifier of a segment or zone are tested by the constructor of their kind (`units`):
+// what it refuses gets 9. Every number is handled, whatever its size: none is relied on to be in its range.
 //
 // specs/Tests, specs/MissionTests: what each test answers, as `grammar` decides it; specs/Owed. No function here requires anything.
 //
-// Rests on `terms`, `grammar` and `statement`.
+// Rests on `terms`, `units`, `grammar` and `statement`.
 ghost use mathlib.Core.Path.{_≡_};
 ghost use mathlib.Core.Bool.{_&&_};
 ghost use Rattle.permitted.specs.Tests.{isCounted, isAtMost, isUpTo, isTheNumber, isThePart, isPoint, isNumbered, isLatitude, isLongitude, isThePoint, isOwnStop, isOwnCheckpoint, isEntry, isInnerEntry, isOwnExit, isPerimeterExit};
@@ -11,27 +12,91 @@ ghost use Rattle.permitted.specs.MissionTests.{isNotAbove, isLimit};
 ghost use Prim.Native.Nat.{pred};
 ghost use Rattle.permitted.specs.Owed.{owing};
 use statement::Id;
+use units::CheckpointNumber;
+use units::CheckpointNumberRead;
+use units::Feet;
+use units::FeetRead;
+use units::LARGEST_INTEGER;
+use units::LARGEST_LATITUDE;
+use units::LARGEST_LONGITUDE;
+use units::LEAST_LATITUDE;
+use units::LEAST_LONGITUDE;
+use units::Mph;
+use units::MphRead;
+use units::SegmentId;
+use units::SegmentIdRead;
 
-// 1 to 32,768.
-pub fn counted(n: u32) -> bool
-    ensures { λ r. ⌜ r ≡ isCounted n ⌝ }
-{
-    if 1 <= n { n <= 32768 } else { false }
-}
-
-// 0 to 32,768.
-pub fn at_most(n: u32) -> bool
+// ## Numbers by their kinds
+// A lane's width.
+pub fn lane_width(n: u32) -> bool
     ensures { λ r. ⌜ r ≡ isAtMost n ⌝ }
 {
-    n <= 32768
+    match Feet::new(n) {
+        FeetRead::Is(_) => true,
+        FeetRead::Refused => false,
+    }
 }
 
-// With c others at most 32,768.
+// A spot's width: 0 is none.
+pub fn spot_width(n: u32) -> bool
+    ensures { λ r. ⌜ r ≡ isCounted n ⌝ }
+{
+    if 1 <= n { lane_width(n) } else { false }
+}
+
+// A speed.
+fn speed(n: u32) -> bool
+    ensures { λ r. ⌜ r ≡ isAtMost n ⌝ }
+{
+    match Mph::new(n) {
+        MphRead::Is(_) => true,
+        MphRead::Refused => false,
+    }
+}
+
+// The number of a checkpoint, or of a goal.
+pub fn checkpoint_number(n: u32) -> bool
+    ensures { λ r. ⌜ r ≡ isCounted n ⌝ }
+{
+    match CheckpointNumber::new(n) {
+        CheckpointNumberRead::Is(_) => true,
+        CheckpointNumberRead::Refused => false,
+    }
+}
+
+// The identifier of a segment or zone.
+fn segment_id(n: u32) -> bool
+    ensures { λ r. ⌜ r ≡ isCounted n ⌝ }
+{
+    match SegmentId::new(n) {
+        SegmentIdRead::Is(_) => true,
+        SegmentIdRead::Refused => false,
+    }
+}
+
+// So many zones behind c segments: the last one's identifier is not over the largest. 01: "zones M+1 to M+N", "M + N ≤ 32,768".
 pub fn up_to(c: u32, n: u32) -> bool
     ensures { λ r. ⌜ r ≡ isUpTo c n ⌝ }
 {
-    c as u64 + n as u64 <= 32768
+    c as u64 + n as u64 <= SegmentId::LARGEST as u64
 }
+
+// ## Numbers of no kind
+// A count of one or more, or the number of a lane, spot or point.
+pub fn counted(n: u32) -> bool
+    ensures { λ r. ⌜ r ≡ isCounted n ⌝ }
+{
+    if 1 <= n { n <= LARGEST_INTEGER } else { false }
+}
+
+// One that may be 0.
+pub fn at_most(n: u32) -> bool
+    ensures { λ r. ⌜ r ≡ isAtMost n ⌝ }
+{
+    n <= LARGEST_INTEGER
+}
+
+// ## The due part or point
 
 // The number that is due.
 pub fn the_number(due: u64, n: u32) -> bool
@@ -58,19 +123,23 @@ fn is_point(m: u32, n: u32, k: u64, i: Id) -> bool
     }
 }
 
-// Millionths of a degree, -90 to 90 degrees.
+// Millionths of a degree from the equator.
 fn latitude(z: i32) -> bool
     ensures { λ r. ⌜ r ≡ isLatitude z ⌝ }
 {
-    if -90000000 <= z { z <= 90000000 } else { false }
+    if LEAST_LATITUDE <= z {
+        z <= LARGEST_LATITUDE
+    } else {
+        false
+    }
 }
 
-// Millionths of a degree, -180 to 180 degrees.
+// And from the first meridian.
 fn longitude(z: i32) -> bool
     ensures { λ r. ⌜ r ≡ isLongitude z ⌝ }
 {
-    if -180000000 <= z {
-        z <= 180000000
+    if LEAST_LONGITUDE <= z {
+        z <= LARGEST_LONGITUDE
     } else {
         false
     }
@@ -117,7 +186,7 @@ pub fn own_checkpoint(m: u32, n: u32, first: u32, last: u32, i: Id, number: u32)
 {
     if is_point(m, n, i.z as u64, i) {
         if numbered(first, last, i.z) {
-            counted(number)
+            checkpoint_number(number)
         } else {
             false
         }
@@ -126,11 +195,11 @@ pub fn own_checkpoint(m: u32, n: u32, first: u32, last: u32, i: Id, number: u32)
     }
 }
 
-// An entry: x, y and z at most 32,768, x and z more than 0.
+// An entry: x is an identifier, z a point's number, and y a lane's, or 0.
 fn entry(e: Id) -> bool
     ensures { λ r. ⌜ r ≡ isEntry e ⌝ }
 {
-    if counted(e.x) {
+    if segment_id(e.x) {
         if at_most(e.y) { counted(e.z) } else { false }
     } else {
         false
@@ -141,7 +210,7 @@ fn entry(e: Id) -> bool
 fn inner_entry(e: Id) -> bool
     ensures { λ r. ⌜ r ≡ isInnerEntry e ⌝ }
 {
-    if counted(e.x) {
+    if segment_id(e.x) {
         if counted(e.y) { counted(e.z) } else { false }
     } else {
         false
@@ -181,8 +250,8 @@ fn not_above(minimum: u32, maximum: u32) -> bool
 fn speeds(minimum: u32, maximum: u32) -> bool
     ensures { λ r. ⌜ r ≡ (isAtMost minimum && (isAtMost maximum && isNotAbove minimum maximum)) ⌝ }
 {
-    if at_most(minimum) {
-        if at_most(maximum) {
+    if speed(minimum) {
+        if speed(maximum) {
             not_above(minimum, maximum)
         } else {
             false
@@ -196,7 +265,7 @@ fn speeds(minimum: u32, maximum: u32) -> bool
 pub fn limited(id: u32, minimum: u32, maximum: u32) -> bool
     ensures { λ r. ⌜ r ≡ isLimit id minimum maximum ⌝ }
 {
-    if counted(id) {
+    if segment_id(id) {
         speeds(minimum, maximum)
     } else {
         false

@@ -24,9 +24,7 @@ use Rattle.statement.specs.Kinds.{kindOf, ofKind, written}
 use Rattle.statement.proofs.Laws.{kind-written, sample}
 use Rattle.permitted.specs.Tests.{isCounted, isAtMost, isUpTo, isTheNumber, isThePart, isThePoint, isOwnStop, isOwnCheckpoint, isOwnExit, isPerimeterExit}
 use Rattle.place.specs.declared.Place.{Place}
-use Rattle.place.specs.declared.Outcome.{Outcome}
-use Rattle.place.specs.declared.Outcome.the-variants.{Next, Refused}
-use Rattle.place.specs.Step.{hasOf, permitsOf, readyOf, afterOf, optedOf, indexOf, dueOf, optionOf, byCell, stepOf, refusesBy, refusesOf, overOf}
+use Rattle.place.specs.Step.{hasOf, permitsOf, readyOf, afterOf, optedOf, indexOf, dueOf, optionOf, byCell, stepOf, refusesBy, refusesOf, overOf, Outcome, Next, Refused}
 use Rattle.place.specs.Abstract.{seen, placeOf, flags, absOf}
 use Rattle.place.proofs.Table.{row-is, shut}
 

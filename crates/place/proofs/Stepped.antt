@@ -7,9 +7,7 @@ use lib.Dec.{eqb, ltb}
 use Rattle.terms.specs.Words.{pick}
 use Rattle.statement.specs.declared.Statement.{Statement}
 use Rattle.place.specs.declared.Place.{Place}
-use Rattle.place.specs.declared.Outcome.{Outcome}
-use Rattle.place.specs.declared.Outcome.the-variants.{Next, Refused}
-use Rattle.place.specs.Step.{hasOf, permitsOf, readyOf, afterOf, optedOf, dueOf, optionOf, byCell, refusesBy, testedOf, movedOf}
+use Rattle.place.specs.Step.{hasOf, permitsOf, readyOf, afterOf, optedOf, dueOf, optionOf, byCell, refusesBy, testedOf, movedOf, Outcome, Next, Refused}
 
 -- the next place, or the number
 abbrev pub outcome : ℕ → Place → Outcome

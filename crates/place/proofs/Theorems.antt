@@ -20,8 +20,7 @@ use Rattle.statement.specs.Meaning.{Stretch, meant}
 use Rattle.statement.specs.Kinds.{kindOf}
 use Rattle.place_table.proofs.Laws.{rndf-cell-is}
 use Rattle.place.specs.declared.Place.{Place}
-use Rattle.place.specs.declared.Outcome.the-variants.{Next, Refused}
-use Rattle.place.specs.Step.{hasOf, permitsOf, readyOf, afterOf, optedOf, firstPlace, indexOf, dueOf, optionOf, cellOf, byCell, stepOf, refusesBy, refusesOf, overOf}
+use Rattle.place.specs.Step.{hasOf, permitsOf, readyOf, afterOf, optedOf, firstPlace, indexOf, dueOf, optionOf, cellOf, byCell, stepOf, refusesBy, refusesOf, overOf, Next, Refused}
 use Rattle.place.specs.Abstract.{seen, placeOf, absOf}
 use Rattle.place.proofs.Cells.{program, cells}
 

@@ -10,9 +10,7 @@ use Rattle.place_table.specs.RndfRows as rows
 use Rattle.place.specs.declared.Open.the-variants as op
 use Rattle.place.specs.declared.Given.{Given}
 use Rattle.place.specs.declared.Place.{Place}
-use Rattle.place.specs.declared.Outcome.{Outcome}
-use Rattle.place.specs.declared.Outcome.the-variants.{Next, Refused}
-use Rattle.place.specs.Step.{placed, withGiven, majorOf, minorOf}
+use Rattle.place.specs.Step.{placed, withGiven, majorOf, minorOf, Outcome, Next, Refused}
 
 -- an answer: the next place, or document 01's number
 abbrev pub seen : Outcome → Out Place

@@ -18,8 +18,6 @@ use Rattle.place.specs.declared.Open.the-variants as op
 use Rattle.place.specs.declared.Given.{Given}
 use Rattle.place.specs.declared.Place.{Place}
 use Rattle.place.specs.declared.Around.{Around}
-use Rattle.place.specs.declared.Outcome.{Outcome}
-use Rattle.place.specs.declared.Outcome.the-variants.{Next, Refused}
 
 -- ## The open part
 abbrev pub majorOf : Open → ℕ
@@ -188,6 +186,11 @@ unfoldable pub cellOf : List (List ℕ) → Place → ℕ → ℕ
 cellOf table p kind = cellIn 27 30 table (indexOf p) kind
 
 -- ## The step: by the cell's number the due statement, an option, or none
+-- what it comes to: the next place, or document 01's number. The program tells it in two (`tested`, `moved`)
+pub data Outcome : Type 0 where
+  Next : Place → Outcome
+  Refused : ℕ → Outcome
+
 -- the options given are enough for the due statement: a spot has its checkpoint
 abbrev pub readyOf : Place → Bool
 readyOf p = pick (eqb (p .row) rows.first-of-spot-due) (p .given .second) true

@@ -48,12 +48,6 @@ pub struct Place {
     pub given: Given,
 }
 
-// What a step comes to, in one for the definitions (specs/Step); `tested` and `moved` tell it in two.
-pub enum Outcome {
-    Next(Place),
-    Refused(u8),
-}
-
 // The part around a closed one, and the number due there.
 pub struct Around {
     pub part: Open,
@@ -235,7 +229,7 @@ impl Place {
             Statement::NumLanes(k) => permitted::counted(k),
             Statement::Lane(a, b) => permitted::the_part(m, due, a, b),
             Statement::NumWaypoints(k) => permitted::counted(k),
-            Statement::LaneWidth(k) => permitted::at_most(k),
+            Statement::LaneWidth(k) => permitted::lane_width(k),
             Statement::Checkpoint(i, k) => permitted::own_checkpoint(
                 m,
                 n,
@@ -251,7 +245,7 @@ impl Place {
             Statement::Perimeter(a, b) => permitted::the_part(m, 0, a, b),
             Statement::NumPerimeterpoints(k) => permitted::counted(k),
             Statement::Spot(a, b) => permitted::the_part(m, due, a, b),
-            Statement::SpotWidth(k) => permitted::counted(k),
+            Statement::SpotWidth(k) => permitted::spot_width(k),
             Statement::Point(i, a, o) => permitted::the_point(m, n, due, i, a, o),
             _ => true,
         }

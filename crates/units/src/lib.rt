@@ -1,9 +1,22 @@
 // Feet, miles per hour, checkpoint numbers and identifiers of segments or zones: four kinds of number that can't be handed over for one another.
-// Each kind has its largest value and a constructor that refuses what is not of the kind. Rests on `terms`.
+// Each kind has its largest value and a constructor that refuses what is not of the kind: whoever tests a number of a kind goes by these. Numbers of no kind have
+// their ranges here too, so that each stands in one place of the program. Rests on `terms`.
 //
 // Settled: every contract here reads `r ≡ f ..`, so no second answer satisfies it.
 ghost use mathlib.Core.Path.{_≡_};
 ghost use Rattle.units.specs.Made.{feetOf, mphOf, checkpointNumberOf, segmentIdOf, missingFeet};
+
+// 01: "Integer: .. at most 32,768." A count of items and the number of a lane, spot or point are of no kind: this is all that limits them.
+pub const LARGEST_INTEGER: u32 = 32768;
+
+// 01: "a signed count of millionths of a degree: latitude -90,000,000 to 90,000,000, longitude -180,000,000 to 180,000,000".
+pub const LEAST_LATITUDE: i32 = -90000000;
+
+pub const LARGEST_LATITUDE: i32 = 90000000;
+
+pub const LEAST_LONGITUDE: i32 = -180000000;
+
+pub const LARGEST_LONGITUDE: i32 = 180000000;
 
 // A width in feet; 0 is a width.
 pub struct Feet(pub u16);

@@ -20,8 +20,8 @@ counted-requires-2 c κs = search needs
 enum-known-s-3 : tie.Need-enum-known-s-3
 enum-known-s-3 c = search needs
 
-counted-requires-3 : tie.Need-counted-requires-3
-counted-requires-3 c κs = search needs
+checkpoint-number-requires : tie.Need-checkpoint-number-requires
+checkpoint-number-requires c κs = search needs
 
 enum-known-s-4 : tie.Need-enum-known-s-4
 enum-known-s-4 c = search needs
@@ -36,7 +36,7 @@ returns-2 : tie.Need-returns-2
 returns-2 c = rw (c .before .before .s2 .given .1) (c .counted2 .ensures)
 
 returns-3 : tie.Need-returns-3
-returns-3 c = rw (c .before .before .s3 .given .1) (c .counted3 .ensures)
+returns-3 c = rw (c .before .before .s3 .given .1) (c .checkpoint-number .ensures)
 
 returns-4 : tie.Need-returns-4
 returns-4 c = rw (c .before .before .s4 .given .1) (c .limited .ensures)
@@ -53,7 +53,7 @@ permits-spec =
     enum-known-s-2
     counted-requires-2
     enum-known-s-3
-    counted-requires-3
+    checkpoint-number-requires
     enum-known-s-4
     limited-requires
     returns

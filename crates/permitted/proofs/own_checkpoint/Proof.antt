@@ -13,11 +13,11 @@ is-point-requires c κs = search needs
 numbered-requires : tie.Need-numbered-requires
 numbered-requires c κs = search needs
 
-counted-requires : tie.Need-counted-requires
-counted-requires c κs = search needs
+checkpoint-number-requires : tie.Need-checkpoint-number-requires
+checkpoint-number-requires c κs = search needs
 
 returns : tie.Need-returns
-returns c = rw (own-checkpoint-is, ← c .before .before .before .before .is-point .ensures, c .before .before .before .if1 .taken, ← c .before .before .numbered .ensures, c .before .if2 .taken) (c .counted .ensures)
+returns c = rw (own-checkpoint-is, ← c .before .before .before .before .is-point .ensures, c .before .before .before .if1 .taken, ← c .before .before .numbered .ensures, c .before .if2 .taken) (c .checkpoint-number .ensures)
 
 returns-2 : tie.Need-returns-2
 returns-2 c = rw (own-checkpoint-is, ← c .before .before .before .is-point .ensures, c .before .before .if1 .taken, ← c .before .numbered .ensures, c .if2 .left)
@@ -32,7 +32,7 @@ own-checkpoint-spec =
     cast-is-point
     is-point-requires
     numbered-requires
-    counted-requires
+    checkpoint-number-requires
     returns
     returns-2
     returns-3)

@@ -53,8 +53,8 @@ counted-requires-3 c κs = search needs
 enum-known-s-7 : tie.Need-enum-known-s-7
 enum-known-s-7 c = search needs
 
-at-most-requires : tie.Need-at-most-requires
-at-most-requires c κs = search needs
+lane-width-requires : tie.Need-lane-width-requires
+lane-width-requires c κs = search needs
 
 enum-known-s-8 : tie.Need-enum-known-s-8
 enum-known-s-8 c = search needs
@@ -86,8 +86,8 @@ the-number-requires-2 c κs = search needs
 enum-known-s-12 : tie.Need-enum-known-s-12
 enum-known-s-12 c = search needs
 
-at-most-requires-2 : tie.Need-at-most-requires-2
-at-most-requires-2 c κs = search needs
+at-most-requires : tie.Need-at-most-requires
+at-most-requires c κs = search needs
 
 enum-known-s-13 : tie.Need-enum-known-s-13
 enum-known-s-13 c = search needs
@@ -110,8 +110,8 @@ the-part-requires-3 c κs = search needs
 enum-known-s-16 : tie.Need-enum-known-s-16
 enum-known-s-16 c = search needs
 
-counted-requires-5 : tie.Need-counted-requires-5
-counted-requires-5 c κs = search needs
+spot-width-requires : tie.Need-spot-width-requires
+spot-width-requires c κs = search needs
 
 enum-known-s-17 : tie.Need-enum-known-s-17
 enum-known-s-17 c = search needs
@@ -138,7 +138,7 @@ returns-6 : tie.Need-returns-6
 returns-6 c = rw (c .before .before .s6 .given .1) (c .counted3 .ensures)
 
 returns-7 : tie.Need-returns-7
-returns-7 c = rw (c .before .before .s7 .given .1) (c .at-most .ensures)
+returns-7 c = rw (c .before .before .s7 .given .1) (c .lane-width .ensures)
 
 returns-8 : tie.Need-returns-8
 returns-8 c = rw (c .before .before .before .s8 .given .1, ← c .before .before .before .before .before .before .major .ensures, ← c .before .before .before .before .before .minor .ensures, ← c .before .first-marked .ensures) (c .own-checkpoint .ensures)
@@ -153,7 +153,7 @@ returns-11 : tie.Need-returns-11
 returns-11 c = rw (c .before .before .s11 .given .1) (c .the-number2 .ensures)
 
 returns-12 : tie.Need-returns-12
-returns-12 c = rw (c .before .before .s12 .given .1) (c .at-most2 .ensures)
+returns-12 c = rw (c .before .before .s12 .given .1) (c .at-most .ensures)
 
 returns-13 : tie.Need-returns-13
 returns-13 c = rw (c .before .before .s13 .given .1, ← c .before .before .before .before .before .major .ensures) (c .the-part2 .ensures)
@@ -165,7 +165,7 @@ returns-15 : tie.Need-returns-15
 returns-15 c = rw (c .before .before .s15 .given .1, ← c .before .before .before .before .before .major .ensures) (c .the-part3 .ensures)
 
 returns-16 : tie.Need-returns-16
-returns-16 c = rw (c .before .before .s16 .given .1) (c .counted5 .ensures)
+returns-16 c = rw (c .before .before .s16 .given .1) (c .spot-width .ensures)
 
 returns-17 : tie.Need-returns-17
 returns-17 c =
@@ -195,7 +195,7 @@ permits-spec =
     enum-known-s-6
     counted-requires-3
     enum-known-s-7
-    at-most-requires
+    lane-width-requires
     enum-known-s-8
     first-marked-requires
     own-checkpoint-requires
@@ -206,7 +206,7 @@ permits-spec =
     enum-known-s-11
     the-number-requires-2
     enum-known-s-12
-    at-most-requires-2
+    at-most-requires
     enum-known-s-13
     the-part-requires-2
     enum-known-s-14
@@ -214,7 +214,7 @@ permits-spec =
     enum-known-s-15
     the-part-requires-3
     enum-known-s-16
-    counted-requires-5
+    spot-width-requires
     enum-known-s-17
     the-point-requires
     returns
