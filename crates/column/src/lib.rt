@@ -19,6 +19,7 @@ use network::walk_lines;
 use number::Triple;
 use number::triple_of;
 use place::Place;
+use place_table::Verdict;
 use place_table::rndf_table;
 use refusal::LONGEST_TEXT;
 use scan::far_byte_from;
@@ -173,9 +174,9 @@ fn kind_field(table: &[[u8; 30]; 27], s: &[u8], f: Fields, p: Place, number: u8,
     ensures { λ r. ⌜ r ≡ rndfKindField (now (table .entry)) (now (s .entry)) f p number kind ⌝ }
 {
     let cell = p.cell(table, kind);
-    if p.refuses(cell) != 0 {
+    let Verdict::Taken = p.refuses(cell) else {
         return 0;
-    }
+    };
     if f.count == fields_needed(kind) {
         wrong(p, number, s, f, kind)
     } else {

@@ -7,44 +7,54 @@
 //
 // Rests on `edition`, `editions`, `judge`, `walk` and what they rest on.
 use edition::Edition;
+use place_table::Verdict;
 use statement::Statement;
 ghost use mathlib.Core.Path.{_≡_};
 ghost use Rattle.grammar.specs.Editions.{december};
 ghost use Rattle.edition.specs.Editions.{inner};
+ghost use Rattle.place_table.specs.Verdicts.{verdictOf};
 ghost use Rattle.edition_judge.specs.EditionLine.{sideBars, spotsBar, barsOf};
 
 // 8 for the second boundary, `solid_yellow`.
-fn side_bars(boundary: u8) -> u8
-    ensures { λ r. ⌜ r ≡ sideBars boundary ⌝ }
+fn side_bars(boundary: u8) -> Verdict
+    ensures { λ r. ⌜ r ≡ verdictOf (sideBars boundary) ⌝ }
 {
-    if boundary == 2 { 8 } else { 0 }
+    if boundary == 2 {
+        Verdict::Refused(8)
+    } else {
+        Verdict::Taken
+    }
 }
 
 // 9 for no spots.
-fn spots_bar(count: u32) -> u8
-    ensures { λ r. ⌜ r ≡ spotsBar count ⌝ }
+fn spots_bar(count: u32) -> Verdict
+    ensures { λ r. ⌜ r ≡ verdictOf (spotsBar count) ⌝ }
 {
-    if count == 0 { 9 } else { 0 }
+    if count == 0 {
+        Verdict::Refused(9)
+    } else {
+        Verdict::Taken
+    }
 }
 
-// The number for a statement that the older edition does not have, or 0.
-fn bars(s: Statement) -> u8
-    ensures { λ r. ⌜ r ≡ barsOf december s ⌝ }
+// What the older edition says of a statement that the present one takes.
+fn bars(s: Statement) -> Verdict
+    ensures { λ r. ⌜ r ≡ verdictOf (barsOf december s) ⌝ }
 {
     match s {
         Statement::LeftBoundary(b) => side_bars(b),
         Statement::RightBoundary(b) => side_bars(b),
         Statement::NumSpots(n) => spots_bar(n),
-        _ => 0,
+        _ => Verdict::Taken,
     }
 }
 
-// The number for a statement that the edition does not have, or 0. The present one has every statement.
-pub fn barred(edition: Edition, s: Statement) -> u8
-    ensures { λ r. ⌜ r ≡ barsOf (inner edition) s ⌝ }
+// What an edition says of a statement that the present one takes. The present one has every statement.
+pub fn barred(edition: Edition, s: Statement) -> Verdict
+    ensures { λ r. ⌜ r ≡ verdictOf (barsOf (inner edition) s) ⌝ }
 {
     match edition {
-        Edition::March2007 => 0,
+        Edition::March2007 => Verdict::Taken,
         Edition::December2006 => bars(s),
     }
 }

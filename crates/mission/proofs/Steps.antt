@@ -1,32 +1,26 @@
--- One statement in the walk, as the program does it: a plain line judged where it stands; its row stored, then the progress. Assumes nothing.
-use mathlib.Core.Path.{_≡_, sym, ap, ap₂, subst, _∙_}
+-- One line in the walk, as the program tells it; a statement's row stored, then the progress. Assumes nothing.
+use mathlib.Core.Path.{_≡_, sym, ap, ap₂, _∙_}
 use mathlib.Core.List.{List}
-use Prim.Native.Nat.{ℕ, _+_, _-_, _≤_, _<_}
-use native.Mathlib.Omega.{arith}
-use lib.ListN.{length, take, drop}
+use Prim.Native.Nat.{ℕ, _+_, _≤_, _<_}
+use lib.ListN.{length}
 use Rattle.terms.specs.Ascii.{Bytes}
-use Rattle.scan.specs.Reach.{stopsBy}
+use Rattle.scan.specs.Reach.{reach, stopsBy}
 use Rattle.scan.specs.declared.Until.the-variants.{Byte}
-use Rattle.scan.proofs.Reach.{reach-le}
 use Rattle.grammar.specs.PlaceTable.{mdf-table}
 use Rattle.statement.specs.declared.Order.{Order}
 use Rattle.mission_place.specs.declared.MissionPlace.{MissionPlace}
-use Rattle.mission_place.specs.declared.MissionOutcome.{MissionOutcome}
-use Rattle.mission_place.specs.Step.{numberKindOf, overOf}
-use Rattle.mission_place.specs.Abstract.{seen}
-use Rattle.judge.specs.Judging.{Got, taken}
+use Rattle.mission_place.specs.Step.{overOf}
+use Rattle.judge.specs.Judging.{Got, bad, blank, said, line}
 use Rattle.mission_judge.specs.MdfLine.{judging, mdf-judging}
 use Rattle.mission_progress.specs.declared.MissionProgress.{MissionProgress}
 use Rattle.mission_progress.specs.declared.MissionRow.{MissionRow}
 use Rattle.mission_progress.specs.Progress.{total, missionRowOf, missionAfterOf}
 use Rattle.mission_progress.proofs.Shown.{grows}
 use Rattle.walk.specs.Standing.{Where, place}
-use Rattle.walk.specs.Walking.{onward}
+use Rattle.walk.specs.Walking.{fault, onward}
 use Rattle.walk.proofs.Cutting.{one-line}
 use Rattle.walk.proofs.MdfSteps.{rest}
-use Rattle.plain_fields.specs.LineStands.{stated}
-use Rattle.plain_order.specs.Orders.{OrderLine}
-use Rattle.plain_order.specs.declared.PlainOrder.the-variants as PlainOrder
+use Rattle.plain_parts.specs.Stands.{stretch}
 use Rattle.mission.specs.Storing.{MissionMemory, memory, stored}
 use Rattle.mission.specs.Reading.{with-progress, put}
 
@@ -39,15 +33,18 @@ pub one-more : (w : Where) (s : Order) (p q : MissionProgress) (g l g₁ l₁ : 
 unfolding put
 one-more w s p q g l g₁ l₁ e = rw (ap (λ (m : MissionMemory). m .so-far) e) (grows s p)
 
--- ## A plain line
-module _ (s : Bytes) (from k : ℕ) (o : Order) (e : ℕ) (h : OrderLine s from k (PlainOrder.Is o e)) where
-  pub plain-ends : from ≤ length s → (from ≤ e) × (e ≤ length s)
-  plain-ends z = (omega (arith, h .ends), omega (arith, h .ends, reach-le (stopsBy (Byte 10)) s from z))
+-- ## A line
+module _ (table : List (List ℕ)) (right : table ≡ mdf-table) (s : Bytes) (from to : ℕ) (h : from < length s) (ends : to ≡ reach (stopsBy (Byte 10)) s from) (p : MissionPlace) (c : MissionMemory) (i : ℕ) where
+  gets : (g : Got Order MissionPlace) → line (judging table) (stretch s from to) from p ≡ g → rest put s p c from i ≡ onward mdf-judging put overOf (place from i (stretch s from to)) p c g (λ q d. rest put s q d (to + 1) (i + 1))
+  gets g says =
+      one-line mdf-judging put overOf s from to h ends p c i
+      ∙ ap (λ (x : Got Order MissionPlace). onward mdf-judging put overOf (place from i (stretch s from to)) p c x (λ q d. rest put s q d (to + 1) (i + 1))) (ap (λ (t : List (List ℕ)). line (judging t) (stretch s from to) from p) (sym right) ∙ says)
 
-  -- judged with the right table by the kind that is due
-  pub a-plain-line : (table : List (List ℕ)) → table ≡ mdf-table → from < length s → (p : MissionPlace) (c : MissionMemory) (i : ℕ) → k ≡ numberKindOf p → (r : MissionOutcome) → taken (judging table) o (seen r) ≡ stated (judging table) k o p
-      → rest put s p c from i ≡ onward mdf-judging put overOf (place from i (take (e - from) (drop from s))) p c (taken mdf-judging o (seen r)) (λ q d. rest put s q d (e + 1) (i + 1))
-  a-plain-line table t z p c i kind r j =
-      let right : taken mdf-judging o (seen r) ≡ stated mdf-judging k o p = subst (λ (t : List (List ℕ)). taken (judging t) o (seen r) ≡ stated (judging t) k o p) t j in
-      one-line mdf-judging put overOf s from e z (h .ends) p c i
-      ∙ ap (λ (g : Got Order MissionPlace). onward mdf-judging put overOf (place from i (take (e - from) (drop from s))) p c g (λ q d. rest put s q d (e + 1) (i + 1))) (h .gets mdf-table p (sym kind) ∙ sym right)
+  pub blank-line : line (judging table) (stretch s from to) from p ≡ blank → rest put s p c from i ≡ rest put s p c (to + 1) (i + 1)
+  blank-line says = gets blank says
+
+  pub bad-line : (n : ℕ) → line (judging table) (stretch s from to) from p ≡ bad n → rest put s p c from i ≡ fault i n
+  bad-line n says = gets (bad n) says
+
+  pub said-line : (o : Order) (q : MissionPlace) → line (judging table) (stretch s from to) from p ≡ said o q → rest put s p c from i ≡ rest put s q (put (place from i (stretch s from to)) o c) (to + 1) (i + 1)
+  said-line o q says = gets (said o q) says

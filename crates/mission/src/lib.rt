@@ -5,22 +5,18 @@
 // proofs/Filled: the walk finds what `text` answers, and stores what `fill` gives; for a text that spells a mission, its tables.
 //
 // Rests on `refusal`, `walk`, `plain_order`, `mission_judge`, `mission_progress`, `rows`, `fill`, `table_words` and what they rest on.
-use mission_judge::MissionVerdict;
-use mission_judge::mission_judge_line;
-use mission_place::MissionOutcome;
 use mission_place::MissionPlace;
 use mission_progress::MissionProgress;
 use mission_progress::MissionRow;
 use mission_progress::mission_row;
 use place_table::mdf_table;
-use plain_order::PlainOrder;
-use plain_order::plain_order;
-use plain_order::stand;
+use plain_order::MissionLine;
+use plain_order::MissionSaid;
+use plain_order::line_said;
 use refusal::Fault;
 use refusal::LONGEST_TEXT;
 use rows::store_goal;
 use rows::store_limit;
-use scan::far_byte_from;
 use statement::Order;
 ghost use mathlib.Core.Path.{_≡_};
 ghost use Prim.Native.Nat.{_<_};
@@ -72,30 +68,19 @@ pub fn fill_orders(text: &[u8], goals: &mut [u32], limits: &mut [u32]) -> Missio
     let mut from: usize = 0;
     let mut line: u32 = 1;
     while from < text.len() {
-        let kind = place.number_kind();
-        match plain_order(text, from, kind) {
-            PlainOrder::Is(s, e) => match stand(&table, kind, s, place) {
-                MissionOutcome::Next(q) => {
-                    gained = gather(goals, limits, gained, s);
-                    place = q;
-                    from = e + 1;
-                }
-                MissionOutcome::Refused(n) => {
-                    return MissionFilled::Fault(Fault { line, number: n });
-                }
-            },
-            PlainOrder::No => {
-                let e = far_byte_from(text, from, 10);
-                match mission_judge_line(&table, &text[from..e], from, place) {
-                    MissionVerdict::Blank => {}
-                    MissionVerdict::Said(s, q) => {
-                        gained = gather(goals, limits, gained, s);
-                        place = q;
-                    }
-                    MissionVerdict::Bad(n) => {
-                        return MissionFilled::Fault(Fault { line, number: n });
-                    }
-                }
+        match line_said(&table, text, from, place) {
+            MissionLine::Blank(e) => {
+                from = e + 1;
+            }
+            MissionLine::Filled(said) => {
+                let MissionSaid::Is(s, q, e) = said else {
+                    return MissionFilled::Fault(Fault {
+                        line,
+                        number: said.number(),
+                    });
+                };
+                gained = gather(goals, limits, gained, s);
+                place = q;
                 from = e + 1;
             }
         }

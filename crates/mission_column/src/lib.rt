@@ -16,6 +16,7 @@ use mission_judge::mission_judge_line;
 use mission_place::MissionPlace;
 use number::Number;
 use number::integer_of;
+use place_table::Verdict;
 use place_table::mdf_table;
 use refusal::LONGEST_TEXT;
 use scan::far_byte_from;
@@ -95,9 +96,9 @@ fn kind_field(
     ensures { λ r. ⌜ r ≡ mdfKindField (now (table .entry)) (now (s .entry)) f p number kind ⌝ }
 {
     let cell = p.cell(table, kind);
-    if p.refuses(cell) != 0 {
+    let Verdict::Taken = p.refuses(cell) else {
         return 0;
-    }
+    };
     if f.count == order_fields_needed(kind) {
         wrong(number, s, f, kind)
     } else {

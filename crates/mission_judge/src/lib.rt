@@ -15,6 +15,7 @@ use made_out::order_fields_needed;
 use made_out::order_made_out;
 use mission_place::MissionOutcome;
 use mission_place::MissionPlace;
+use place_table::Verdict;
 use statement::Order;
 use statement::orders;
 use word::begins_with_digit;
@@ -78,9 +79,8 @@ fn kind_told(
     ensures { λ r. ⌜ r ≡ verdict (ofKind (judging (now (table .entry))) (now (s .entry)) base f p kind) ⌝ }
 {
     let cell = p.cell(table, kind);
-    let c = p.refuses(cell);
-    if c != 0 {
-        return MissionVerdict::Bad(c);
+    if let Verdict::Refused(n) = p.refuses(cell) {
+        return MissionVerdict::Bad(n);
     }
     if f.count == order_fields_needed(kind) {
         values_told(p, cell, order_made_out(s, base, f, kind))

@@ -6,9 +6,11 @@
 //
 // Rests on `terms`, `grammar`, `statement`, `permitted` and `place_table`.
 ghost use mathlib.Core.Path.{_≡_};
+ghost use Rattle.place_table.specs.Verdicts.{verdictOf};
 ghost use Rattle.mission_place.specs.Step.{permitsOf, placed, firstPlace, afterOf, indexOf, hasOf, optedOf, dueOf, optionOf, cellOf, byCell, refusesBy, overOf, numberKindOf};
 use permitted;
 use place_table;
+use place_table::Verdict;
 use place_table::mdf;
 use statement::Order;
 use statement::orders;
@@ -171,21 +173,21 @@ impl MissionPlace {
         place_table::mdf_cell(table, self.index(), kind)
     }
 
-    // By the cell of a kind, before any field is read: 5, 6, or 0 where the order may stand.
-    pub fn refuses(self, cell: u8) -> u8
-        ensures { λ r. ⌜ r ≡ refusesBy self cell ⌝ }
+    // By the cell of a kind, before any field is read: 5, 6, or the order may stand.
+    pub fn refuses(self, cell: u8) -> Verdict
+        ensures { λ r. ⌜ r ≡ verdictOf (refusesBy self cell) ⌝ }
     {
         if cell < place_table::OFTEN {
-            return 0;
+            return Verdict::Taken;
         }
         if cell < place_table::REFUSED {
             if self.has(cell - place_table::OFTEN) {
-                6
+                Verdict::Refused(6)
             } else {
-                0
+                Verdict::Taken
             }
         } else {
-            5
+            Verdict::Refused(5)
         }
     }
 

@@ -21,6 +21,10 @@ use Rattle.line_fields.proofs.LastField.{last-within}
 use Rattle.grammar.specs.Editions.{Edition}
 use Rattle.grammar.specs.PlaceTable.{rndf-table}
 use Rattle.statement.specs.declared.Statement.{Statement}
+use Rattle.place_table.specs.declared.Verdict.{Verdict}
+use Rattle.place_table.specs.declared.Verdict.the-variants.{Taken, Refused}
+use Rattle.place_table.specs.Verdicts.{verdictOf}
+use Rattle.place_table.proofs.Verdicts.{none-refuses, refused-by}
 use Rattle.place.specs.declared.Place.{Place}
 use Rattle.place.specs.Abstract.{seen}
 use Rattle.place.specs.Step.{firstPlace, overOf, cellOf, refusesBy, byCell, testedOf, movedOf, Outcome}
@@ -58,10 +62,10 @@ module _ (table : List (List ℕ)) (e : Edition) (s : Statement) where
     unfolding stated refusalOf
     whole = rw (← cell, told) (by-three (refusesBy (p .given) c) (testedOf p s c) (barsOf e s) (byCell p s c) (movedOf p s c) (stepped p s c) refl)
 
-    pub refused-by : (n ≡ 0 → ⊥) → barGot e (stated (judging table) k s p) ≡ bad n
-    refused-by z = whole ∙ rw (ne-eqb n 0 z) refl
+    bad-by : (n ≡ 0 → ⊥) → barGot e (stated (judging table) k s p) ≡ bad n
+    bad-by z = whole ∙ rw (ne-eqb n 0 z) refl
 
-    pub moved-by : n ≡ 0 → barGot e (stated (judging table) k s p) ≡ said s (movedOf p s c)
+    moved-by : n ≡ 0 → barGot e (stated (judging table) k s p) ≡ said s (movedOf p s c)
     moved-by z = whole ∙ rw z refl
 
 -- ## A line
@@ -90,12 +94,16 @@ module _ (e : Edition) (table : List (List ℕ)) (right : table ≡ rndf-table) 
   pub bad-line : (n : ℕ) → line (judging table) (stretch s from to) from p ≡ bad n → onwards e s p m from i ≡ stopped i n
   bad-line n says = gets (bad n) says
 
-  module _ (k c n : ℕ) (st : Statement) (says : line (judging table) (stretch s from to) from p ≡ stated (judging table) k st p) (cell : c ≡ cellOf table p k) (told : n ≡ refusalOf e p c st) where
-    pub refused-line : (n ≡ 0 → ⊥) → onwards e s p m from i ≡ stopped i n
-    refused-line z = gets _ says ∙ ap (λ (x : Got Statement Place). goes (place from i (stretch s from to)) p m x rest) (refused-by table e st p k c n cell told z)
+  module _ (k c : ℕ) (v : Verdict) (st : Statement) (says : line (judging table) (stretch s from to) from p ≡ stated (judging table) k st p) (cell : c ≡ cellOf table p k) (told : v ≡ verdictOf (refusalOf e p c st)) where
+    pub refused-line : (n : ℕ) → v ≡ Refused n → onwards e s p m from i ≡ stopped i n
+    refused-line n is =
+        let r = refused-by (refusalOf e p c st) n v told is in
+        gets _ says ∙ ap (λ (x : Got Statement Place). goes (place from i (stretch s from to)) p m x rest) (bad-by table e st p k c n cell (sym (r .0)) (λ z. r .1 (r .0 ∙ z)))
 
-    pub moved-line : n ≡ 0 → (q : Place) → q ≡ movedOf p st c → onwards e s p m from i ≡ rest q (put (place from i (stretch s from to)) st m)
-    moved-line z q move = gets _ says ∙ ap (λ (x : Got Statement Place). goes (place from i (stretch s from to)) p m x rest) (moved-by table e st p k c n cell told z) ∙ ap (λ (x : Place). rest x (put (place from i (stretch s from to)) st m)) (sym move)
+    pub moved-line : v ≡ Taken → (q : Place) → q ≡ movedOf p st c → onwards e s p m from i ≡ rest q (put (place from i (stretch s from to)) st m)
+    moved-line is q move =
+        let z = none-refuses (refusalOf e p c st) v told is in
+        gets _ says ∙ ap (λ (x : Got Statement Place). goes (place from i (stretch s from to)) p m x rest) (moved-by table e st p k c 0 cell (sym z) refl) ∙ ap (λ (x : Place). rest x (put (place from i (stretch s from to)) st m)) (sym move)
 
 -- ## The end
 pub at-end : (e : Edition) (s : Bytes) (p : Place) (m : Memory) (from i : ℕ) → length s ≤ from → onwards e s p m from i ≡ reached p m i

@@ -12,6 +12,7 @@
 use edition::Edition;
 use edition_judge::barred;
 use place::Place;
+use place_table::Verdict;
 use place_table::rndf_table;
 use progress::Progress;
 use progress::Row;
@@ -28,6 +29,7 @@ use rows::store_spot;
 use rows::store_stop;
 use rows::store_zone;
 use said_line::Line;
+use said_line::Said;
 use said_line::line_said;
 use statement::Statement;
 ghost use mathlib.Core.Path.{_≡_};
@@ -35,6 +37,7 @@ ghost use Prim.Native.Nat.{_≤_};
 ghost use lib.ListN.{length};
 ghost use Rattle.refusal.specs.Size.{most};
 ghost use Rattle.grammar.specs.PlaceTable.{rndf-table};
+ghost use Rattle.place_table.specs.Verdicts.{verdictOf};
 ghost use Rattle.edition.specs.Editions.{inner};
 ghost use Rattle.progress.specs.After.{noProgress, total};
 ghost use Rattle.network.specs.Storing.{Memory, memory, storePart, stored};
@@ -90,18 +93,18 @@ fn store(
     }
 }
 
-// The number that a statement with the cell of its kind is refused with at a place by an edition, or 0.
-fn refused(edition: Edition, p: Place, cell: u8, s: Statement) -> u8
-    ensures { λ r. ⌜ r ≡ refusalOf (inner edition) p cell s ⌝ }
+// What becomes of a statement with the cell of its kind, at a place and by an edition.
+fn verdict(edition: Edition, p: Place, cell: u8, s: Statement) -> Verdict
+    ensures { λ r. ⌜ r ≡ verdictOf (refusalOf (inner edition) p cell s) ⌝ }
 {
     let by_kind = p.refuses(cell);
-    if by_kind != 0 {
+    let Verdict::Taken = by_kind else {
         return by_kind;
-    }
+    };
     let by_value = p.tested(cell, s);
-    if by_value != 0 {
+    let Verdict::Taken = by_value else {
         return by_value;
-    }
+    };
     barred(edition, s)
 }
 
@@ -144,10 +147,15 @@ pub fn walk_part(
             Line::Blank(e) => {
                 from = e + 1;
             }
-            Line::Said(kind, s, e, last) => {
+            Line::Filled(said) => {
+                let Said::Is(kind, s, e, last) = said else {
+                    return Walked::Fault(Fault {
+                        line,
+                        number: said.number(),
+                    });
+                };
                 let cell = place.cell(table, kind);
-                let n = refused(edition, place, cell, s);
-                if n != 0 {
+                if let Verdict::Refused(n) = verdict(edition, place, cell, s) {
                     return Walked::Fault(Fault { line, number: n });
                 }
                 place = place.moved(cell, s);
@@ -165,9 +173,6 @@ pub fn walk_part(
                 );
                 gained = gained.after(s);
                 from = e + 1;
-            }
-            Line::Bad(n) => {
-                return Walked::Fault(Fault { line, number: n });
             }
         }
         line += 1;

@@ -11,9 +11,11 @@
 ghost use mathlib.Core.Path.{_≡_};
 ghost use Rattle.permitted.specs.Owed.{owing};
 ghost use Rattle.place.specs.Step.{majorOf, minorOf, firstMarkedOf, aroundOf, exitsOf, permitsOf, placed, firstPlace, openedOf, passedOf, leftOf, afterOf, indexOf, hasOf, markedOf, optedOf, cellOf, refusesBy, overOf, readyOf, testedOf, movedOf};
+ghost use Rattle.place_table.specs.Verdicts.{verdictOf};
 ghost use Rattle.place_table.specs.RndfRows.{segment-due, zone-due, end-file-due};
 use permitted;
 use place_table;
+use place_table::Verdict;
 use place_table::rndf;
 use statement::Id;
 use statement::Statement;
@@ -401,36 +403,40 @@ impl Place {
         place_table::rndf_cell(table, self.index(), kind)
     }
 
-    // By the cell of a kind, before any field is read: 5, 6, or 0 where the statement may stand.
-    pub fn refuses(self, cell: u8) -> u8
-        ensures { λ r. ⌜ r ≡ refusesBy (self .given) cell ⌝ }
+    // By the cell of a kind, before any field is read: 5, 6, or the statement may stand.
+    pub fn refuses(self, cell: u8) -> Verdict
+        ensures { λ r. ⌜ r ≡ verdictOf (refusesBy (self .given) cell) ⌝ }
     {
         if cell < place_table::OFTEN {
-            return 0;
+            return Verdict::Taken;
         }
         if cell < place_table::REFUSED {
             if self.has(cell - place_table::OFTEN) {
-                6
+                Verdict::Refused(6)
             } else {
-                0
+                Verdict::Taken
             }
         } else {
-            5
+            Verdict::Refused(5)
         }
     }
 
-    // 9 where a value is not permitted here, 25 where an option is still owed, else 0; of a statement whose kind may stand here.
-    pub fn tested(self, cell: u8, s: Statement) -> u8
-        ensures { λ r. ⌜ r ≡ testedOf self s cell ⌝ }
+    // 9 where a value is not permitted here, 25 where an option is still owed; of a statement whose kind may stand here.
+    pub fn tested(self, cell: u8, s: Statement) -> Verdict
+        ensures { λ r. ⌜ r ≡ verdictOf (testedOf self s cell) ⌝ }
     {
         if self.permits(s) {
             if cell < place_table::OFTEN {
-                if self.ready() { 0 } else { 25 }
+                if self.ready() {
+                    Verdict::Taken
+                } else {
+                    Verdict::Refused(25)
+                }
             } else {
-                0
+                Verdict::Taken
             }
         } else {
-            9
+            Verdict::Refused(9)
         }
     }
 

@@ -1,2 +1,3 @@
 -- The laws of the tables.
 pub mod Laws
+pub mod Verdicts

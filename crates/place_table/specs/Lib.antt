@@ -2,3 +2,4 @@
 pub mod RndfRows
 pub mod MdfRows
 pub mod Cells
+pub mod Verdicts

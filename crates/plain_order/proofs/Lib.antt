@@ -1,2 +1,3 @@
 -- Plain lines of an MDF.
 pub mod Orders
+pub mod Lines

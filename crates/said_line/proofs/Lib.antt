@@ -1,2 +1,2 @@
 -- Laws of what a line says.
-pub mod Said
+pub mod Cuts

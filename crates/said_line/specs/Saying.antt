@@ -18,6 +18,8 @@ use Rattle.plain_parts.specs.Stands.{stretch}
 use Rattle.plain_fields.specs.LineStands.{stated}
 use Rattle.said_line.specs.declared.Cut as DC
 use Rattle.said_line.specs.declared.Cut.the-variants as Cut
+use Rattle.said_line.specs.declared.Said as DS
+use Rattle.said_line.specs.declared.Said.the-variants as Said
 use Rattle.said_line.specs.declared.Line as DL
 use Rattle.said_line.specs.declared.Line.the-variants as Line
 
@@ -51,7 +53,16 @@ LastOfFew count n (Cut.Bad m) = Unit {0}
 
 -- ## The line
 -- the line that starts there gets this at the place, ends where it is said to, and its last field starts there
+abbrev pub Says : List (List ℕ) → Bytes → ℕ → Place → DS.Said → Type 0
+Says table s from p (Said.Is k st e last) = (e ≡ reach (stopsBy (Byte 10)) s from) × (line (judging table) (stretch s from e) from p ≡ stated (judging table) k st p) × (last ≡ lastStart (lineFields from (stretch s from e)))
+Says table s from p (Said.Refused n) = line (judging table) (stretch s from (reach (stopsBy (Byte 10)) s from)) from p ≡ bad n
+
+-- the same of a blank one
 abbrev pub LineSays : List (List ℕ) → Bytes → ℕ → Place → DL.Line → Type 0
 LineSays table s from p (Line.Blank e) = (e ≡ reach (stopsBy (Byte 10)) s from) × (line (judging table) (stretch s from e) from p ≡ blank)
-LineSays table s from p (Line.Said k st e last) = (e ≡ reach (stopsBy (Byte 10)) s from) × (line (judging table) (stretch s from e) from p ≡ stated (judging table) k st p) × (last ≡ lastStart (lineFields from (stretch s from e)))
-LineSays table s from p (Line.Bad n) = line (judging table) (stretch s from (reach (stopsBy (Byte 10)) s from)) from p ≡ bad n
+LineSays table s from p (Line.Filled x) = Says table s from p x
+
+-- the number that refuses a line
+abbrev pub numberOf : DS.Said → ℕ
+numberOf (Said.Is k st e last) = 0
+numberOf (Said.Refused n) = n

@@ -15,6 +15,7 @@ use made_out::Made;
 use made_out::fields_needed;
 use made_out::made_out;
 use place::Place;
+use place_table::Verdict;
 use plain_line::Plain;
 use plain_line::plain_line;
 use scan::far_byte_from;
@@ -28,7 +29,7 @@ ghost use Rattle.line_fields.specs.LineFields.{fieldsBy, lineFields, lastStart}
 ghost use Rattle.made_out.specs.Made.{made-from};
 ghost use Rattle.judge.specs.Judging.{ofKind, told, content, line};
 ghost use Rattle.judge.specs.RndfLine.{judging};
-ghost use Rattle.said_line.specs.Saying.{lastIn, made-cut, gotOf, LastOfFew, LastTold, LineSays};
+ghost use Rattle.said_line.specs.Saying.{lastIn, made-cut, gotOf, LastOfFew, LastTold, LineSays, numberOf};
 
 const LF: u8 = 10;
 
@@ -39,11 +40,28 @@ enum Cut {
     Bad(u8),
 }
 
-// What a line says: a statement with its kind, the line's end, and where its last field starts; nothing, and the end; or what refuses it.
+// A line that is not blank is made out as one statement, with its kind, the line's end, and where its last field starts; or it is refused.
+pub enum Said {
+    Is(u8, Statement, usize, usize),
+    Refused(u8),
+}
+
+// A line: nothing, and where it ends; or what it says.
 pub enum Line {
     Blank(usize),
-    Said(u8, Statement, usize, usize),
-    Bad(u8),
+    Filled(Said),
+}
+
+impl Said {
+    // The number that a line is refused with, where it is.
+    pub fn number(self) -> u8
+        ensures { λ r. ⌜ r ≡ numberOf self ⌝ }
+    {
+        match self {
+            Said::Is(_, _, _, _) => 0,
+            Said::Refused(n) => n,
+        }
+    }
 }
 
 // Where the last of at most three fields starts.
@@ -86,9 +104,8 @@ fn kind_cut(
     ensures { λ r. ⌜ (gotOf (now (table .entry)) p r ≡ ofKind (judging (now (table .entry))) (now (s .entry)) base f p kind) × LastOfFew (f .count) last r ⌝ }
 {
     let cell = p.cell(table, kind);
-    let c = p.refuses(cell);
-    if c != 0 {
-        return Cut::Bad(c);
+    if let Verdict::Refused(n) = p.refuses(cell) {
+        return Cut::Bad(n);
     }
     if f.count == fields_needed(kind) {
         made_told(kind, made_out(s, base, f, kind), last)
@@ -146,8 +163,8 @@ fn cut_at(table: &[[u8; 30]; 27], text: &[u8], from: usize, p: Place) -> Line
     let e = far_byte_from(text, from, LF);
     match line_cut(table, &text[from..e], from, p) {
         Cut::Blank => Line::Blank(e),
-        Cut::Said(kind, s, last) => Line::Said(kind, s, e, last),
-        Cut::Bad(n) => Line::Bad(n),
+        Cut::Said(kind, s, last) => Line::Filled(Said::Is(kind, s, e, last)),
+        Cut::Bad(n) => Line::Filled(Said::Refused(n)),
     }
 }
 
@@ -156,13 +173,13 @@ pub fn line_said(table: &[[u8; 30]; 27], text: &[u8], from: usize, p: Place) -> 
     ensures { λ r. ⌜ (from < length (now (text .entry)) → length (now (text .entry)) < 4294967296 → LineSays (now (table .entry)) (now (text .entry)) from p r) ⌝ }
 {
     if text.len() <= from {
-        return Line::Bad(1);
+        return Line::Filled(Said::Refused(1));
     }
     if 4294967295 < text.len() {
-        return Line::Bad(1);
+        return Line::Filled(Said::Refused(1));
     }
     match plain_line(text, from) {
-        Plain::Said(kind, s, e, last) => Line::Said(kind, s, e, last),
+        Plain::Said(kind, s, e, last) => Line::Filled(Said::Is(kind, s, e, last)),
         Plain::Blank(e) => Line::Blank(e),
         Plain::No => cut_at(table, text, from, p),
     }

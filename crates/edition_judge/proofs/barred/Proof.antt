@@ -1,6 +1,7 @@
 -- `edition_judge::barred` meets its contract. Assumes nothing.
 use mathlib.Core.Path.{refl}
 use borrow.Author.Needs.{needs}
+use Rattle.place_table.specs.Verdicts.{verdictOf}
 use Rattle.edition_judge.specs.EditionLine.{barsOf}
 use Rattle.edition_judge.proofs.barred.Statement.{statement}
 use Rattle.edition_judge.proofs.barred.Tie as tie
@@ -15,7 +16,7 @@ bars-requires : tie.Need-bars-requires
 bars-requires c κs = search needs
 
 returns : tie.Need-returns
-unfolding barsOf
+unfolding barsOf verdictOf
 returns c = rw (c .enum-told .given .1) refl
 
 returns-2 : tie.Need-returns-2

@@ -10,7 +10,7 @@ use Rattle.line.specs.declared.Fields.{Fields}
 use Rattle.line.proofs.Spans.{fields-within}
 use Rattle.judge.specs.Judging.{known, told}
 use Rattle.said_line.specs.Saying.{lastIn, LastOfFew}
-use Rattle.said_line.proofs.Said.{last-inside, told-last}
+use Rattle.said_line.proofs.Cuts.{last-inside, told-last}
 use Rattle.said_line.proofs.fields_cut.Statement.{statement}
 use Rattle.said_line.proofs.fields_cut.Tie as tie
 
