@@ -1,0 +1,2 @@
+-- No row before a part's first is touched.
+pub mod Rows

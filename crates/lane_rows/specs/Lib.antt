@@ -1,0 +1,2 @@
+-- What a part does to the rows of points.
+pub mod Rows
