@@ -4,7 +4,7 @@ use mathlib.Core.List.{List, [], _∷_, _++_, map, append-assoc, head-eq-of-cons
 use mathlib.Core.Option.{Option, none, some}
 use Prim.Native.Nat.{ℕ, _+_, _-_}
 use native.Mathlib.Omega.{arith}
-use lib.ListN.{length, take, replicate, length-append}
+use lib.ListN.{length, take, replicate, length-append, length-replicate}
 use Rattle.terms.specs.Ascii.{Bytes}
 use Rattle.terms.specs.Words.{Each}
 use Rattle.line.specs.Content.{Field}
@@ -78,17 +78,23 @@ module _ (text text′ : Bytes) where
   named-row words same (some v) (some v′) l l′ z h e a a′ r = one-row words same (v .start) (v′ .start) (length (v .bytes)) (length (v′ .bytes)) l l′ z h (ap length (same-bytes (some v) (some v′) e)) (asked-both (some v) (some v′) e a a′) r
 
   rows-long : {words : ℕ} {l l′ : List ℕ} → SameRows text text′ words l l′ → length l ≡ length l′
-  rows-long rest = refl
+  rows-long (rest z) = refl
   rows-long (row same x y n {l} {l′} h e r) = let a = length-append same (x ∷ n ∷ l) in let b = length-append same (y ∷ n ∷ l′) in let c = rows-long r in omega arith
 
+  abbrev Zeros : List ℕ → Type 0
+  Zeros z = z ≡ replicate (length z) 0
+
+  zeros-are : (n : ℕ) → Zeros (replicate n 0)
+  zeros-are n = ap (λ (k : ℕ). replicate k 0) (sym (length-replicate n 0))
+
   -- a table of such rows, and zeros behind them
-  padded : (words : ℕ) (g g′ : List ℕ) (k : ℕ) → ((z : List ℕ) → SameRows text text′ words (g ++ z) (g′ ++ z)) → SameRows text text′ words (g ++ replicate (k - length g) 0) (g′ ++ replicate (k - length g′) 0)
+  padded : (words : ℕ) (g g′ : List ℕ) (k : ℕ) → ((z : List ℕ) → Zeros z → SameRows text text′ words (g ++ z) (g′ ++ z)) → SameRows text text′ words (g ++ replicate (k - length g) 0) (g′ ++ replicate (k - length g′) 0)
   padded words g g′ k r =
       let a = length-append g [] in
       let b = length-append g′ [] in
-      let c = rows-long (r []) in
+      let c = rows-long (r [] refl) in
       let e : length g ≡ length g′ = omega arith in
-      subst (λ (m : ℕ). SameRows text text′ words (g ++ replicate (k - length g) 0) (g′ ++ replicate (k - m) 0)) e (r (replicate (k - length g) 0))
+      subst (λ (m : ℕ). SameRows text text′ words (g ++ replicate (k - length g) 0) (g′ ++ replicate (k - m) 0)) e (r (replicate (k - length g) 0) (zeros-are (k - length g)))
 
   -- ## Segments and zones
   abbrev Segments : List (Segment Field) → List (Segment Field) → Type 0
@@ -100,16 +106,16 @@ module _ (text text′ : Bytes) where
   abbrev segment-words : ℕ → List (Segment Field) → List ℕ
   segment-words i ss = gather (λ row. row) (along (λ s. length (s .lanes)) (λ first s. (first ∷ length (s .lanes) ∷ name-words (s .name)) ∷ []) i ss)
 
-  segments-alike : (i : ℕ) (ss ss′ : List (Segment Field)) → Segments ss ss′ → Each (λ s. Asked text (s .name)) ss → Each (λ s. Asked text′ (s .name)) ss′ → (z : List ℕ) → SameRows text text′ 2 (segment-words i ss ++ z) (segment-words i ss′ ++ z)
-  segments-alike i [] [] e a a′ z = rest
-  segments-alike i [] (s′ ∷ ss′) e a a′ z = absurd (let q : _≡_ {A = ℕ} 0 1 = cc in omega arith)
-  segments-alike i (s ∷ ss) [] e a a′ z = absurd (let q : _≡_ {A = ℕ} 0 1 = cc in omega arith)
-  segments-alike i (s ∷ ss) (s′ ∷ ss′) e a a′ z =
+  segments-alike : (i : ℕ) (ss ss′ : List (Segment Field)) → Segments ss ss′ → Each (λ s. Asked text (s .name)) ss → Each (λ s. Asked text′ (s .name)) ss′ → (z : List ℕ) → Zeros z → SameRows text text′ 2 (segment-words i ss ++ z) (segment-words i ss′ ++ z)
+  segments-alike i [] [] e a a′ z o = rest o
+  segments-alike i [] (s′ ∷ ss′) e a a′ z o = absurd (let q : _≡_ {A = ℕ} 0 1 = cc in omega arith)
+  segments-alike i (s ∷ ss) [] e a a′ z o = absurd (let q : _≡_ {A = ℕ} 0 1 = cc in omega arith)
+  segments-alike i (s ∷ ss) (s′ ∷ ss′) e a a′ z o =
       let h = head-eq-of-cons-eq e in
       let k : length (s .lanes) ≡ length (s′ .lanes) = ap (λ (x : Segment Name). length (x .lanes)) h in
       subst (λ (m : ℕ). SameRows text text′ 2 (((i ∷ length (s .lanes) ∷ name-words (s .name)) ++ segment-words (i + length (s .lanes)) ss) ++ z) (((i ∷ m ∷ name-words (s′ .name)) ++ segment-words (i + m) ss′) ++ z)) k
       (named-row 2 (i ∷ length (s .lanes) ∷ []) (s .name) (s′ .name) (segment-words (i + length (s .lanes)) ss) (segment-words (i + length (s .lanes)) ss′) z refl (ap (λ (x : Segment Name). x .name) h) (a .0) (a′ .0)
-      (segments-alike (i + length (s .lanes)) ss ss′ (tail-eq-of-cons-eq e) (a .1) (a′ .1) z))
+      (segments-alike (i + length (s .lanes)) ss ss′ (tail-eq-of-cons-eq e) (a .1) (a′ .1) z o))
 
   lanes-alike : (ss ss′ : List (Segment Field)) → Segments ss ss′ → gather (λ s. s .lanes) ss ≡ gather (λ s. s .lanes) ss′
   lanes-alike [] [] e = refl
@@ -124,17 +130,17 @@ module _ (text text′ : Bytes) where
   abbrev zone-first : (p q : ℕ) → Perimeter → List Spot → Option Field → List (Zone Field) → List ℕ → List ℕ
   zone-first p q b s v zs z = ((p ∷ length (b .points) ∷ first-spot q (length s) ∷ length s ∷ name-words v) ++ zone-words (p + length (b .points ++ gather spot-points s)) (q + length s) zs) ++ z
 
-  zones-alike : (p q : ℕ) (zs zs′ : List (Zone Field)) → Zones zs zs′ → Each (λ s. Asked text (s .name)) zs → Each (λ s. Asked text′ (s .name)) zs′ → (z : List ℕ) → SameRows text text′ 4 (zone-words p q zs ++ z) (zone-words p q zs′ ++ z)
-  zones-alike p q [] [] e a a′ z = rest
-  zones-alike p q [] (s′ ∷ ss′) e a a′ z = absurd (let q : _≡_ {A = ℕ} 0 1 = cc in omega arith)
-  zones-alike p q (s ∷ ss) [] e a a′ z = absurd (let q : _≡_ {A = ℕ} 0 1 = cc in omega arith)
-  zones-alike p q (s ∷ ss) (s′ ∷ ss′) e a a′ z =
+  zones-alike : (p q : ℕ) (zs zs′ : List (Zone Field)) → Zones zs zs′ → Each (λ s. Asked text (s .name)) zs → Each (λ s. Asked text′ (s .name)) zs′ → (z : List ℕ) → Zeros z → SameRows text text′ 4 (zone-words p q zs ++ z) (zone-words p q zs′ ++ z)
+  zones-alike p q [] [] e a a′ z o = rest o
+  zones-alike p q [] (s′ ∷ ss′) e a a′ z o = absurd (let q : _≡_ {A = ℕ} 0 1 = cc in omega arith)
+  zones-alike p q (s ∷ ss) [] e a a′ z o = absurd (let q : _≡_ {A = ℕ} 0 1 = cc in omega arith)
+  zones-alike p q (s ∷ ss) (s′ ∷ ss′) e a a′ z o =
       let h = head-eq-of-cons-eq e in
       let b : s .border ≡ s′ .border = ap (λ (x : Zone Name). x .border) h in
       let d : s .spots ≡ s′ .spots = ap (λ (x : Zone Name). x .spots) h in
       subst (λ (w : List ℕ). SameRows text text′ 4 (zone-first p q (s .border) (s .spots) (s .name) ss z) w) (λ i. zone-first p q (b i) (d i) (s′ .name) ss′ z)
       (named-row 4 (p ∷ length (s .border .points) ∷ first-spot q (length (s .spots)) ∷ length (s .spots) ∷ []) (s .name) (s′ .name) (zone-words (p + zone-size s) (q + length (s .spots)) ss) (zone-words (p + zone-size s) (q + length (s .spots)) ss′) z refl (ap (λ (x : Zone Name). x .name) h) (a .0) (a′ .0)
-      (zones-alike (p + zone-size s) (q + length (s .spots)) ss ss′ (tail-eq-of-cons-eq e) (a .1) (a′ .1) z))
+      (zones-alike (p + zone-size s) (q + length (s .spots)) ss ss′ (tail-eq-of-cons-eq e) (a .1) (a′ .1) z o))
 
   -- ## Networks that are the same
   module _ (edition : Edition) (n n′ : Network Field) (e : SameNetwork n′ (undated n)) (spelled : SpellsText (rules-of edition) SpellsNetwork n text) (spelled′ : SpellsText (rules-of edition) SpellsNetwork n′ text′) where

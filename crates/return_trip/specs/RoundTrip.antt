@@ -1,5 +1,5 @@
 -- WHAT A READER MUST BELIEVE. THE RETURN TRIP: what is replied, and left in the lent tables, where what was written of a text is read into the same tables. Document 01, "House writing"; "A network or mission is its tables with each name's bytes in place of start and length." Assumes nothing.
-use Rattle.terms.specs.Words.{_≡_, List, _∷_, _++_, none, ℕ, length, Bytes}
+use Rattle.terms.specs.Words.{_≡_, List, _∷_, _++_, none, ℕ, length, replicate, Bytes}
 use Rattle.law.specs.Network.{Rules}
 use Rattle.law.specs.Tables.{Lent, MissionLent}
 use Rattle.rows.specs.declared.FileRow.{FileRow}
@@ -16,9 +16,9 @@ use Rattle.return_trip.specs.ReadBack.{SameRndf, SameMdf}
 
 -- text and text′: what was read first, and what was written of it and read again
 module _ (text text′ : Bytes) where
-  -- two tables row by row: so many words that are the same; where a name starts; its length. These may differ in where the name starts, but there its own text has the same bytes. What follows the rows is the same
+  -- two tables row by row: so many words that are the same; where a name starts; its length. These may differ in where the name starts, but there its own text has the same bytes. What follows the rows is zero in both
   pub data SameRows (words : ℕ) : (l l′ : List ℕ) → Type 0 where
-    rest : {l : List ℕ} → SameRows words l l
+    rest : {l : List ℕ} → l ≡ replicate (length l) 0 → SameRows words l l
     row : (same : List ℕ) (start start′ long : ℕ) {l l′ : List ℕ} → length same ≡ words → nameOf text (record { start = start; length = long }) ≡ nameOf text′ (record { start = start′; length = long })
         → SameRows words l l′ → SameRows words (same ++ (start ∷ long ∷ l)) (same ++ (start′ ∷ long ∷ l′))
 
