@@ -1,14 +1,19 @@
 // A file's bytes loaded into a lent text, and in plain words why not, and whether an argument is a word: for the planners' programs.
-// No contract can say what a file holds. Proved is that nothing is out of range, and what is put of a file that is not there or can't be taken (`put_trouble`,
-// specs/Troubles), for every name.
+// No contract can say what a file or an argument holds. Proved is that nothing is out of range, how many bytes are told and of what kind of file (specs/Loads), and what is put of a file that is
+// not there or can't be taken (`put_trouble`, specs/Troubles), for every name.
 //
 // Rests on `output`, `shown`, `scan` and the kit's `io`, `libc` and `os`.
 use output::put_bytes;
 use scan::same;
 use shown::first;
 use shown::is_mission_first;
+ghost use mathlib.Core.Path.{_≡_};
+ghost use mathlib.Core.Bool.{true};
 ghost use mathlib.Core.List.{_++_};
+ghost use Prim.Native.Nat.{_≤_};
+ghost use lib.ListN.{length};
 ghost use Rattle.output.specs.Pen.{pen, Wrote};
+ghost use Rattle.files.specs.Loads.{Unread, Loads, LoadsRndf};
 ghost use Rattle.files.specs.Troubles.{trouble};
 
 // What came of a file: so many bytes of it, or why there are none. `Mission`: it was to be an RNDF, and begins as an MDF does.
@@ -26,7 +31,9 @@ pub enum Loaded {
 // ## Arguments
 
 // Whether the argument at that place is this word, of up to 16 bytes.
-pub fn is_argument(i: usize, word: &[u8]) -> bool {
+pub fn is_argument(i: usize, word: &[u8]) -> bool
+    ensures { λ r. ⌜ (r ≡ true → length (now (word .entry)) ≤ 16) ⌝ }
+{
     let mut given = [0u8; 16];
     let n = os::arg(i, &mut given);
     same(first(&given, n), word)
@@ -35,7 +42,9 @@ pub fn is_argument(i: usize, word: &[u8]) -> bool {
 // ## Loading
 
 // Why a file could not be opened or read just now.
-fn why_unread() -> Loaded {
+fn why_unread() -> Loaded
+    ensures { λ r. ⌜ Unread r ⌝ }
+{
     let error = os::errno();
     if (error == libc::ENOENT) | (error == libc::ENOTDIR) {
         Loaded::Missing
@@ -48,7 +57,9 @@ fn why_unread() -> Loaded {
 
 // Fills the lent text from an open file. A byte that is left over behind a full text makes it too big; where the file ends tells whether it is over
 // the readers' limit too (of a pipe that is not told).
-fn load_open(fd: i32, text: &mut [u8]) -> Loaded {
+fn load_open(fd: i32, text: &mut [u8]) -> Loaded
+    ensures { λ r. ⌜ Loads (now (text .exit)) r ⌝ }
+{
     let n = io::read_full(fd, text);
     let mut more = [0u8; 1];
     let got = libc::read(fd, &mut more);
@@ -65,7 +76,9 @@ fn load_open(fd: i32, text: &mut [u8]) -> Loaded {
     }
 }
 
-pub fn load(path: &[u8], text: &mut [u8]) -> Loaded {
+pub fn load(path: &[u8], text: &mut [u8]) -> Loaded
+    ensures { λ r. ⌜ Loads (now (text .exit)) r ⌝ }
+{
     let fd = os::open_read(path);
     if fd < 0 {
         return why_unread();
@@ -76,7 +89,9 @@ pub fn load(path: &[u8], text: &mut [u8]) -> Loaded {
 }
 
 // The same, of a file that is to be an RNDF and not an MDF.
-pub fn load_rndf(path: &[u8], text: &mut [u8]) -> Loaded {
+pub fn load_rndf(path: &[u8], text: &mut [u8]) -> Loaded
+    ensures { λ r. ⌜ LoadsRndf (now (text .exit)) r ⌝ }
+{
     let loaded = load(path, text);
     match loaded {
         Loaded::Bytes(n) => {

@@ -1,0 +1,2 @@
+-- What is loaded.
+mod Loading
