@@ -12,7 +12,7 @@ use Rattle.grammar.specs.Network.{Network}
 use Rattle.grammar.specs.Mission.{Mission}
 use Rattle.grammar.specs.Names.{network-named, mission-named}
 use Rattle.grammar.specs.Tables.{point-row, tables}
-use Rattle.grammar.specs.References.{all-numbers, parts, Fits}
+use Rattle.grammar.specs.References.{all-numbers, parts, MissionFits}
 use Rattle.text.specs.Spelling.{SpellsMdf, Name, bytes, bytes-of}
 use Rattle.fill.specs.FirstFaults.{Fault, first-foreign-goal, first-bad-limit, some-missing, numbers-of, parts-of}
 use Rattle.fill.proofs.NameLaws.{numbers-same, parts-same}
@@ -78,7 +78,7 @@ module _ (n : Network Field) (m : Mission Field) (text : Bytes) (h : SpellsMdf m
 
   -- ## A mission that fits, by names that are bytes
   abbrev pub FitsByBytes : Type 0
-  FitsByBytes = Fits (network-named bytes-of n) (mission-named bytes-of m)
+  FitsByBytes = MissionFits (network-named bytes-of n) (mission-named bytes-of m)
 
   unnamed : Name → Bytes
   unnamed (bytes b) = b

@@ -13,7 +13,7 @@ use Rattle.grammar.specs.MissionStatements.{Kind, Statement, Limit, orders, say
 use Rattle.grammar.specs.Network.{Network}
 use Rattle.grammar.specs.Mission.{Mission, SpellsMission}
 use Rattle.grammar.specs.Tables.{tables}
-use Rattle.grammar.specs.References.{Fits}
+use Rattle.grammar.specs.References.{MissionFits}
 use Rattle.grammar.proofs.HouseLaws.{of-append}
 use Rattle.fill.specs.MissionRows.{Rows, start}
 use Rattle.fill.specs.FirstFaults.{fault, fault-if, or-behind, first-fault, first-foreign-goal, first-bad-limit, some-missing, numbers-of, parts-of}
@@ -109,7 +109,7 @@ module _ {N : Type 0} (m : Mission N) (u : List (Statement N)) (s : SpellsMissio
 
   -- ## No fault is a mission that fits
   module _ (n : Network N) (named : N → Bool) (by : (v : N) → named v ≡ true → v ≡ n .name) (is : (v : N) → v ≡ n .name → named v ≡ true) where
-    pub no-mission-fault : first-mission-fault named (numbers-of (tables n)) (parts-of (tables n)) u ≡ none → Fits n m
+    pub no-mission-fault : first-mission-fault named (numbers-of (tables n)) (parts-of (tables n)) u ≡ none → MissionFits n m
     no-mission-fault h =
         let g = first-foreign-goal (numbers-of (tables n)) (m .goals) in
         let l = first-bad-limit (parts-of (tables n)) ids in
@@ -125,5 +125,5 @@ module _ {N : Type 0} (m : Mission N) (u : List (Statement N)) (s : SpellsMissio
           all = alone-none e 0 18 (placed-none (orders N) end-speed-limits u (or-behind 0 (fault-if e 18) none) (o₂ .1));
         })
 
-    pub fits-no-fault : Fits n m → first-mission-fault named (numbers-of (tables n)) (parts-of (tables n)) u ≡ none
+    pub fits-no-fault : MissionFits n m → first-mission-fault named (numbers-of (tables n)) (parts-of (tables n)) u ≡ none
     fits-no-fault f = let o = fits-only n m f in spelled-mission-rows named (numbers-of (tables n)) (parts-of (tables n)) ∙ rw (is (m .rndf) (f .name), o .goals, o .limits, o .all)

@@ -12,7 +12,7 @@ use Rattle.grammar.specs.Network.{Network}
 use Rattle.grammar.specs.MissionStatements.{Limit}
 use Rattle.grammar.specs.Mission.{Mission}
 use Rattle.grammar.specs.Tables.{Tables, MissionTables, mission-tables, point-row, tables}
-use Rattle.grammar.specs.References.{Different, all-numbers, parts, Fits}
+use Rattle.grammar.specs.References.{Different, all-numbers, parts, MissionFits}
 use Rattle.grammar.proofs.Rows.{each-of-map}
 use Rattle.fill.specs.Faults.{Faultless, First, Repeated, ForeignGoal, LimitFault, not-there, given-again, SomeMissing}
 use Rattle.fill.specs.FirstFaults.{Fault, fault, fault-if, is-among, goal-fault, first-foreign-goal, in-parts, or-else, limit-fault, first-bad-limit, some-missing, numbers-of, parts-of, ids-of}
@@ -159,7 +159,7 @@ module _ {N : Type 0} where
     pub limits : first-bad-limit (parts-of t) (ids-of m) ≡ none
     pub all : some-missing (parts-of t) (ids-of m) ≡ false
 
-  pub fits-by : (n : Network N) (m : Mission N) → m .rndf ≡ n .name → NoFault (tables n) (mission-tables m) → Fits n m
+  pub fits-by : (n : Network N) (m : Mission N) → m .rndf ≡ n .name → NoFault (tables n) (mission-tables m) → MissionFits n m
   fits-by n m name f =
       let p = parts-are (point-row n) n in
       let l = limits-good (parts-of (tables n)) (map (λ a. a .id) (m .limits)) (f .limits) in
@@ -171,7 +171,7 @@ module _ {N : Type 0} where
         all = subst (λ (p : ℕ). (i : ℕ) → Between 1 p i → Among i (map (λ a. a .id) (m .limits))) p (none-missing (parts-of (tables n)) (map (λ a. a .id) (m .limits)) (f .all));
       }
 
-  pub fits-only : (n : Network N) (m : Mission N) → Fits n m → NoFault (tables n) (mission-tables m)
+  pub fits-only : (n : Network N) (m : Mission N) → MissionFits n m → NoFault (tables n) (mission-tables m)
   fits-only n m f =
       let ids = map (λ (a : Limit). a .id) (m .limits) in
       record {

@@ -15,7 +15,7 @@ use Rattle.grammar.specs.MissionStatements as M
 use Rattle.grammar.specs.Mission.{Mission, GoodMission, SpellsMission}
 use Rattle.grammar.specs.HouseOrder.{GoodNetwork, house-network, house-segment, segment-options, house-lane, lane-options, file-options, house-mission, mission-options}
 use Rattle.grammar.specs.Tables.{Tables, tables-with, tables}
-use Rattle.grammar.specs.References.{Nth, first, later, Declared, waypoint, border, Sound, Fits}
+use Rattle.grammar.specs.References.{Nth, first, later, Declared, waypoint, border, Sound, MissionFits}
 use Rattle.grammar.specs.Places.{rndf, name-due}
 use Rattle.grammar.specs.MissionPlaces.{mdf}
 use Rattle.grammar.specs.MissionPlaces as M-at
@@ -150,11 +150,11 @@ module _ {N : Type 0} (yard-name round-name : N) where
   unfolding refusal-from step guard
   upside-down = refl
 
-  pub fits : Fits yard-a (round 7)
+  pub fits : MissionFits yard-a (round 7)
   fits = record { name = refl; goals = (inl refl, tt); known = omega arith; once = ((λ a. a), tt); all = λ i b. inl (omega arith) }
 
   -- 01: "goal 8: .. 15": it is no checkpoint of yard A
-  pub goal-8 : Fits yard-a (round 8) → ⊥
+  pub goal-8 : MissionFits yard-a (round 8) → ⊥
   goal-8 f = go (f .goals .0)
     where
       go : (_≡_ {A = ℕ} 8 7) ⊎ ⊥ → ⊥

@@ -12,7 +12,7 @@ use Rattle.grammar.specs.Statements.{Position, point-id, double-yellow, 
 use Rattle.grammar.specs.Network.{Lane, Spot, Network}
 use Rattle.grammar.specs.Tables.{tables, tables-with}
 use Rattle.grammar.specs.Mission.{Mission}
-use Rattle.grammar.specs.References.{all-exits, all-numbers, parts, Fits, Declared, waypoint, border, Nth, first, later}
+use Rattle.grammar.specs.References.{all-exits, all-numbers, parts, MissionFits, Declared, waypoint, border, Nth, first, later}
 use Rattle.grammar.specs.Names.{network-named, mission-named}
 
 abbrev at : ℕ → Position
@@ -79,7 +79,7 @@ module _ {N : Type 0} (a s z d : N) where
   errand ids = record { name = d; rndf = a; version = some s; date = some z; goals = 8 ∷ []; limits = map (λ i. record { id = i; minimum = 0; maximum = 15 }) ids }
 
   -- 01: "some id has no limit": the first, and a zone's
-  no-limit : (i : ℕ) (ids : List ℕ) → Between 1 5 i → (Among i (map (λ l. l .id) (errand ids .limits)) → ⊥) → Fits yard-b (errand ids) → ⊥
+  no-limit : (i : ℕ) (ids : List ℕ) → Between 1 5 i → (Among i (map (λ l. l .id) (errand ids .limits)) → ⊥) → MissionFits yard-b (errand ids) → ⊥
   no-limit i ids b n f = n (f .all i b)
 
   not-1 : Among {A = ℕ} 1 (2 ∷ 3 ∷ 4 ∷ 5 ∷ []) → ⊥
@@ -96,10 +96,10 @@ module _ {N : Type 0} (a s z d : N) where
   not-5 (inr (inr (inr (inl e)))) = omega arith
   not-5 (inr (inr (inr (inr x)))) = x
 
-  pub first-without : Fits yard-b (errand (2 ∷ 3 ∷ 4 ∷ 5 ∷ [])) → ⊥
+  pub first-without : MissionFits yard-b (errand (2 ∷ 3 ∷ 4 ∷ 5 ∷ [])) → ⊥
   first-without = no-limit 1 (2 ∷ 3 ∷ 4 ∷ 5 ∷ []) (record { low = omega arith; high = omega arith }) not-1
 
-  pub last-without : Fits yard-b (errand (1 ∷ 2 ∷ 3 ∷ 4 ∷ [])) → ⊥
+  pub last-without : MissionFits yard-b (errand (1 ∷ 2 ∷ 3 ∷ 4 ∷ [])) → ⊥
   last-without = no-limit 5 (1 ∷ 2 ∷ 3 ∷ 4 ∷ []) (record { low = omega arith; high = omega arith }) not-5
 
 -- names told in another way

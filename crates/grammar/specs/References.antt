@@ -14,7 +14,7 @@ module _ {N : Type 0} where
   all-exits n = gather (λ a. a .exits) (all-lanes n) ++ gather (λ z. z .border .exits) (n .zones)
 
   -- 01, refusals 14 to 18: "MDF's RNDF name is not this RNDF's"; "goal not a checkpoint of the RNDF"; "limit's id not in the RNDF"; "limit's id already given"; "some id has no limit". Names are compared as they are: to be asked of names that are bytes, not of places in two texts.
-  pub record Fits (n : Network N) (m : Mission N) : Type 0 where
+  pub record MissionFits (n : Network N) (m : Mission N) : Type 0 where
     pub name : m .rndf ≡ n .name
     pub goals : Each (λ g. Among g (all-numbers n)) (m .goals)
     pub known : Each (λ a. Between 1 (parts n) (a .id)) (m .limits)

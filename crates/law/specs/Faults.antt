@@ -7,17 +7,17 @@ use Rattle.law.specs.Tables.{gather, all-lanes}
 
 -- ## 2 to 9 and 25: what is wrong with a line behind others. None of these holds where a lower number does
 -- 01: "field not of its kind": the kinds of fields. Each keyword is one, and so many numbers joined by dots
-pub data Sort : Type 0 where
-  this-word : Bytes → Sort
-  some-numbers : ℕ → Sort
-  a-name a-coordinate a-boundary : Sort
+pub data FieldKind : Type 0 where
+  this-word : Bytes → FieldKind
+  some-numbers : ℕ → FieldKind
+  a-name a-coordinate a-boundary : FieldKind
 
-abbrev pub sort : Said → Sort
-sort (word w) = this-word w
-sort (name v) = a-name
-sort (numbers l) = some-numbers (length l)
-sort (coordinate z) = a-coordinate
-sort (boundary b) = a-boundary
+abbrev pub kind-of-field : Said → FieldKind
+kind-of-field (word w) = this-word w
+kind-of-field (name v) = a-name
+kind-of-field (numbers l) = some-numbers (length l)
+kind-of-field (coordinate z) = a-coordinate
+kind-of-field (boundary b) = a-boundary
 
 -- 01: "A first field that begins with a digit makes a point line in an RNDF and, by its place, a goal or limit line in an MDF"; "Any other first field is a keyword of that file, byte for byte"
 pub data Opens (f : Field) : Line → Type 0 where
@@ -52,13 +52,13 @@ pub record Begins (rules : Rules) {Net : Type 0} (Spells : Rules → Net → Lis
 -- for the lines that spell a network, or a mission
 module _ (rules : Rules) {Net : Type 0} (Spells : Rules → Net → List Line → Type 0) where
   -- the line may stand behind those, a spot's missing checkpoint aside
-  abbrev pub Follows : (before : List Line) (line : Line) → Type 0
-  Follows before line = Begins (lenient rules) Spells (before ++ (line ∷ []))
+  abbrev pub FollowsLeniently : (before : List Line) (line : Line) → Type 0
+  FollowsLeniently before line = Begins (lenient rules) Spells (before ++ (line ∷ []))
 
   -- the field opens this line, which may stand behind those
   pub record MayStand (before : List Line) (f : Field) (line : Line) : Type 0 where
     pub opens : Opens f line
-    pub follows : Follows before line
+    pub follows : FollowsLeniently before line
 
   -- the field opens an option that was given before, with only options behind it, and may not stand once more
   pub record GivenAgain (before : List Line) (f : Field) : Type 0 where
@@ -79,11 +79,11 @@ module _ (rules : Rules) {Net : Type 0} (Spells : Rules → Net → List Line �
     -- 01: 7 "wrong number of fields"
     miscounted : (line : Line) → MayStand before f line → (length (f ∷ fs) ≡ length line → ⊥) → FieldFault before f fs 7
     -- 01: 8 "field not of its kind (spelling, name length, boundary word)"
-    misspelt : (line : Line) → MayStand before f line → length (f ∷ fs) ≡ length line → ((l : Line) → map sort l ≡ map sort line → SpellFields (rules .edition) (f ∷ fs) l → ⊥) → FieldFault before f fs 8
+    misspelt : (line : Line) → MayStand before f line → length (f ∷ fs) ≡ length line → ((l : Line) → map kind-of-field l ≡ map kind-of-field line → SpellFields (rules .edition) (f ∷ fs) l → ⊥) → FieldFault before f fs 8
     -- 01: 9 "value not permitted here (range, not the due identifier, point not of this part, minimum above maximum)"
-    forbidden : (line l : Line) → MayStand before f line → map sort l ≡ map sort line → SpellFields (rules .edition) (f ∷ fs) l → (Follows before l → ⊥) → FieldFault before f fs 9
+    forbidden : (line l : Line) → MayStand before f line → map kind-of-field l ≡ map kind-of-field line → SpellFields (rules .edition) (f ∷ fs) l → (FollowsLeniently before l → ⊥) → FieldFault before f fs 9
     -- L8: 25 "at a first waypoint that has no fault of 2 to 9", in "a spot whose options give no checkpoint": the line may stand there but for the missing checkpoint
-    unmarked : (l : Line) → SpellFields (rules .edition) (f ∷ fs) l → Follows before l → (Begins rules Spells (before ++ (l ∷ [])) → ⊥) → FieldFault before f fs 25
+    unmarked : (l : Line) → SpellFields (rules .edition) (f ∷ fs) l → FollowsLeniently before l → (Begins rules Spells (before ++ (l ∷ [])) → ⊥) → FieldFault before f fs 25
 
   pub data Fault (before : List Line) (line : Bytes) (number : ℕ) : Type 0 where
     -- 01: 2 "line over 512 bytes"; 3 "comment not closed, or followed by more than tabs"; 4 "byte not allowed"
@@ -175,7 +175,7 @@ pub data MdfFault (n : Network Field) (front : List Line) (line : Line) : ℕ �
   unlimited : (id : ℕ) → line ≡ Law.line "end_speed_limits" [] → Between 1 (parts n) id → ((a : Limit) → Among (limit-line a) front → a .id ≡ id → ⊥) → MdfFault n front line 18
 
 -- none of 14 to 18
-pub record Fits (n : Network Field) (m : Mission Field) : Type 0 where
+pub record MissionFits (n : Network Field) (m : Mission Field) : Type 0 where
   pub name : m .rndf .bytes ≡ n .name .bytes
   pub goals : Each (λ g. Among g (all-numbers n)) (m .goals)
   pub known : Each (λ a. Between 1 (parts n) (a .id)) (m .limits)

@@ -37,7 +37,7 @@ use Rattle.text.proofs.FieldReading as Reading
 use Rattle.text.proofs.Telling.{Lawful, line-is, args-spelled, spelled-args}
 use Rattle.law.specs.Network.{Line, word, numbers, SpellsField, Rules, reading, lenient}
 use Rattle.law.specs.Network as Law
-use Rattle.law.specs.Faults.{sort, Nth, Opens, keyword, Follows, MayStand}
+use Rattle.law.specs.Faults.{kind-of-field, Nth, Opens, keyword, FollowsLeniently, MayStand}
 use Rattle.law.specs.Faults as Faults
 use Rattle.law_spelling.specs.LineOf.{law-line}
 use Rattle.law_faults.proofs.Sorts.{law-said, law-front, of-kind, kind-sorts, made-line, law-line-is}
@@ -126,10 +126,10 @@ module _ {ed : Edition} {L : Lang} (strict : Machine L) (X : Lexis L) (line-of :
       may : (v : Pay k) × MayStand (reading (law-of ed)) Spells front f (law (say L k v))
       may = may-to strict X line-of Said Spells first N said p came f k is here
 
-      by-sorts : Lines ed A X ss (M .sorts k) (λ u. Unit {0}) (λ l. map sort l ≡ map sort (law (say L k (may .0)))) f fs (X .keyword k)
+      by-sorts : Lines ed A X ss (M .sorts k) (λ u. Unit {0}) (λ l. map kind-of-field l ≡ map kind-of-field (law (say L k (may .0)))) f fs (X .keyword k)
       by-sorts = record {
         opened = opened f k (may .0) (may .1 .opens);
-        to = λ u g. ap (map sort) (sym (made-line A X line-of W k u)) ∙ kind-sorts A X line-of W k (X .make k u) (may .0);
+        to = λ u g. ap (map kind-of-field) (sym (made-line A X line-of W k u)) ∙ kind-sorts A X line-of W k (X .make k u) (may .0);
         back = λ x l h e.
             let y = of-kind A X line-of W k (may .0) (x ∷ l) e in
             (W .parts k (y .0), tt, y .1 ∙ law-line-is A X line-of W k (y .0));
@@ -139,7 +139,7 @@ module _ {ed : Edition} {L : Lang} (strict : Machine L) (X : Lexis L) (line-of :
       eight m e =
           let i = wrongAt ss (λ u. true) (low k) fields in
           let w = misspelt-wrong ss fields m e (low k) (W .parts k (may .0)) in
-          (w .f, misspelt (law (say L k (may .0))) (may .1) (first-wrong ed A X ss (M .sorts k) (λ u. Unit {0}) (λ l. map sort l ≡ map sort (law (say L k (may .0)))) f fs (X .keyword k) by-sorts i w), start-behind ss (λ u. Unit {0}) (X .keyword k) f fs i w)
+          (w .f, misspelt (law (say L k (may .0))) (may .1) (first-wrong ed A X ss (M .sorts k) (λ u. Unit {0}) (λ l. map kind-of-field l ≡ map kind-of-field (law (say L k (may .0)))) f fs (X .keyword k) by-sorts i w), start-behind ss (λ u. Unit {0}) (X .keyword k) f fs i w)
 
       abbrev test : Vals ss → Bool
       test = takes A X low p k
@@ -154,12 +154,12 @@ module _ {ed : Edition} {L : Lang} (strict : Machine L) (X : Lexis L) (line-of :
           let e : step A p (say L k (X .make k (W .parts k (may .0)))) ≡ next (y .1) = ap (λ (v : Pay k). step A p (say L k v)) (W .made k (may .0)) ∙ ap (step A p) (N .one (say L k (may .0)) (y .0) (y .2)) ∙ y .3 in
           rw e tt
 
-      by-place : Lines ed A X ss (M .sorts k) (λ u. T (test u)) (Follows (reading (law-of ed)) Spells front) f fs (X .keyword k)
+      by-place : Lines ed A X ss (M .sorts k) (λ u. T (test u)) (FollowsLeniently (reading (law-of ed)) Spells front) f fs (X .keyword k)
       by-place = record {
         opened = opened f k (may .0) (may .1 .opens);
         to = λ u g.
             let q = taken u g in
-            subst (Follows (reading (law-of ed)) Spells front) (made-line A X line-of W k u) (line-to A X line-of Said Spells first N said p (q .0) (say L k (X .make k u)) came (q .1));
+            subst (FollowsLeniently (reading (law-of ed)) Spells front) (made-line A X line-of W k u) (line-to A X line-of Said Spells first N said p (q .0) (say L k (X .make k u)) came (q .1));
         back = back;
       }
         where
@@ -168,7 +168,7 @@ module _ {ed : Edition} {L : Lang} (strict : Machine L) (X : Lexis L) (line-of :
               let y : step A p (say L k (X .make k (W .parts k v))) ≡ next q = ap (λ (v : Pay k). step A p (say L k v)) (W .made k v) ∙ ap (step A p) (sym i) ∙ t in
               (W .parts k v, rw y tt, e ∙ ap law i ∙ law-line-is A X line-of W k v)
 
-          back : (x : Law.Said) (l : Line) → SpellsField (law-of ed) f x → Follows (reading (law-of ed)) Spells front (x ∷ l) → (u : Vals ss) × T (test u) × (x ∷ l ≡ law-front (X .keyword k) ++ law-said ss u)
+          back : (x : Law.Said) (l : Line) → SpellsField (law-of ed) f x → FollowsLeniently (reading (law-of ed)) Spells front (x ∷ l) → (u : Vals ss) × T (test u) × (x ∷ l ≡ law-front (X .keyword k) ++ law-said ss u)
           back x l h b =
               let y = line-back A X line-of Said Spells first N said p (x ∷ l) came b in
               let s = y .0 in
@@ -185,7 +185,7 @@ module _ {ed : Edition} {L : Lang} (strict : Machine L) (X : Lexis L) (line-of :
       nine w h n =
           let i = wrongAt ss test (low k) fields in
           let x = forbidden-wrong ss test w (low k) (W .parts k (may .0)) some-taken completes n fields (spelled-all ss fields w h) (all-only ss fields w h .1) in
-          (x .f, forbidden (first-wrong ed A X ss (M .sorts k) (λ u. T (test u)) (Follows (reading (law-of ed)) Spells front) f fs (X .keyword k) by-place i x), start-behind ss (λ u. T (test u)) (X .keyword k) f fs i x)
+          (x .f, forbidden (first-wrong ed A X ss (M .sorts k) (λ u. T (test u)) (FollowsLeniently (reading (law-of ed)) Spells front) f fs (X .keyword k) by-place i x), start-behind ss (λ u. T (test u)) (X .keyword k) f fs i x)
 
       -- the field that is found
       pub found : (n : ℕ) → length fields ≡ length ss → kindField A X low p n (kindAt A X p f) f fs ≡ behindWord (X .keyword k) (wrongAt ss (tests A X low p k n) (low k) fields)

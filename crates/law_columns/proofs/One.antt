@@ -27,7 +27,7 @@ use Rattle.text.specs.Said as Texts
 use Rattle.text.specs.Judge.{Lexis}
 use Rattle.text.proofs.Telling.{Lawful}
 use Rattle.law.specs.Network.{Line, SpellFields, Rules, reading, lenient}
-use Rattle.law.specs.Faults.{sort, Nth, Begins, Follows, MayStand}
+use Rattle.law.specs.Faults.{kind-of-field, Nth, Begins, FollowsLeniently, MayStand}
 use Rattle.law.specs.Faults as Faults
 use Rattle.law_spelling.specs.LineOf.{law-line}
 use Rattle.law_faults.proofs.Sorts.{kind-sorts}
@@ -127,25 +127,25 @@ module _ {ed : Edition} {L : Lang} (strict : Machine L) (X : Lexis L) (line-of :
   W = N .file .lawful
 
   -- the lines that a field opens there are of the same sorts
-  same-sorts : (front : List Line) (f : Field) (l m : Line) → MayStand (reading (law-of ed)) Spells front f l → MayStand (reading (law-of ed)) Spells front f m → map sort l ≡ map sort m
+  same-sorts : (front : List Line) (f : Field) (l m : Line) → MayStand (reading (law-of ed)) Spells front f l → MayStand (reading (law-of ed)) Spells front f m → map kind-of-field l ≡ map kind-of-field m
   same-sorts front f l m a b =
       let r = reached A X line-of Said Spells first N front l (a .follows) in
       there (r .0) (r .1) (r .3) (subst (λ (x : List Line). MayStand (reading (law-of ed)) Spells x f l) (r .2) a) (subst (λ (x : List Line). MayStand (reading (law-of ed)) Spells x f m) (r .2) b)
     where
-      there : (said : List (S L)) (p : Place A) → Came A X line-of Said Spells first N said p → MayStand (reading (law-of ed)) Spells (laws line-of said) f l → MayStand (reading (law-of ed)) Spells (laws line-of said) f m → map sort l ≡ map sort m
+      there : (said : List (S L)) (p : Place A) → Came A X line-of Said Spells first N said p → MayStand (reading (law-of ed)) Spells (laws line-of said) f l → MayStand (reading (law-of ed)) Spells (laws line-of said) f m → map kind-of-field l ≡ map kind-of-field m
       there said p came a b =
           let x = may-back strict X line-of Said Spells first N said p came f l a in
           let y = may-back strict X line-of Said Spells first N said p came f m b in
           go (x .k) (x .v) (x .is) (y .k) (y .v) (y .is) (one-kind (x .made-out) (y .made-out))
         where
-          go : (j : L .Kind) (u : L .Pay j) → l ≡ law-line line-of (say L j u) → (k : L .Kind) (v : L .Pay k) → m ≡ law-line line-of (say L k v) → j ≡ k → map sort l ≡ map sort m
-          go j u e k v q i = subst (λ (k : L .Kind). (v : L .Pay k) → m ≡ law-line line-of (say L k v) → map sort l ≡ map sort m) i (λ v q. ap (map sort) e ∙ kind-sorts A X line-of W j u v ∙ ap (map sort) (sym q)) v q
+          go : (j : L .Kind) (u : L .Pay j) → l ≡ law-line line-of (say L j u) → (k : L .Kind) (v : L .Pay k) → m ≡ law-line line-of (say L k v) → j ≡ k → map kind-of-field l ≡ map kind-of-field m
+          go j u e k v q i = subst (λ (k : L .Kind). (v : L .Pay k) → m ≡ law-line line-of (say L k v) → map kind-of-field l ≡ map kind-of-field m) i (λ v q. ap (map kind-of-field) e ∙ kind-sorts A X line-of W j u v ∙ ap (map kind-of-field) (sym q)) v q
 
   -- ## The field at fault
   data Which (front : List Line) (f : Field) (fs : List Field) (n : ℕ) (g : Field) : Type 0 where
     by-list : (i : ℕ) → Listed n i → Nth i g (f ∷ fs) → Which front f fs n g
-    by-sorts : n ≡ 8 → (line : Line) → MayStand (reading (law-of ed)) Spells front f line → FirstWrongField (law-of ed) (λ l. map sort l ≡ map sort line) (f ∷ fs) g → Which front f fs n g
-    by-place : n ≡ 9 → FirstWrongField (law-of ed) (Follows (reading (law-of ed)) Spells front) (f ∷ fs) g → Which front f fs n g
+    by-sorts : n ≡ 8 → (line : Line) → MayStand (reading (law-of ed)) Spells front f line → FirstWrongField (law-of ed) (λ l. map kind-of-field l ≡ map kind-of-field line) (f ∷ fs) g → Which front f fs n g
+    by-place : n ≡ 9 → FirstWrongField (law-of ed) (FollowsLeniently (reading (law-of ed)) Spells front) (f ∷ fs) g → Which front f fs n g
 
   which : {front : List Line} {f : Field} {fs : List Field} {n : ℕ} {g : Field} → AtFault (reading (law-of ed)) Spells front f fs n g → Which front f fs n g
   which (listed {i = i} a h) = by-list i (listed-is a) h
@@ -160,11 +160,11 @@ module _ {ed : Edition} {L : Lang} (strict : Machine L) (X : Lexis L) (line-of :
   one-field front f fs n g h (by-list i a x) (by-sorts e l m w) = not-apart e refl (a .1)
   one-field front f fs n g h (by-list i a x) (by-place e w) = not-apart e refl (a .1)
   one-field front f fs n g h (by-sorts e l m w) (by-list j b y) = not-apart e refl (b .1)
-  one-field front f fs n g h (by-sorts e l m w) (by-sorts e′ l′ m′ w′) = first-wrong-one ed (λ x. map sort x ≡ map sort l) (f ∷ fs) g h w (subst (λ (s : List _). FirstWrongField (law-of ed) (λ x. map sort x ≡ s) (f ∷ fs) h) (same-sorts front f l′ l m′ m) w′)
+  one-field front f fs n g h (by-sorts e l m w) (by-sorts e′ l′ m′ w′) = first-wrong-one ed (λ x. map kind-of-field x ≡ map kind-of-field l) (f ∷ fs) g h w (subst (λ (s : List _). FirstWrongField (law-of ed) (λ x. map kind-of-field x ≡ s) (f ∷ fs) h) (same-sorts front f l′ l m′ m) w′)
   one-field front f fs n g h (by-sorts e l m w) (by-place e′ w′) = absurd (omega arith)
   one-field front f fs n g h (by-place e w) (by-list j b y) = not-apart e refl (b .1)
   one-field front f fs n g h (by-place e w) (by-sorts e′ l m w′) = absurd (omega arith)
-  one-field front f fs n g h (by-place e w) (by-place e′ w′) = first-wrong-one ed (Follows (reading (law-of ed)) Spells front) (f ∷ fs) g h w w′
+  one-field front f fs n g h (by-place e w) (by-place e′ w′) = first-wrong-one ed (FollowsLeniently (reading (law-of ed)) Spells front) (f ∷ fs) g h w w′
 
   -- ## The column
   data How (front : List Line) (line : Bytes) (n c : ℕ) : Type 0 where

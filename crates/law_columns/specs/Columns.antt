@@ -2,7 +2,7 @@
 use Rattle.terms.specs.Words.{_≡_, List, [], _∷_, _++_, map, ℕ, suc, length, Bytes, Among}
 use Rattle.line.specs.Line.{Ended, Field, Opened, Content, BadByte}
 use Rattle.law.specs.Network.{Edition, Rules, Line, SpellFields}
-use Rattle.law.specs.Faults.{sort, Nth, Follows, MayStand}
+use Rattle.law.specs.Faults.{kind-of-field, Nth, FollowsLeniently, MayStand}
 
 -- L7: "for 5, 6, 7 and 18 the first field; for .. 12 to 17 the field at fault": of 12 the entry, of 13 the checkpoint's number, of 14 the RNDF's name, of 15 the goal, of 16 and 17 the limit's id. L8, of 25: "Its column is the first field." Each pair: a refusal's number, and which field of its line, counted from 1, the keyword too
 abbrev pub which-field : List (ℕ × ℕ)
@@ -26,9 +26,9 @@ module _ (rules : Rules) {Net : Type 0} (Spells : Rules → Net → List Line �
   pub data AtFault (before : List Line) (f : Field) (fs : List Field) : ℕ → Field → Type 0 where
     listed : {number i : ℕ} {g : Field} → Among (number, i) which-field → Nth i g (f ∷ fs) → AtFault before f fs number g
     -- 8, not of its kind. The lines that are meant: those with the same kinds of fields as a line that may stand here
-    misspelt : {g : Field} (line : Line) → MayStand rules Spells before f line → FirstWrongField (rules .edition) (λ l. map sort l ≡ map sort line) (f ∷ fs) g → AtFault before f fs 8 g
+    misspelt : {g : Field} (line : Line) → MayStand rules Spells before f line → FirstWrongField (rules .edition) (λ l. map kind-of-field l ≡ map kind-of-field line) (f ∷ fs) g → AtFault before f fs 8 g
     -- 9, not permitted here. The lines that are meant: those that may stand here, a spot's missing checkpoint aside. Behind any minimum in its range some maximum may stand, so L7: "the maximum where it is below the minimum"
-    forbidden : {g : Field} → FirstWrongField (rules .edition) (Follows rules Spells before) (f ∷ fs) g → AtFault before f fs 9 g
+    forbidden : {g : Field} → FirstWrongField (rules .edition) (FollowsLeniently rules Spells before) (f ∷ fs) g → AtFault before f fs 9 g
 
   -- the column of a line with this fault, behind lines that say `before`
   pub data Column (before : List Line) (line : Bytes) : (number column : ℕ) → Type 0 where

@@ -25,7 +25,7 @@ use Rattle.text.specs.Faults as Old
 use Rattle.text.proofs.Telling.{Lawful}
 use Rattle.text.proofs.FaultLaws.{five-or-six}
 use Rattle.law.specs.Network.{Line, SpellFields, Rules, reading, lenient}
-use Rattle.law.specs.Faults.{sort, Opens, IsOption, Begins, Follows, MayStand, GivenAgain, FieldFault, Fault, form, fields, misplaced, given-again, miscounted, misspelt, forbidden, unmarked}
+use Rattle.law.specs.Faults.{kind-of-field, Opens, IsOption, Begins, FollowsLeniently, MayStand, GivenAgain, FieldFault, Fault, form, fields, misplaced, given-again, miscounted, misspelt, forbidden, unmarked}
 use Rattle.law_spelling.specs.LineOf.{law-line}
 use Rattle.law_spelling.proofs.Fields.{fields-to, fields-back}
 use Rattle.law_faults.proofs.Sorts.{of-kind, kind-sorts, count-to, count-back}
@@ -46,7 +46,7 @@ pub record Bare (ed : Edition) {Net : Type 0} (Spells : Rules → Net → List L
   pub fielded : Fielded 0 line f fs
   pub says : Line
   pub spelled : SpellFields (law-of ed) (f ∷ fs) says
-  pub follows : Follows (reading (law-of ed)) Spells front says
+  pub follows : FollowsLeniently (reading (law-of ed)) Spells front says
   pub unmarked : Begins (reading (law-of ed)) Spells (front ++ (says ∷ [])) → ⊥
 
 module _ {ed : Edition} {L : Lang} (strict : Machine L) (X : Lexis L) (line-of : (k : L .Kind) → L .Pay k → List Said.Said) {Net : Type 0} (Said : Net → List (S L) → Type 0) (Spells : Rules → Net → List Line → Type 0) (first : strict .Base) (N : Needs ed (lenient (reading (law-of ed))) (Machine.lenient strict) X line-of Said Spells first) where
@@ -205,10 +205,10 @@ module _ {ed : Edition} {L : Lang} (strict : Machine L) (X : Lexis L) (line-of :
           go n (misspelt l m c s) =
               let x = may-back f l m in
               inl (Old.misspelt (may x) (count-back A X line-of W (x .k) (x .v) f fs (c ∙ ap length (x .is)))
-              (λ u t. s (law (say L (x .k) u)) (kind-sorts A X line-of W (x .k) u (x .v) ∙ ap (map sort) (sym (x .is))) (fields-to ed (f ∷ fs) (line-of (x .k) u) (N .all (x .k) u) t)))
+              (λ u t. s (law (say L (x .k) u)) (kind-sorts A X line-of W (x .k) u (x .v) ∙ ap (map kind-of-field) (sym (x .is))) (fields-to ed (f ∷ fs) (line-of (x .k) u) (N .all (x .k) u) t)))
           go n (forbidden l u m e s b) =
               let x = may-back f l m in
-              let y = of-kind A X line-of W (x .k) (x .v) u (e ∙ ap (map sort) (x .is)) in
+              let y = of-kind A X line-of W (x .k) (x .v) u (e ∙ ap (map kind-of-field) (x .is)) in
               inl (Old.forbidden (may x) (y .0) (fields-back ed (f ∷ fs) (line-of (x .k) (y .0)) (N .all (x .k) (y .0)) (subst (SpellFields (law-of ed) (f ∷ fs)) (y .1) s))
-              (nine (x .k) (y .0) (x .here) (λ q t. b (subst (λ (u : Line). Follows (reading (law-of ed)) Spells front u) (sym (y .1)) (line-to A X line-of Said Spells first N said p q (say L (x .k) (y .0)) came t)))))
+              (nine (x .k) (y .0) (x .here) (λ q t. b (subst (λ (u : Line). FollowsLeniently (reading (law-of ed)) Spells front u) (sym (y .1)) (line-to A X line-of Said Spells first N said p q (say L (x .k) (y .0)) came t)))))
           go n (unmarked l s t b) = inr (record { is = refl; f = f; fs = fs; fielded = fielded; says = l; spelled = s; follows = t; unmarked = b })

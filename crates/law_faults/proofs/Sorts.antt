@@ -17,40 +17,40 @@ use Rattle.text.specs.Judge as Judge
 use Rattle.text.proofs.FieldReading.{says, said}
 use Rattle.text.proofs.Telling.{Lawful, in-front, line-is}
 use Rattle.law.specs.Network.{Said, Line, word, name, numbers, coordinate, boundary}
-use Rattle.law.specs.Faults.{Sort, this-word, some-numbers, sort}
+use Rattle.law.specs.Faults.{FieldKind, this-word, some-numbers, kind-of-field}
 use Rattle.law.specs.Faults as Law
 use Rattle.law_spelling.specs.LineOf.{said-of, law-line}
 
 -- ## What is of a sort
-is-word : (w : Bytes) (x : Said) → sort x ≡ this-word w → x ≡ word w
+is-word : (w : Bytes) (x : Said) → kind-of-field x ≡ this-word w → x ≡ word w
 is-word w (word v) e = ap word (let z : v ≡ w = cc in z)
 is-word w (name v) e = absurd (let z : _≡_ {A = ℕ} 0 1 = cc in omega arith)
 is-word w (numbers l) e = absurd (let z : _≡_ {A = ℕ} 0 1 = cc in omega arith)
 is-word w (coordinate z) e = absurd (let z : _≡_ {A = ℕ} 0 1 = cc in omega arith)
 is-word w (boundary b) e = absurd (let z : _≡_ {A = ℕ} 0 1 = cc in omega arith)
 
-is-name : (x : Said) → sort x ≡ Law.a-name → (v : Field) × (x ≡ name v)
+is-name : (x : Said) → kind-of-field x ≡ Law.a-name → (v : Field) × (x ≡ name v)
 is-name (word v) e = absurd (let z : _≡_ {A = ℕ} 0 1 = cc in omega arith)
 is-name (name v) e = (v, refl)
 is-name (numbers l) e = absurd (let z : _≡_ {A = ℕ} 0 1 = cc in omega arith)
 is-name (coordinate z) e = absurd (let z : _≡_ {A = ℕ} 0 1 = cc in omega arith)
 is-name (boundary b) e = absurd (let z : _≡_ {A = ℕ} 0 1 = cc in omega arith)
 
-is-numbers : (n : ℕ) (x : Said) → sort x ≡ some-numbers n → (l : List ℕ) × (x ≡ numbers l) × (length l ≡ n)
+is-numbers : (n : ℕ) (x : Said) → kind-of-field x ≡ some-numbers n → (l : List ℕ) × (x ≡ numbers l) × (length l ≡ n)
 is-numbers n (word v) e = absurd (let z : _≡_ {A = ℕ} 0 1 = cc in omega arith)
 is-numbers n (name v) e = absurd (let z : _≡_ {A = ℕ} 0 1 = cc in omega arith)
 is-numbers n (numbers l) e = (l, refl, let z : length l ≡ n = cc in z)
 is-numbers n (coordinate z) e = absurd (let z : _≡_ {A = ℕ} 0 1 = cc in omega arith)
 is-numbers n (boundary b) e = absurd (let z : _≡_ {A = ℕ} 0 1 = cc in omega arith)
 
-is-coordinate : (x : Said) → sort x ≡ Law.a-coordinate → (z : ℤ) × (x ≡ coordinate z)
+is-coordinate : (x : Said) → kind-of-field x ≡ Law.a-coordinate → (z : ℤ) × (x ≡ coordinate z)
 is-coordinate (word v) e = absurd (let z : _≡_ {A = ℕ} 0 1 = cc in omega arith)
 is-coordinate (name v) e = absurd (let z : _≡_ {A = ℕ} 0 1 = cc in omega arith)
 is-coordinate (numbers l) e = absurd (let z : _≡_ {A = ℕ} 0 1 = cc in omega arith)
 is-coordinate (coordinate z) e = (z, refl)
 is-coordinate (boundary b) e = absurd (let z : _≡_ {A = ℕ} 0 1 = cc in omega arith)
 
-is-boundary : (x : Said) → sort x ≡ Law.a-boundary → (b : Boundary) × (x ≡ boundary b)
+is-boundary : (x : Said) → kind-of-field x ≡ Law.a-boundary → (b : Boundary) × (x ≡ boundary b)
 is-boundary (word v) e = absurd (let z : _≡_ {A = ℕ} 0 1 = cc in omega arith)
 is-boundary (name v) e = absurd (let z : _≡_ {A = ℕ} 0 1 = cc in omega arith)
 is-boundary (numbers l) e = absurd (let z : _≡_ {A = ℕ} 0 1 = cc in omega arith)
@@ -72,7 +72,7 @@ three [] e = absurd (omega arith)
 three (a ∷ l) e = let x = two l (omega arith) in (a, x .0, x .1, ap (_∷_ a) (x .2))
 
 -- what has the sort of a value is a value of that sort
-of-sort : (s : Judge.Sort) (v : Val s) (x : Said) → sort x ≡ sort (said-of (says s v)) → (u : Val s) × (x ≡ said-of (says s u))
+of-sort : (s : Judge.Sort) (v : Val s) (x : Said) → kind-of-field x ≡ kind-of-field (said-of (says s v)) → (u : Val s) × (x ≡ said-of (says s u))
 of-sort a-name v x e = is-name x e
 of-sort an-integer v x e =
     let i = is-numbers 1 x e in
@@ -89,7 +89,7 @@ of-sort a-triple v x e =
 of-sort a-coordinate v x e = is-coordinate x e
 of-sort (a-boundary d) v x e = is-boundary x e
 
-one-sort : (s : Judge.Sort) (u v : Val s) → sort (said-of (says s u)) ≡ sort (said-of (says s v))
+one-sort : (s : Judge.Sort) (u v : Val s) → kind-of-field (said-of (says s u)) ≡ kind-of-field (said-of (says s v))
 one-sort a-name u v = refl
 one-sort an-integer u v = refl
 one-sort a-pair u v = refl
@@ -101,7 +101,7 @@ one-sort (a-boundary d) u v = refl
 abbrev pub law-said : (ss : List Judge.Sort) → Vals ss → Line
 law-said ss w = map said-of (said ss w)
 
-of-sorts : (ss : List Judge.Sort) (w : Vals ss) (l : Line) → map sort l ≡ map sort (law-said ss w) → (u : Vals ss) × (l ≡ law-said ss u)
+of-sorts : (ss : List Judge.Sort) (w : Vals ss) (l : Line) → map kind-of-field l ≡ map kind-of-field (law-said ss w) → (u : Vals ss) × (l ≡ law-said ss u)
 of-sorts [] w [] e = (tt, refl)
 of-sorts [] w (x ∷ l) e = absurd (let z : _≡_ {A = ℕ} 0 1 = cc in omega arith)
 of-sorts (s ∷ ss) w [] e = absurd (let z : _≡_ {A = ℕ} 0 1 = cc in omega arith)
@@ -110,9 +110,9 @@ of-sorts (s ∷ ss) w (x ∷ l) e =
     let t = of-sorts ss (w .1) l (tail-eq-of-cons-eq e) in
     ((h .0, t .0), ap (λ (y : Said). y ∷ l) (h .1) ∙ ap (_∷_ (said-of (says s (h .0)))) (t .1))
 
-one-sorts : (ss : List Judge.Sort) (u w : Vals ss) → map sort (law-said ss u) ≡ map sort (law-said ss w)
+one-sorts : (ss : List Judge.Sort) (u w : Vals ss) → map kind-of-field (law-said ss u) ≡ map kind-of-field (law-said ss w)
 one-sorts [] u w = refl
-one-sorts (s ∷ ss) u w = ap (λ (t : Sort). t ∷ map sort (law-said ss (u .1))) (one-sort s (u .0) (w .0)) ∙ ap (_∷_ (sort (said-of (says s (w .0))))) (one-sorts ss (u .1) (w .1))
+one-sorts (s ∷ ss) u w = ap (λ (t : FieldKind). t ∷ map kind-of-field (law-said ss (u .1))) (one-sort s (u .0) (w .0)) ∙ ap (_∷_ (kind-of-field (said-of (says s (w .0))))) (one-sorts ss (u .1) (w .1))
 
 so-many : (ss : List Judge.Sort) (w : Vals ss) → length (law-said ss w) ≡ length ss
 so-many [] w = refl
@@ -122,7 +122,7 @@ so-many (s ∷ ss) w = ap suc (so-many ss (w .1))
 abbrev pub law-front : Option Bytes → Line
 law-front o = map said-of (in-front o)
 
-front-sorts : (o : Option Bytes) (ss : List Judge.Sort) (w : Vals ss) (l : Line) → map sort l ≡ map sort (law-front o ++ law-said ss w) → (u : Vals ss) × (l ≡ law-front o ++ law-said ss u)
+front-sorts : (o : Option Bytes) (ss : List Judge.Sort) (w : Vals ss) (l : Line) → map kind-of-field l ≡ map kind-of-field (law-front o ++ law-said ss w) → (u : Vals ss) × (l ≡ law-front o ++ law-said ss u)
 front-sorts none ss w l e = of-sorts ss w l e
 front-sorts (some b) ss w [] e = absurd (let z : _≡_ {A = ℕ} 0 1 = cc in omega arith)
 front-sorts (some b) ss w (x ∷ l) e =
@@ -130,7 +130,7 @@ front-sorts (some b) ss w (x ∷ l) e =
     let t = of-sorts ss w l (tail-eq-of-cons-eq e) in
     (t .0, ap (λ (y : Said). y ∷ l) h ∙ ap (_∷_ (word b)) (t .1))
 
-front-one : (o : Option Bytes) (ss : List Judge.Sort) (u w : Vals ss) → map sort (law-front o ++ law-said ss u) ≡ map sort (law-front o ++ law-said ss w)
+front-one : (o : Option Bytes) (ss : List Judge.Sort) (u w : Vals ss) → map kind-of-field (law-front o ++ law-said ss u) ≡ map kind-of-field (law-front o ++ law-said ss w)
 front-one none ss u w = one-sorts ss u w
 front-one (some b) ss u w = ap (_∷_ (this-word b)) (one-sorts ss u w)
 
@@ -150,14 +150,14 @@ module _ {L : Lang} (A : Machine L) (X : Lexis L) (line-of : (k : L .Kind) → L
   law-line-is k v = ap (map said-of) (line-is A X line-of W k v) ∙ map-front (X .keyword k) (said (X .sorts k) (W .parts k v))
 
   -- what has the sorts of a line of a kind is a line of that kind
-  pub of-kind : (k : Kind) (v : Pay k) (l : Line) → map sort l ≡ map sort (law-line line-of (say L k v)) → (u : Pay k) × (l ≡ law-line line-of (say L k u))
+  pub of-kind : (k : Kind) (v : Pay k) (l : Line) → map kind-of-field l ≡ map kind-of-field (law-line line-of (say L k v)) → (u : Pay k) × (l ≡ law-line line-of (say L k u))
   of-kind k v l e =
-      let x = front-sorts (X .keyword k) (X .sorts k) (W .parts k v) l (e ∙ ap (map sort) (law-line-is k v)) in
+      let x = front-sorts (X .keyword k) (X .sorts k) (W .parts k v) l (e ∙ ap (map kind-of-field) (law-line-is k v)) in
       (X .make k (x .0), x .1 ∙ sym (made-line k (x .0)))
 
   -- and lines of one kind have the same sorts
-  pub kind-sorts : (k : Kind) (u v : Pay k) → map sort (law-line line-of (say L k u)) ≡ map sort (law-line line-of (say L k v))
-  kind-sorts k u v = ap (map sort) (law-line-is k u) ∙ front-one (X .keyword k) (X .sorts k) (W .parts k u) (W .parts k v) ∙ ap (map sort) (sym (law-line-is k v))
+  pub kind-sorts : (k : Kind) (u v : Pay k) → map kind-of-field (law-line line-of (say L k u)) ≡ map kind-of-field (law-line line-of (say L k v))
+  kind-sorts k u v = ap (map kind-of-field) (law-line-is k u) ∙ front-one (X .keyword k) (X .sorts k) (W .parts k u) (W .parts k v) ∙ ap (map kind-of-field) (sym (law-line-is k v))
 
   -- the fields are as many as those of the line exactly if those behind the keyword are as many as the values
   module _ (k : Kind) (v : Pay k) (f : Field) (fs : List Field) where

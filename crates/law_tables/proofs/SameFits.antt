@@ -9,7 +9,7 @@ use Rattle.law.specs.Faults as Law
 use Rattle.grammar.specs.Network.{Network}
 use Rattle.grammar.specs.Mission.{Mission}
 use Rattle.grammar.specs.Names.{network-named, mission-named}
-use Rattle.grammar.specs.References.{Fits}
+use Rattle.grammar.specs.References.{MissionFits}
 use Rattle.text.specs.Spelling.{Name, bytes, bytes-of}
 use Rattle.fill.proofs.NameLaws.{numbers-same, parts-same}
 
@@ -20,7 +20,7 @@ module _ (n : Network Field) (m : Mission Field) where
   abbrev ids : List ℕ
   ids = map (λ a. a .id) (m .limits)
 
-  pub fits-to : Fits (network-named bytes-of n) (mission-named bytes-of m) → Law.Fits n m
+  pub fits-to : MissionFits (network-named bytes-of n) (mission-named bytes-of m) → Law.MissionFits n m
   unfolding unnamed mission-named network-named
   fits-to h = record {
     name = ap unnamed (h .name);
@@ -30,7 +30,7 @@ module _ (n : Network Field) (m : Mission Field) where
     all = subst (λ (p : ℕ). (i : ℕ) → Between 1 p i → Among i ids) (parts-same bytes-of n) (h .all);
   }
 
-  pub fits-back : Law.Fits n m → Fits (network-named bytes-of n) (mission-named bytes-of m)
+  pub fits-back : Law.MissionFits n m → MissionFits (network-named bytes-of n) (mission-named bytes-of m)
   unfolding mission-named network-named
   fits-back h = record {
     name = ap bytes (h .name);

@@ -9,7 +9,7 @@ use Rattle.grammar.specs.Network.{Network}
 use Rattle.grammar.specs.Mission.{Mission}
 use Rattle.grammar.specs.Names.{network-named, mission-named}
 use Rattle.grammar.specs.Tables.{mission-tables}
-use Rattle.grammar.specs.References.{Fits}
+use Rattle.grammar.specs.References.{MissionFits}
 use Rattle.text.specs.Spelling.{SpellsMdf, bytes-of}
 use Rattle.fill.specs.Counts.{mission-sizes}
 use Rattle.rows.specs.declared.MissionFileRow.{MissionFileRow}
@@ -33,7 +33,7 @@ module _ (n : Network Field) (mdf : Bytes) (u : MissionLent) where
     pub spelled : SpellsMdf m mdf
     pub room : RoomFor m u
     -- none of 14 to 18, with names compared byte for byte
-    pub fits : Fits (network-named bytes-of n) (mission-named bytes-of m)
+    pub fits : MissionFits (network-named bytes-of n) (mission-named bytes-of m)
 
   pub data RefusesMdf : (line number : ℕ) → Type 0 where
     -- 01: 1 "text over 16,777,215 bytes", line 0

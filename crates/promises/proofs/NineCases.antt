@@ -7,7 +7,7 @@ use lib.Dec.{lit≤}
 use lib.ListN.{length}
 use Rattle.terms.specs.Ascii.{Bytes, ascii}
 use Rattle.law.specs.Tables.{Lent, MissionLent, HasRoom, MissionHasRoom, filled, mission-filled}
-use Rattle.law.specs.Faults.{Fits}
+use Rattle.law.specs.Faults.{MissionFits}
 use Rattle.replies.specs.declared.PairReply.{PairReply}
 use Rattle.replies.specs.declared.PairReply.the-variants as Pair
 use Rattle.replies.specs.Replies.{most, AcceptsMdf, RefusesRndf, RefusesMdf, bad-line, bad-reference, refusal, mission-file, ReadsPair}
@@ -30,7 +30,7 @@ small : Small
 unfolding ascii
 small = record { round = lit≤ tt; goal-8 = lit≤ tt; limit-10-5 = lit≤ tt; limit-5-0 = lit≤ tt }
 
-fitting : (minimum maximum : ℕ) → Fits network (mission-with 7 minimum maximum)
+fitting : (minimum maximum : ℕ) → MissionFits network (mission-with 7 minimum maximum)
 fitting minimum maximum = record {
   name = refl;
   goals = (inl refl, tt);

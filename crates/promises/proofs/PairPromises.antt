@@ -11,7 +11,7 @@ use Rattle.law.specs.Network.{Network, Mission, Line, SpellsNetwork, SpellsMiss
 use Rattle.edition.specs.declared.Edition.{Edition}
 use Rattle.edition.specs.Editions.{inner, rules-of}
 use Rattle.law.specs.Tables.{Lent, MissionLent, HasRoom, MissionHasRoom, filled, mission-filled, zeros, mission-zeros}
-use Rattle.law.specs.Faults.{Sound, RndfFault, MdfFault, Fits}
+use Rattle.law.specs.Faults.{Sound, RndfFault, MdfFault, MissionFits}
 use Rattle.rows.specs.declared.FileRow.{FileRow}
 use Rattle.rows.specs.declared.MissionFileRow.{MissionFileRow}
 use Rattle.counts.specs.declared.Counts.{Counts}
@@ -150,7 +150,7 @@ module _ (edition : Edition) (rndf mdf : Bytes) (t : Lent) (u : MissionLent) whe
       where
         go : PairRefuses (rules-of edition) rndf mdf t u x → OneOfFive (x .number)
         go (inl b) = number-by (rules-of edition) SpellsNetwork Roomy Sound RndfFault rndf (rndf-form edition rndf) rndf-reference (x .line) (x .number) (x .column) (b .1)
-        go (inr b) = number-by (rules-of edition) SpellsMission MissionRoomy (Fits (b .1 .0)) (Wrong (b .1 .0)) mdf (mdf-form edition mdf) (λ m. mdf-reference (b .1 .0)) (x .line) (x .number) (x .column) (b .1 .2)
+        go (inr b) = number-by (rules-of edition) SpellsMission MissionRoomy (MissionFits (b .1 .0)) (Wrong (b .1 .0)) mdf (mdf-form edition mdf) (λ m. mdf-reference (b .1 .0)) (x .line) (x .number) (x .column) (b .1 .2)
 
     -- 1: that text is too long; line 0
     pub pair-refused-size : x .number ≡ 1 → OfFile x ((x .line ≡ 0) × (most < length rndf)) ((x .line ≡ 0) × (most < length mdf))
@@ -158,7 +158,7 @@ module _ (edition : Edition) (rndf mdf : Bytes) (t : Lent) (u : MissionLent) whe
       where
         go : PairRefuses (rules-of edition) rndf mdf t u x → OfFile x ((x .line ≡ 0) × (most < length rndf)) ((x .line ≡ 0) × (most < length mdf))
         go (inl b) = inl (b .0, size-by (rules-of edition) SpellsNetwork Roomy Sound RndfFault rndf (rndf-form edition rndf) rndf-reference (x .line) (x .number) (x .column) (b .1) e)
-        go (inr b) = inr (b .0, size-by (rules-of edition) SpellsMission MissionRoomy (Fits (b .1 .0)) (Wrong (b .1 .0)) mdf (mdf-form edition mdf) (λ m. mdf-reference (b .1 .0)) (x .line) (x .number) (x .column) (b .1 .2) e)
+        go (inr b) = inr (b .0, size-by (rules-of edition) SpellsMission MissionRoomy (MissionFits (b .1 .0)) (Wrong (b .1 .0)) mdf (mdf-form edition mdf) (λ m. mdf-reference (b .1 .0)) (x .line) (x .number) (x .column) (b .1 .2) e)
 
     -- a number of form: the lines before the refused line begin some well-formed text, none begins with them and it, and it has that fault
     pub pair-refused-line : OfForm (x .number) → OfFile x (RefusedLine (rules-of edition) SpellsNetwork rndf (x .line) (x .number) (x .column)) (RefusedLine (rules-of edition) SpellsMission mdf (x .line) (x .number) (x .column))
@@ -166,7 +166,7 @@ module _ (edition : Edition) (rndf mdf : Bytes) (t : Lent) (u : MissionLent) whe
       where
         go : PairRefuses (rules-of edition) rndf mdf t u x → OfFile x (RefusedLine (rules-of edition) SpellsNetwork rndf (x .line) (x .number) (x .column)) (RefusedLine (rules-of edition) SpellsMission mdf (x .line) (x .number) (x .column))
         go (inl b) = inl (b .0, rndf-refused-line edition rndf (x .line) (x .number) (x .column) (line-by (rules-of edition) SpellsNetwork Roomy Sound RndfFault rndf (rndf-form edition rndf) rndf-reference (x .line) (x .number) (x .column) (b .1) form))
-        go (inr b) = inr (b .0, mdf-refused-line edition mdf (x .line) (x .number) (x .column) (line-by (rules-of edition) SpellsMission MissionRoomy (Fits (b .1 .0)) (Wrong (b .1 .0)) mdf (mdf-form edition mdf) (λ m. mdf-reference (b .1 .0)) (x .line) (x .number) (x .column) (b .1 .2) form))
+        go (inr b) = inr (b .0, mdf-refused-line edition mdf (x .line) (x .number) (x .column) (line-by (rules-of edition) SpellsMission MissionRoomy (MissionFits (b .1 .0)) (Wrong (b .1 .0)) mdf (mdf-form edition mdf) (λ m. mdf-reference (b .1 .0)) (x .line) (x .number) (x .column) (b .1 .2) form))
 
     -- L7: "Where the line is 0, for 10, .. it is 0": with no other number there is a column
     pub pair-no-column : (OfForm (x .number) → ⊥) → (OfReference (x .number) → ⊥) → x .column ≡ 0
@@ -174,7 +174,7 @@ module _ (edition : Edition) (rndf mdf : Bytes) (t : Lent) (u : MissionLent) whe
       where
         go : PairRefuses (rules-of edition) rndf mdf t u x → x .column ≡ 0
         go (inl b) = column-by (rules-of edition) SpellsNetwork Roomy Sound RndfFault rndf (rndf-form edition rndf) rndf-reference (x .line) (x .number) (x .column) (b .1) p q
-        go (inr b) = column-by (rules-of edition) SpellsMission MissionRoomy (Fits (b .1 .0)) (Wrong (b .1 .0)) mdf (mdf-form edition mdf) (λ m. mdf-reference (b .1 .0)) (x .line) (x .number) (x .column) (b .1 .2) p q
+        go (inr b) = column-by (rules-of edition) SpellsMission MissionRoomy (MissionFits (b .1 .0)) (Wrong (b .1 .0)) mdf (mdf-form edition mdf) (λ m. mdf-reference (b .1 .0)) (x .line) (x .number) (x .column) (b .1 .2) p q
 
     -- 10: the lines of that text begin some well-formed text, and it is none; the line behind its last
     pub pair-refused-end : x .number ≡ 10 → OfFile x (RefusedEnd (rules-of edition) SpellsNetwork rndf (x .line)) (RefusedEnd (rules-of edition) SpellsMission mdf (x .line))
@@ -182,7 +182,7 @@ module _ (edition : Edition) (rndf mdf : Bytes) (t : Lent) (u : MissionLent) whe
       where
         go : PairRefuses (rules-of edition) rndf mdf t u x → OfFile x (RefusedEnd (rules-of edition) SpellsNetwork rndf (x .line)) (RefusedEnd (rules-of edition) SpellsMission mdf (x .line))
         go (inl b) = inl (b .0, rndf-refused-end edition rndf (x .line) (end-by (rules-of edition) SpellsNetwork Roomy Sound RndfFault rndf (rndf-form edition rndf) rndf-reference (x .line) (x .number) (x .column) (b .1) e))
-        go (inr b) = inr (b .0, mdf-refused-end edition mdf (x .line) (end-by (rules-of edition) SpellsMission MissionRoomy (Fits (b .1 .0)) (Wrong (b .1 .0)) mdf (mdf-form edition mdf) (λ m. mdf-reference (b .1 .0)) (x .line) (x .number) (x .column) (b .1 .2) e))
+        go (inr b) = inr (b .0, mdf-refused-end edition mdf (x .line) (end-by (rules-of edition) SpellsMission MissionRoomy (MissionFits (b .1 .0)) (Wrong (b .1 .0)) mdf (mdf-form edition mdf) (λ m. mdf-reference (b .1 .0)) (x .line) (x .number) (x .column) (b .1 .2) e))
 
     -- 11: well-formed, and no room for the rows of its network, or of its mission; line 0
     pub pair-refused-room : x .number ≡ 11 → OfFile x ((x .line ≡ 0) × NoRoom (rules-of edition) SpellsNetwork (λ n. HasRoom n t) rndf) ((x .line ≡ 0) × NoRoom (rules-of edition) SpellsMission (λ m. MissionHasRoom m u) mdf)
@@ -190,7 +190,7 @@ module _ (edition : Edition) (rndf mdf : Bytes) (t : Lent) (u : MissionLent) whe
       where
         go : PairRefuses (rules-of edition) rndf mdf t u x → OfFile x ((x .line ≡ 0) × NoRoom (rules-of edition) SpellsNetwork Roomy rndf) ((x .line ≡ 0) × NoRoom (rules-of edition) SpellsMission MissionRoomy mdf)
         go (inl b) = inl (b .0, room-by (rules-of edition) SpellsNetwork Roomy Sound RndfFault rndf (rndf-form edition rndf) rndf-reference (x .line) (x .number) (x .column) (b .1) e)
-        go (inr b) = inr (b .0, room-by (rules-of edition) SpellsMission MissionRoomy (Fits (b .1 .0)) (Wrong (b .1 .0)) mdf (mdf-form edition mdf) (λ m. mdf-reference (b .1 .0)) (x .line) (x .number) (x .column) (b .1 .2) e)
+        go (inr b) = inr (b .0, room-by (rules-of edition) SpellsMission MissionRoomy (MissionFits (b .1 .0)) (Wrong (b .1 .0)) mdf (mdf-form edition mdf) (λ m. mdf-reference (b .1 .0)) (x .line) (x .number) (x .column) (b .1 .2) e)
 
     -- a number of reference, of the RNDF, or of the MDF for the network of the RNDF, which is right: well-formed, there is room, and this is the first line with a wrong reference
     pub pair-refused-reference : OfReference (x .number)
@@ -199,4 +199,4 @@ module _ (edition : Edition) (rndf mdf : Bytes) (t : Lent) (u : MissionLent) whe
       where
         go : PairRefuses (rules-of edition) rndf mdf t u x → OfFile x (WrongReference (rules-of edition) SpellsNetwork Roomy RndfFault rndf (x .line) (x .number) (x .column)) ((n : Network Field) × AcceptsRndf (rules-of edition) rndf t n × WrongReference (rules-of edition) SpellsMission MissionRoomy (Wrong n) mdf (x .line) (x .number) (x .column))
         go (inl b) = inl (b .0, reference-by (rules-of edition) SpellsNetwork Roomy Sound RndfFault rndf (rndf-form edition rndf) rndf-reference (x .line) (x .number) (x .column) (b .1) e)
-        go (inr b) = inr (b .0, (b .1 .0, b .1 .1, reference-by (rules-of edition) SpellsMission MissionRoomy (Fits (b .1 .0)) (Wrong (b .1 .0)) mdf (mdf-form edition mdf) (λ m. mdf-reference (b .1 .0)) (x .line) (x .number) (x .column) (b .1 .2) e))
+        go (inr b) = inr (b .0, (b .1 .0, b .1 .1, reference-by (rules-of edition) SpellsMission MissionRoomy (MissionFits (b .1 .0)) (Wrong (b .1 .0)) mdf (mdf-form edition mdf) (λ m. mdf-reference (b .1 .0)) (x .line) (x .number) (x .column) (b .1 .2) e))

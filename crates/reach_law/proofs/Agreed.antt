@@ -6,7 +6,7 @@ use Prim.Native.Nat.{ℕ, zero, suc, _≤_, _<_}
 use native.Mathlib.Omega.{arith}
 use lib.ListN.{length}
 use Rattle.look_up.specs.Listed.{Paired}
-use Rattle.route_law.specs.Routes.{At, Last, Rising, MetInOrder, Begins, GoodRoute}
+use Rattle.route_law.specs.Routes.{At, Last, Rising, MetInOrder, BeginsAtStart, GoodRoute}
 use Rattle.route_law.proofs.Places.{at-below, From, from-rising, rising-from}
 use Rattle.reach_law.specs.Reach.{Chain, none, move, Onward, Later, Drivable, DriveTaken}
 

@@ -5,7 +5,7 @@ use Rattle.terms.specs.Ascii.{Bytes}
 use Rattle.line.specs.Content.{Field}
 use Rattle.law.specs.Network.{Network, Mission, SpellsNetwork, SpellsMission, SpellsText, reading}
 use Rattle.law.specs.Tables.{Lent, MissionLent, HasRoom, MissionHasRoom}
-use Rattle.law.specs.Faults.{RndfFault, MdfFault, Sound, Fits, FirstFault}
+use Rattle.law.specs.Faults.{RndfFault, MdfFault, Sound, MissionFits, FirstFault}
 use Rattle.grammar.specs.Editions.{Edition, law-of}
 use Rattle.editions.proofs.Later.{later}
 use Rattle.text.proofs.Theorems.{one-rndf-in, one-mdf}
@@ -47,7 +47,7 @@ rndf-alone d text t = record {
     of-one n n′ s s′ i k = subst (λ (m : Network Field). FirstFault (reading (law-of d)) SpellsNetwork (RndfFault m) text i k) (sym (same n n′ s s′))
 
 -- n: the network of the RNDF, which was accepted before
-pub mdf-alone : (d : Edition) (n : Network Field) (text : Bytes) (u : MissionLent) → Alone (reading (law-of d)) SpellsMission (λ m. MissionHasRoom m u) (Fits n) (λ m. MdfFault n) text
+pub mdf-alone : (d : Edition) (n : Network Field) (text : Bytes) (u : MissionLent) → Alone (reading (law-of d)) SpellsMission (λ m. MissionHasRoom m u) (MissionFits n) (λ m. MdfFault n) text
 mdf-alone d n text u = record {
   one = same;
   bad-one = λ i k i′ k′ b b′. F.mdf-one-bad-line text i k i′ k′ (mdf-bad-back-in d text i k b) (mdf-bad-back-in d text i′ k′ b′);

@@ -8,7 +8,7 @@ use Rattle.line.specs.Content.{Field}
 use Rattle.law.specs.Network.{Network, Mission, SpellsNetwork, SpellsMission, reading}
 use Rattle.grammar.specs.Editions.{Edition, law-of}
 use Rattle.law.specs.Tables.{Lent, MissionLent, HasRoom, MissionHasRoom, filled, mission-filled, zeros, mission-zeros}
-use Rattle.law.specs.Faults.{RndfFault, MdfFault, Sound, Fits}
+use Rattle.law.specs.Faults.{RndfFault, MdfFault, Sound, MissionFits}
 use Rattle.replies.specs.declared.RndfReply.{RndfReply}
 use Rattle.replies.specs.declared.RndfReply.the-variants as Reply
 use Rattle.replies.specs.declared.PairReply.{PairReply}
@@ -31,13 +31,13 @@ module _ (d : Edition) (text : Bytes) (t : Lent) where
 
 module _ (d : Edition) (n : Network Field) (text : Bytes) (u : MissionLent) where
   pub mdf-accepts-one : (m m′ : Mission Field) → AcceptsMdf (reading (law-of d)) n text u m → AcceptsMdf (reading (law-of d)) n text u m′ → m ≡ m′
-  mdf-accepts-one = One.accepts-one (reading (law-of d)) SpellsMission (λ m. MissionHasRoom m u) (Fits n) (λ m. MdfFault n) text (mdf-alone d n text u)
+  mdf-accepts-one = One.accepts-one (reading (law-of d)) SpellsMission (λ m. MissionHasRoom m u) (MissionFits n) (λ m. MdfFault n) text (mdf-alone d n text u)
 
   pub mdf-never-both : (m : Mission Field) (line number column : ℕ) → AcceptsMdf (reading (law-of d)) n text u m → RefusesMdf (reading (law-of d)) n text u line number column → ⊥
-  mdf-never-both = One.never-both (reading (law-of d)) SpellsMission (λ m. MissionHasRoom m u) (Fits n) (λ m. MdfFault n) text (mdf-alone d n text u)
+  mdf-never-both = One.never-both (reading (law-of d)) SpellsMission (λ m. MissionHasRoom m u) (MissionFits n) (λ m. MdfFault n) text (mdf-alone d n text u)
 
   pub mdf-refuses-one : (line number column line′ number′ column′ : ℕ) → RefusesMdf (reading (law-of d)) n text u line number column → RefusesMdf (reading (law-of d)) n text u line′ number′ column′ → (line ≡ line′) × (number ≡ number′) × (column ≡ column′)
-  mdf-refuses-one = One.refuses-one (reading (law-of d)) SpellsMission (λ m. MissionHasRoom m u) (Fits n) (λ m. MdfFault n) text (mdf-alone d n text u)
+  mdf-refuses-one = One.refuses-one (reading (law-of d)) SpellsMission (λ m. MissionHasRoom m u) (MissionFits n) (λ m. MdfFault n) text (mdf-alone d n text u)
 
 -- ## An RNDF: no second reply, and no second memory
 pub rndf-settled : (d : Edition) (text : Bytes) (t : Lent) (r r′ : RndfReply) (l l′ : Lent) → ReadsRndf (reading (law-of d)) text t r l → ReadsRndf (reading (law-of d)) text t r′ l′ → (r ≡ r′) × (l ≡ l′)

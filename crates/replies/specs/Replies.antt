@@ -3,7 +3,7 @@ use Rattle.terms.specs.Words.{_≡_, List, Option, none, some, ℕ, _≤_, _<_,
 use Rattle.line.specs.Line.{Field}
 use Rattle.law.specs.Network.{Network, Mission, Line, Rules, SpellsNetwork, SpellsMission, SpellsText}
 use Rattle.law.specs.Tables.{Lent, MissionLent, segment-rows, lane-rows, zone-rows, spot-rows, point-rows, checkpoint-rows, stop-rows, exit-rows, HasRoom, MissionHasRoom, filled, mission-filled, zeros, mission-zeros}
-use Rattle.law.specs.Faults.{BadLine, Unended, FirstFault, RndfFault, MdfFault, Sound, Fits}
+use Rattle.law.specs.Faults.{BadLine, Unended, FirstFault, RndfFault, MdfFault, Sound, MissionFits}
 use Rattle.law_columns.specs.Columns.{Column}
 use Rattle.rows.specs.declared.Stretch.{Stretch}
 use Rattle.rows.specs.declared.FileRow.{FileRow}
@@ -46,10 +46,10 @@ module _ (rules : Rules) (text : Bytes) (t : Lent) where
 
 module _ (rules : Rules) (n : Network Field) (text : Bytes) (u : MissionLent) where
   abbrev pub AcceptsMdf : Mission Field → Type 0
-  AcceptsMdf = Accepts rules SpellsMission (λ m. MissionHasRoom m u) (Fits n) (λ m. MdfFault n) text
+  AcceptsMdf = Accepts rules SpellsMission (λ m. MissionHasRoom m u) (MissionFits n) (λ m. MdfFault n) text
 
   abbrev pub RefusesMdf : (line number column : ℕ) → Type 0
-  RefusesMdf = Refuses rules SpellsMission (λ m. MissionHasRoom m u) (Fits n) (λ m. MdfFault n) text
+  RefusesMdf = Refuses rules SpellsMission (λ m. MissionHasRoom m u) (MissionFits n) (λ m. MdfFault n) text
 
 -- ## What is replied
 -- 01: "Each gives file (1 RNDF, 2 MDF), line, number."; L7: "Add a column to the refusal record"

@@ -13,7 +13,7 @@ use Rattle.law.specs.Tables.{gather, all-lanes}
 use mathlib.Core.List.{List, _++_}
 use Rattle.grammar.specs.Names.{network-named, mission-named}
 use Rattle.grammar.specs.Tables.{mission-tables}
-use Rattle.grammar.specs.References.{Fits}
+use Rattle.grammar.specs.References.{MissionFits}
 use Rattle.grammar.proofs.Theorems.{network-ranges, mission-ranges}
 use Rattle.text.specs.Spelling.{Name, bytes-of}
 use Rattle.fill.specs.Counts.{Counts, MissionCounts, mission-sizes}
@@ -61,10 +61,10 @@ undated-declared n e (border i z p q r b) = border i z p q r b
 pub undated-sound : (n : Network Field) → Sound n → Sound (undated n)
 undated-sound n s = record { entries = each-map (λ e. Declared n (e .entry)) (λ e. Declared (undated n) (e .entry)) (λ e. undated-declared n (e .entry)) (gather (λ a. a .exits) (all-lanes n) ++ gather (λ z. z .border .exits) (n .zones)) (s .entries); numbers = s .numbers }
 
-undated-fits : {N : Type 0} (n : Network N) (m : Mission N) → Fits n m → Fits (undated n) (mission-undated m)
+undated-fits : {N : Type 0} (n : Network N) (m : Mission N) → MissionFits n m → MissionFits (undated n) (mission-undated m)
 undated-fits n m f = record { name = f .name; goals = f .goals; known = f .known; once = f .once; all = f .all }
 
-dated-fits : {N : Type 0} (n : Network N) (m : Mission N) → Fits (undated n) m → Fits n m
+dated-fits : {N : Type 0} (n : Network N) (m : Mission N) → MissionFits (undated n) m → MissionFits n m
 dated-fits n m f = record { name = f .name; goals = f .goals; known = f .known; once = f .once; all = f .all }
 
 -- ## There is only one house writing, and what is the same has as many rows
@@ -124,7 +124,7 @@ module _ (edition : Edition) where
           size = subst (λ (w : Bytes). length w ≤ most) q size;
           spelled = mdf-to-in (inner edition) (b .0) (house-mdf m) (b .1);
           room = mission-room-to (b .0) u′ (subst (λ (c : MissionCounts). MissionHasRoom c u′) (mission-sizes-alike bytes-of (mission-undated m) (b .0) (sym (b .2))) (mission-room-back m u′ room));
-          right = fits-to n′ (b .0) (dated-fits (network-named bytes-of n′) (mission-named bytes-of (b .0)) (subst (λ (x : Network Name). Fits x (mission-named bytes-of (b .0))) (sym (undated-named n) ∙ sym e ∙ undated-named n′) (subst (λ (x : Mission Name). Fits (undated (network-named bytes-of n)) x) (sym (mission-undated-named m) ∙ sym (b .2)) (undated-fits (network-named bytes-of n) (mission-named bytes-of m) (fits-back n m (a .right))))));
+          right = fits-to n′ (b .0) (dated-fits (network-named bytes-of n′) (mission-named bytes-of (b .0)) (subst (λ (x : Network Name). MissionFits x (mission-named bytes-of (b .0))) (sym (undated-named n) ∙ sym e ∙ undated-named n′) (subst (λ (x : Mission Name). MissionFits (undated (network-named bytes-of n)) x) (sym (mission-undated-named m) ∙ sym (b .2)) (undated-fits (network-named bytes-of n) (mission-named bytes-of m) (fits-back n m (a .right))))));
         };
         same = b .2;
       })

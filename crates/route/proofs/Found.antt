@@ -11,7 +11,7 @@ use borrow.Author.Tests.{ltb-true, ltb-false, eqb-true, eqb-false}
 use Rattle.terms.specs.Words.{pick}
 use Rattle.terms.proofs.Tests.{clash}
 use Rattle.room.specs.Room.{fitted}
-use Rattle.route_law.specs.Routes.{At, Last, Taken, Moves, Ends, Begins, GoodRoute, RouteFault, no-beginning, no-move, not-met, wrong-end}
+use Rattle.route_law.specs.Routes.{At, Last, Taken, Moves, Ends, BeginsAtStart, GoodRoute, RouteFault, no-beginning, no-move, not-met, wrong-end}
 use Rattle.route_law.proofs.Places.{at-below, last-one, taken-met}
 use Rattle.route.specs.declared.Verdict.{Verdict}
 use Rattle.route.specs.declared.Verdict.the-variants as Verdict
@@ -27,17 +27,17 @@ module _ (points : ℕ) (Move : ℕ → ℕ → Type 0) (start : ℕ) (route goa
 
   module _ (move : ℕ → ℕ → Bool) (decides : (a b : ℕ) → (move a b ≡ true) ↔ Move a b) (point : ℕ → ℕ) (are : (k : ℕ) → k < length goals → point k ≡ getD goals k 0) (some : 1 ≤ length goals) where
     -- 21
-    begun : begins points start route ≡ true → Begins points Move start route
+    begun : begins points start route ≡ true → BeginsAtStart points Move start route
     unfolding begins
     begun = go (ltb 0 (length route)) (eqb (getD route 0 0) start) (ltb start points) refl refl refl
       where
-        go : (x y z : Bool) → ltb 0 (length route) ≡ x → eqb (getD route 0 0) start ≡ y → ltb start points ≡ z → pick x (pick y z false) false ≡ true → Begins points Move start route
+        go : (x y z : Bool) → ltb 0 (length route) ≡ x → eqb (getD route 0 0) start ≡ y → ltb start points ≡ z → pick x (pick y z false) false ≡ true → BeginsAtStart points Move start route
         go true true true e f g h = record { declared = ltb-true start points g; there = subst (At route 0) (eqb-true (getD route 0 0) start f) (at-here route 0 (ltb-true 0 (length route) e)) }
         go true true false e f g h = clash (sym h)
         go true false z e f g h = clash (sym h)
         go false y z e f g h = clash (sym h)
 
-    unbegun : begins points start route ≡ false → Begins points Move start route → ⊥
+    unbegun : begins points start route ≡ false → BeginsAtStart points Move start route → ⊥
     unfolding begins
     unbegun h b = go (ltb 0 (length route)) (eqb (getD route 0 0) start) (ltb start points) refl refl refl h
       where
@@ -47,7 +47,7 @@ module _ (points : ℕ) (Move : ℕ → ℕ → Type 0) (start : ℕ) (route goa
         go true false z e f g h = eqb-false (getD route 0 0) start f (sym (at-is route 0 start (b .there)))
         go false y z e f g h = let l = ltb-false 0 (length route) e in let d = at-below route 0 start (b .there) in omega arith
 
-    module _ (b : Begins points Move start route) where
+    module _ (b : BeginsAtStart points Move start route) where
       long : 1 ≤ length route
       long = at-below route 0 start (b .there)
 

@@ -8,7 +8,7 @@ use native.Mathlib.Omega.{arith}
 use lib.Dec.{ltb, eqb}
 use lib.ListN.{length}
 use borrow.Author.Tests.{ltb-true, ltb-false, eqb-true, eqb-false}
-use Rattle.route_law.specs.Routes.{At, Last, MetInOrder, NotFrom, Earliest, Taken, none, one, Moves, Ends, Begins, GoodRoute, RouteFault, no-beginning, no-move, not-met, wrong-end}
+use Rattle.route_law.specs.Routes.{At, Last, MetInOrder, NotFrom, Earliest, Taken, none, one, Moves, Ends, BeginsAtStart, GoodRoute, RouteFault, no-beginning, no-move, not-met, wrong-end}
 use Rattle.route_law.proofs.Places.{ordered, at-below, at-one, last-one, Stuck, stuck-at, stuck-one, taken-free, in-order-free, taken-met}
 
 -- ## At most one
@@ -164,7 +164,7 @@ module _ (Move : ℕ → ℕ → Type 0) (decide : (a b : ℕ) → Move a b ⊎ 
             go true false p q = inr (0, 21, no-beginning (λ b. let x = ltb-false start points q in let y = b .declared in omega arith))
             go true true p q = moving (steps route)
               where
-                begins : Begins points Move start route
+                begins : BeginsAtStart points Move start route
                 begins = record { declared = ltb-true start points q; there = subst (λ r. At r 0 start) (sym e) (eqb-true start a p) }
 
                 moving : Stepping route ⊎ BadStep Move route → Answered

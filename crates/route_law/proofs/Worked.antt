@@ -10,7 +10,7 @@ use Rattle.terms.specs.Ascii.{ascii}
 use Rattle.line.specs.Line.{Field}
 use Rattle.law.specs.Network.{PointId, Position, Exit, Lane, Zone, Network, Mission}
 use Rattle.route_law.specs.Moves.{Span, Inside, Move, next, exit, across, points, GoalPoints}
-use Rattle.route_law.specs.Routes.{Earliest, Taken, one, Begins, GoodRoute, RouteFault, no-beginning, no-move, not-met, wrong-end}
+use Rattle.route_law.specs.Routes.{Earliest, Taken, one, BeginsAtStart, GoodRoute, RouteFault, no-beginning, no-move, not-met, wrong-end}
 use Rattle.route_law.specs.Routes as Routes
 use Rattle.route_law.proofs.Places.{stepwise-moves, not-from-end, not-from-here, not-from-behind, earliest-here, earliest-later, earliest-behind}
 use Rattle.route_law.proofs.Decided.{absent, ways}
@@ -69,10 +69,10 @@ Good = GoodRoute 2 (Move yard-a)
 abbrev Bad : (start : ℕ) → (route goals : List ℕ) → (line number : ℕ) → Type 0
 Bad = RouteFault 2 (Move yard-a)
 
-begun-0 : (l : List ℕ) → Begins 2 (Move yard-a) 0 (0 ∷ l)
+begun-0 : (l : List ℕ) → BeginsAtStart 2 (Move yard-a) 0 (0 ∷ l)
 begun-0 l = record { declared = omega arith; there = refl }
 
-begun-1 : (l : List ℕ) → Begins 2 (Move yard-a) 1 (1 ∷ l)
+begun-1 : (l : List ℕ) → BeginsAtStart 2 (Move yard-a) 1 (1 ∷ l)
 begun-1 l = record { declared = omega arith; there = refl }
 
 zero-not-one : _≡_ {A = ℕ} 1 0 → ⊥

@@ -54,13 +54,13 @@ pub record Ends (route goals : List ℕ) : Type 0 where
 -- points: how many points are declared; Move: the moves between them
 module _ (points : ℕ) (Move : ℕ → ℕ → Type 0) (start : ℕ) (route : List ℕ) where
   -- L5: "it begins at the start"; "a declared start"
-  pub record Begins : Type 0 where
+  pub record BeginsAtStart : Type 0 where
     pub declared : start < points
     pub there : At route 0 start
 
   -- L5: "A route is good if it begins at the start, each step is a move, the goals are met in order, .., and it ends at the last goal's point. The start itself may meet the first goal."
   pub record GoodRoute (goals : List ℕ) : Type 0 where
-    pub begins : Begins
+    pub begins : BeginsAtStart
     pub moves : Moves Move route (length route)
     pub met : MetInOrder route goals
     pub ends : Ends route goals
@@ -68,10 +68,10 @@ module _ (points : ℕ) (Move : ℕ → ℕ → Type 0) (start : ℕ) (route : L
   -- L5: "Refusals, in this order: .."; "In place of the line, 22 gives the place in the route that the step leads to and 23 the goal's row, both from 0."
   pub data RouteFault (goals : List ℕ) : (line number : ℕ) → Type 0 where
     -- "21 empty or not beginning at a declared start"
-    no-beginning : (Begins → ⊥) → RouteFault goals 0 21
+    no-beginning : (BeginsAtStart → ⊥) → RouteFault goals 0 21
     -- "22 a step that is no move (the first)"
-    no-move : (i a b : ℕ) → Begins → Moves Move route i → At route i a → At route (suc i) b → (Move a b → ⊥) → RouteFault goals (suc i) 22
+    no-move : (i a b : ℕ) → BeginsAtStart → Moves Move route i → At route i a → At route (suc i) b → (Move a b → ⊥) → RouteFault goals (suc i) 22
     -- "23 a goal not met in order (the first, each goal taken at the earliest place)"
-    not-met : (before : List ℕ) (p : ℕ) (after : List ℕ) (left : ℕ) → Begins → Moves Move route (length route) → goals ≡ before ++ (p ∷ after) → Taken route 0 before left → NotFrom route left p → RouteFault goals (length before) 23
+    not-met : (before : List ℕ) (p : ℕ) (after : List ℕ) (left : ℕ) → BeginsAtStart → Moves Move route (length route) → goals ≡ before ++ (p ∷ after) → Taken route 0 before left → NotFrom route left p → RouteFault goals (length before) 23
     -- "24 wrong end"
-    wrong-end : (left : ℕ) → Begins → Moves Move route (length route) → Taken route 0 goals left → (Ends route goals → ⊥) → RouteFault goals 0 24
+    wrong-end : (left : ℕ) → BeginsAtStart → Moves Move route (length route) → Taken route 0 goals left → (Ends route goals → ⊥) → RouteFault goals 0 24
