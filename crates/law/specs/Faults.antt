@@ -1,12 +1,12 @@
 -- WHAT A READER MUST BELIEVE. What is wrong with a text: one definition for each number 2 to 10, 12 to 18 and 25. Document 01, "Refusal numbers". Assumes nothing.
 use Rattle.terms.specs.Words.{_≡_, List, [], _∷_, _++_, map, ℕ, suc, _+_, _<_, code, length, Bytes, ascii, Each, Among, perhaps, Between}
 use Rattle.line.specs.Line.{Cut, Ended, Field, Content, FormFault}
-use Rattle.law.specs.Network.{PointId, Checkpoint, Exit, Lane, Segment, Zone, Limit, Network, Mission, Rules, lenient, Said, Line, word, name, numbers, coordinate, boundary, SpellFields, checkpoint-line, exit-line, goal-line, limit-line, SayLines, SpellsText}
+use Rattle.law.specs.Network.{Edition, PointId, Checkpoint, Exit, Lane, Segment, Zone, Limit, Network, Mission, Rules, lenient, Said, Line, word, name, numbers, coordinate, boundary, SpellsField, SpellFields, checkpoint-line, exit-line, goal-line, limit-line, SayLines, SpellsText}
 use Rattle.law.specs.Network as Law
 use Rattle.law.specs.Tables.{gather, all-lanes}
 
 -- ## 2 to 9 and 25: what is wrong with a line behind others. None of these holds where a lower number does
--- 01: "field not of its kind": the kinds of fields. Each keyword is one, and so many numbers joined by dots
+-- 01: "field not of its kind": the kinds of fields. Each keyword is one, and so many numbers joined by dots. Yard A's line 8, `checkpoint>1.1.2>7`: that keyword, three numbers, one number
 pub data FieldKind : Type 0 where
   this-word : Bytes → FieldKind
   some-numbers : ℕ → FieldKind
@@ -19,20 +19,26 @@ kind-of-field (numbers l) = some-numbers (length l)
 kind-of-field (coordinate z) = a-coordinate
 kind-of-field (boundary b) = a-boundary
 
+-- g is the first field that is not of its kind, where fields of these kinds are due: `1.1`, if yard A's line 8 is `checkpoint>1.1>seven`
+pub data FirstMisspelt (edition : Edition) : (fields : List Field) (due : List FieldKind) (g : Field) → Type 0 where
+  here : {g : Field} {fs : List Field} {k : FieldKind} {ks : List FieldKind} → ((s : Said) → kind-of-field s ≡ k → SpellsField edition g s → ⊥) → FirstMisspelt edition (g ∷ fs) (k ∷ ks) g
+  further : {f g : Field} {fs : List Field} {k : FieldKind} {ks : List FieldKind} (s : Said) → kind-of-field s ≡ k → SpellsField edition f s → FirstMisspelt edition fs ks g → FirstMisspelt edition (f ∷ fs) (k ∷ ks) g
+
 -- 01: "A first field that begins with a digit makes a point line in an RNDF and, by its place, a goal or limit line in an MDF"; "Any other first field is a keyword of that file, byte for byte"
 pub data Opens (f : Field) : Line → Type 0 where
   keyword : {w : Bytes} {l : Line} → f .bytes ≡ w → Opens f (word w ∷ l)
   digit : {b : ℕ} {rest : Bytes} {i : List ℕ} {l : Line} → f .bytes ≡ b ∷ rest → Between (code "0") (code "9") b → Opens f (numbers i ∷ l)
 
--- 01, "The order of an RNDF", "The order of an MDF": the options (as in lane-options, spot-options, file-options; `segment_name`, `zone_name`)
+-- 01, "The order of an RNDF", "The order of an MDF": the options (as in lane-options, spot-options, file-options; `segment_name`, `zone_name`); a line that gives one
 abbrev pub options : List Bytes
 options = ascii "format_version" ∷ ascii "creation_date" ∷ ascii "segment_name" ∷ ascii "lane_width" ∷ ascii "left_boundary" ∷ ascii "right_boundary" ∷ ascii "checkpoint" ∷ ascii "stop" ∷ ascii "exit" ∷ ascii "zone_name" ∷ ascii "spot_width" ∷ []
 
-pub record IsOption (line : Line) : Type 0 where
-  pub first : Bytes
-  pub others : Line
-  pub is : line ≡ word first ∷ others
-  pub listed : Among first options
+abbrev pub IsOption : Line → Type 0
+IsOption line = (option : Bytes) × (others : Line) × (line ≡ word option ∷ others) × Among option options
+
+-- the field opens an option that was given before, with only options since
+abbrev pub GivenBefore : (before : List Line) (f : Field) → Type 0
+GivenBefore before f = (earlier : List Line) × (given : Line) × (since : List Line) × (before ≡ earlier ++ (given ∷ since)) × Opens f given × Each IsOption (given ∷ since)
 
 -- line i of a text, behind lines that say `front`
 pub record LineAt (rules : Rules) (text : Bytes) (i : ℕ) (front : List Line) (this : Bytes) : Type 0 where
@@ -51,39 +57,34 @@ pub record Begins (rules : Rules) {Net : Type 0} (Spells : Rules → Net → Lis
 
 -- for the lines that spell a network, or a mission
 module _ (rules : Rules) {Net : Type 0} (Spells : Rules → Net → List Line → Type 0) where
-  -- the line may stand behind those, a spot's missing checkpoint aside
+  -- the line may stand behind those: strictly, by every rule; leniently, as if a spot could be without its checkpoint (L8 has 25 only where a line "has no fault of 2 to 9", so 5 to 9 are told leniently)
+  abbrev pub FollowsStrictly : (before : List Line) (line : Line) → Type 0
+  FollowsStrictly before line = Begins rules Spells (before ++ (line ∷ []))
+
   abbrev pub FollowsLeniently : (before : List Line) (line : Line) → Type 0
   FollowsLeniently before line = Begins (lenient rules) Spells (before ++ (line ∷ []))
 
-  -- the field opens this line, which may stand behind those
-  pub record MayStand (before : List Line) (f : Field) (line : Line) : Type 0 where
-    pub opens : Opens f line
-    pub follows : FollowsLeniently before line
+  -- the field opens this line, which may stand behind those; and there is no such line
+  abbrev pub MayStand : (before : List Line) (f : Field) (line : Line) → Type 0
+  MayStand before f line = Opens f line × FollowsLeniently before line
 
-  -- the field opens an option that was given before, with only options behind it, and may not stand once more
-  pub record GivenAgain (before : List Line) (f : Field) : Type 0 where
-    pub earlier : List Line
-    pub given : Line
-    pub since : List Line
-    pub was : before ≡ earlier ++ (given ∷ since)
-    pub same : Opens f given
-    pub still-open : Each IsOption (given ∷ since)
-    pub not-here : (line : Line) → MayStand before f line → ⊥
+  abbrev pub NothingMayStand : (before : List Line) (f : Field) → Type 0
+  NothingMayStand before f = (line : Line) → MayStand before f line → ⊥
 
-  -- the fault of a line with the fields f ∷ fs behind these lines. Where a name stands does not matter here: the start 0 of `Content` below counts from the line's start
+  -- the fault of a line with the fields f ∷ fs behind these lines. Examples: what stands in the place of yard A's line 8, `checkpoint>1.1.2>7`. Where a name stands does not matter here: the start 0 of `Content` below counts from the line's start
   pub data FieldFault (before : List Line) (f : Field) (fs : List Field) : ℕ → Type 0 where
-    -- 01: 5 "statement unknown, or not at this place (also a wrong count of items)"
-    misplaced : ((line : Line) → MayStand before f line → ⊥) → (GivenAgain before f → ⊥) → FieldFault before f fs 5
-    -- 01: 6 "single option given again"
-    given-again : GivenAgain before f → FieldFault before f fs 6
-    -- 01: 7 "wrong number of fields"
+    -- 01: 5 "statement unknown, or not at this place (also a wrong count of items)": `end_lane`
+    misplaced : NothingMayStand before f → (GivenBefore before f → ⊥) → FieldFault before f fs 5
+    -- 01: 6 "single option given again": `lane_width>12` behind another
+    given-again : NothingMayStand before f → GivenBefore before f → FieldFault before f fs 6
+    -- 01: 7 "wrong number of fields": `checkpoint>1.1.2`
     miscounted : (line : Line) → MayStand before f line → (length (f ∷ fs) ≡ length line → ⊥) → FieldFault before f fs 7
-    -- 01: 8 "field not of its kind (spelling, name length, boundary word)"
-    misspelt : (line : Line) → MayStand before f line → length (f ∷ fs) ≡ length line → ((l : Line) → map kind-of-field l ≡ map kind-of-field line → SpellFields (rules .edition) (f ∷ fs) l → ⊥) → FieldFault before f fs 8
-    -- 01: 9 "value not permitted here (range, not the due identifier, point not of this part, minimum above maximum)"
+    -- 01: 8 "field not of its kind (spelling, name length, boundary word)": `checkpoint>1.1>seven`
+    misspelt : (line : Line) (g : Field) → MayStand before f line → length (f ∷ fs) ≡ length line → FirstMisspelt (rules .edition) (f ∷ fs) (map kind-of-field line) g → FieldFault before f fs 8
+    -- 01: 9 "value not permitted here (range, not the due identifier, point not of this part, minimum above maximum)": `checkpoint>1.1.3>7`
     forbidden : (line l : Line) → MayStand before f line → map kind-of-field l ≡ map kind-of-field line → SpellFields (rules .edition) (f ∷ fs) l → (FollowsLeniently before l → ⊥) → FieldFault before f fs 9
     -- L8: 25 "at a first waypoint that has no fault of 2 to 9", in "a spot whose options give no checkpoint": the line may stand there but for the missing checkpoint
-    unmarked : (l : Line) → SpellFields (rules .edition) (f ∷ fs) l → FollowsLeniently before l → (Begins rules Spells (before ++ (l ∷ [])) → ⊥) → FieldFault before f fs 25
+    unmarked : (l : Line) → SpellFields (rules .edition) (f ∷ fs) l → FollowsLeniently before l → (FollowsStrictly before l → ⊥) → FieldFault before f fs 25
 
   pub data Fault (before : List Line) (line : Bytes) (number : ℕ) : Type 0 where
     -- 01: 2 "line over 512 bytes"; 3 "comment not closed, or followed by more than tabs"; 4 "byte not allowed"
@@ -113,7 +114,7 @@ module _ (rules : Rules) {Net : Type 0} (Spells : Rules → Net → List Line �
     pub this : Bytes
     pub at : LineAt rules text i front this
     pub says : SayLines rules 0 (at .before ++ (this ∷ [])) (front ++ (line ∷ []))
-    pub begins : Begins rules Spells (front ++ (line ∷ []))
+    pub begins : FollowsStrictly front line
 
   -- 01: "the first line with 12 or 13"; "14 to 18 by first line". F: RndfFault n, MdfFault n
   pub record FirstFault (F : List Line → Line → ℕ → Type 0) (text : Bytes) (i k : ℕ) : Type 0 where

@@ -32,25 +32,26 @@ use Rattle.text.specs.Said as Texts
 use Rattle.text.specs.Judge.{Sort, Vals, readAll, Lexis, kindAt, args}
 use Rattle.text.specs.Faults.{Fielded, unknown}
 use Rattle.text.specs.Faults as Old
-use Rattle.text.proofs.FieldReading.{said, read-only, all-only, all-right}
+use Rattle.text.proofs.FieldReading.{said, read-only, all-only}
 use Rattle.text.proofs.FieldReading as Reading
-use Rattle.text.proofs.Telling.{Lawful, line-is, args-spelled, spelled-args}
+use Rattle.text.proofs.Telling.{Lawful, line-is, args-spelled}
 use Rattle.law.specs.Network.{Line, word, numbers, SpellsField, Rules, reading, lenient}
 use Rattle.law.specs.Network as Law
-use Rattle.law.specs.Faults.{kind-of-field, Nth, Opens, keyword, FollowsLeniently, MayStand}
+use Rattle.law.specs.Faults.{kind-of-field, FirstMisspelt, Nth, Opens, keyword, FollowsLeniently, MayStand}
 use Rattle.law.specs.Faults as Faults
 use Rattle.law_spelling.specs.LineOf.{law-line}
-use Rattle.law_faults.proofs.Sorts.{law-said, law-front, of-kind, kind-sorts, made-line, law-line-is}
+use Rattle.law_faults.proofs.Sorts.{law-said, law-front, made-line, law-line-is}
 use Rattle.law_faults.proofs.Needs.{Needs}
 use Rattle.law_faults.proofs.Reached.{laws, Came, line-to, line-back}
 use Rattle.law_faults.proofs.Opening.{opens-word, word-line, digit-opens, opens-kind}
+use Rattle.law_faults.proofs.Misspelt.{misread, first-misspelt}
 use Rattle.law_faults.proofs.LineFaults.{may-to, one-kind, Bare}
 use Rattle.law_columns.specs.Columns.{AtFault, listed, misspelt, forbidden, Column, long, comment, byte, field}
 use Rattle.law_columns.specs.Finding.{badAt, taken?, takes, wrongAt, startOf, behindWord, tests, unlessRefused, kindField, fieldAt, columnOf}
 use Rattle.law_columns.proofs.Bytes.{first-bad}
-use Rattle.law_columns.proofs.Wrong.{Spelled, Wrong, started, misspelt-wrong, Completes, forbidden-wrong}
+use Rattle.law_columns.proofs.Wrong.{Spelled, Wrong, started, Completes, forbidden-wrong}
 use Rattle.law_columns.proofs.Taking.{tested}
-use Rattle.law_columns.proofs.Starting.{SortOf, Lines, first-wrong}
+use Rattle.law_columns.proofs.Starting.{SortOf, misspelt-start, Lines, first-wrong}
 
 -- what is asked of a file: low values, with which what is permitted stays so; a line without a keyword begins with a digit, whatever stands behind its first field
 pub record Lows (ed : Edition) {L : Lang} (A : Machine L) (X : Lexis L) (low : (k : L .Kind) → Vals (X .sorts k)) : Type 0 where
@@ -126,20 +127,15 @@ module _ {ed : Edition} {L : Lang} (strict : Machine L) (X : Lexis L) (line-of :
       may : (v : Pay k) × MayStand (reading (law-of ed)) Spells front f (law (say L k v))
       may = may-to strict X line-of Said Spells first N said p came f k is here
 
-      by-sorts : Lines ed A X ss (M .sorts k) (λ u. Unit {0}) (λ l. map kind-of-field l ≡ map kind-of-field (law (say L k (may .0)))) f fs (X .keyword k)
-      by-sorts = record {
-        opened = opened f k (may .0) (may .1 .opens);
-        to = λ u g. ap (map kind-of-field) (sym (made-line A X line-of W k u)) ∙ kind-sorts A X line-of W k (X .make k u) (may .0);
-        back = λ x l h e.
-            let y = of-kind A X line-of W k (may .0) (x ∷ l) e in
-            (W .parts k (y .0), tt, y .1 ∙ law-line-is A X line-of W k (y .0));
-      }
-
       eight : length fields ≡ length ss → readAll ss fields ≡ none → (g : Field) × AtFault (reading (law-of ed)) Spells front f fs 8 g × (startOf (behindWord (X .keyword k) (wrongAt ss (λ u. true) (low k) fields)) (f ∷ fs) ≡ g .start)
       eight m e =
-          let i = wrongAt ss (λ u. true) (low k) fields in
-          let w = misspelt-wrong ss fields m e (low k) (W .parts k (may .0)) in
-          (w .f, misspelt (law (say L k (may .0))) (may .1) (first-wrong ed A X ss (M .sorts k) (λ u. Unit {0}) (λ l. map kind-of-field l ≡ map kind-of-field (law (say L k (may .0)))) f fs (X .keyword k) by-sorts i w), start-behind ss (λ u. Unit {0}) (X .keyword k) f fs i w)
+          let v = may .0 in
+          let x = first-misspelt A X line-of Said Spells first N p f fs k is v m e in (
+            x .0,
+            misspelt (law (say L k v)) (may .1) (x .1),
+            misspelt-start ed A X ss (M .sorts k) (low k) (W .parts k v) (X .keyword k) (opened f k v (may .1 .0))
+                (subst (λ (l : Line). FirstMisspelt (law-of ed) (f ∷ fs) (map kind-of-field l) (x .0)) (law-line-is A X line-of W k v) (x .1)),
+          )
 
       abbrev test : Vals ss → Bool
       test = takes A X low p k
@@ -150,13 +146,13 @@ module _ {ed : Edition} {L : Lang} (strict : Machine L) (X : Lexis L) (line-of :
       -- the value that may stand, taken
       some-taken : T (test (W .parts k (may .0)))
       some-taken =
-          let y = line-back A X line-of Said Spells first N said p (law (say L k (may .0))) came (may .1 .follows) in
+          let y = line-back A X line-of Said Spells first N said p (law (say L k (may .0))) came (may .1 .1) in
           let e : step A p (say L k (X .make k (W .parts k (may .0)))) ≡ next (y .1) = ap (λ (v : Pay k). step A p (say L k v)) (W .made k (may .0)) ∙ ap (step A p) (N .one (say L k (may .0)) (y .0) (y .2)) ∙ y .3 in
           rw e tt
 
       by-place : Lines ed A X ss (M .sorts k) (λ u. T (test u)) (FollowsLeniently (reading (law-of ed)) Spells front) f fs (X .keyword k)
       by-place = record {
-        opened = opened f k (may .0) (may .1 .opens);
+        opened = opened f k (may .0) (may .1 .0);
         to = λ u g.
             let q = taken u g in
             subst (FollowsLeniently (reading (law-of ed)) Spells front) (made-line A X line-of W k u) (line-to A X line-of Said Spells first N said p (q .0) (say L k (X .make k u)) came (q .1));
@@ -185,7 +181,8 @@ module _ {ed : Edition} {L : Lang} (strict : Machine L) (X : Lexis L) (line-of :
       nine w h n =
           let i = wrongAt ss test (low k) fields in
           let x = forbidden-wrong ss test w (low k) (W .parts k (may .0)) some-taken completes n fields (spelled-all ss fields w h) (all-only ss fields w h .1) in
-          (x .f, forbidden (first-wrong ed A X ss (M .sorts k) (λ u. T (test u)) (FollowsLeniently (reading (law-of ed)) Spells front) f fs (X .keyword k) by-place i x), start-behind ss (λ u. T (test u)) (X .keyword k) f fs i x)
+          let y = first-wrong ed A X ss (M .sorts k) (λ u. T (test u)) (FollowsLeniently (reading (law-of ed)) Spells front) f fs (X .keyword k) by-place i x in
+          (x .f, forbidden (y .before, y .behind, y .among, y .right, y .wrong), start-behind ss (λ u. T (test u)) (X .keyword k) f fs i x)
 
       -- the field that is found
       pub found : (n : ℕ) → length fields ≡ length ss → kindField A X low p n (kindAt A X p f) f fs ≡ behindWord (X .keyword k) (wrongAt ss (tests A X low p k n) (low k) fields)
@@ -197,14 +194,6 @@ module _ {ed : Edition} {L : Lang} (strict : Machine L) (X : Lexis L) (line-of :
       pub by-fields : {f : Field} {fs : List Field} (n : ℕ) → eqb n 2 ≡ false → eqb n 3 ≡ false → eqb n 4 ≡ false → Fielded 0 line f fs → columnOf A X low p n line ≡ suc (startOf (fieldAt A X low p n f fs) (f ∷ fs))
       unfolding columnOf
       by-fields {f} {fs} n a b c h = rw (a, b, c, ended-is (h .ended), content-fields (h .fields))
-
-      -- 8: some field is not of its kind
-      misread : (f : Field) (fs : List Field) (k : Kind) → kindAt A X p f ≡ some k → ((v : Pay k) → Texts.SpellFields (f ∷ fs) (line-of k v) → ⊥) → readAll (X .sorts k) (args A X (X .keyword k) f fs) ≡ none
-      misread f fs k e n = go (readAll (X .sorts k) (args A X (X .keyword k) f fs)) refl
-        where
-          go : (x : Option (Vals (X .sorts k))) → readAll (X .sorts k) (args A X (X .keyword k) f fs) ≡ x → x ≡ none
-          go none q = refl
-          go (some w) q = absurd (n (X .make k w) (spelled-args A X line-of W p f fs k e w (all-right (X .sorts k) (args A X (X .keyword k) f fs) w q)))
 
       pub column-to : (n : ℕ) → Old.Fault A X line-of p 0 line n → Column (reading (law-of ed)) Spells front line n (columnOf A X low p n line)
       unfolding columnOf fieldAt
@@ -219,7 +208,7 @@ module _ {ed : Edition} {L : Lang} (strict : Machine L) (X : Lexis L) (line-of :
       column-to n (Old.given-again h e s) = subst (Column (reading (law-of ed)) Spells front line 6) (sym (by-fields 6 refl refl refl h)) (field (h .ended) (h .fields) (listed (inr (inl refl)) Faults.first))
       column-to n (Old.miscounted h c) = subst (Column (reading (law-of ed)) Spells front line 7) (sym (by-fields 7 refl refl refl (h .fields))) (field (h .fields .ended) (h .fields .fields) (listed (inr (inr (inl refl))) Faults.first))
       column-to n (Old.misspelt {f = f} {fs = fs} {k = k} h c m) =
-          let x = eight f fs k (h .is) (h .here) c (misread f fs k (h .is) m) in
+          let x = eight f fs k (h .is) (h .here) c (misread A X line-of Said Spells first N p f fs k (h .is) m) in
           subst (Column (reading (law-of ed)) Spells front line 8) (ap suc (sym (x .2) ∙ ap (λ (i : ℕ). startOf i (f ∷ fs)) (sym (found f fs k (h .is) (h .here) 8 c))) ∙ sym (by-fields 8 refl refl refl (h .fields))) (field (h .fields .ended) (h .fields .fields) (x .1))
       column-to n (Old.forbidden {f = f} {fs = fs} {k = k} h v s m) =
           let w = W .parts k v in

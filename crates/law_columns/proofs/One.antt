@@ -27,16 +27,18 @@ use Rattle.text.specs.Said as Texts
 use Rattle.text.specs.Judge.{Lexis}
 use Rattle.text.proofs.Telling.{Lawful}
 use Rattle.law.specs.Network.{Line, SpellFields, Rules, reading, lenient}
-use Rattle.law.specs.Faults.{kind-of-field, Nth, Begins, FollowsLeniently, MayStand}
+use Rattle.law.specs.Faults.{FieldKind, kind-of-field, FirstMisspelt, Nth, Begins, FollowsLeniently, MayStand}
 use Rattle.law.specs.Faults as Faults
 use Rattle.law_spelling.specs.LineOf.{law-line}
 use Rattle.law_faults.proofs.Sorts.{kind-sorts}
 use Rattle.law_faults.proofs.Needs.{Needs}
 use Rattle.law_faults.proofs.Reached.{laws, split, Came, begins-back, run-parts}
+use Rattle.law_faults.proofs.Misspelt.{misspelt-one}
 use Rattle.law_faults.proofs.LineFaults.{may-back, one-kind}
-use Rattle.law_columns.specs.Columns.{which-field, Start, FirstWrongField, AtFault, listed, misspelt, forbidden, Column, long, comment, byte, field}
+use Rattle.law_columns.specs.Columns.{which-field, AtFault, listed, misspelt, forbidden, Column, long, comment, byte, field}
 use Rattle.law_columns.specs.Finding.{badAt, listedAt}
 use Rattle.law_columns.proofs.Bytes.{bad-at}
+use Rattle.law_columns.proofs.Starting.{Start, FirstWrongField}
 
 -- ## The first wrong field
 first-of : (P : List Field → Type 0) → ((a b : List Field) → P (a ++ b) → P a) → (a b c d : List Field) (f g : Field) → a ++ (f ∷ b) ≡ c ++ (g ∷ d) → P a → (P (a ++ (f ∷ [])) → ⊥) → P c → (P (c ++ (g ∷ [])) → ⊥) → f ≡ g
@@ -129,7 +131,7 @@ module _ {ed : Edition} {L : Lang} (strict : Machine L) (X : Lexis L) (line-of :
   -- the lines that a field opens there are of the same sorts
   same-sorts : (front : List Line) (f : Field) (l m : Line) → MayStand (reading (law-of ed)) Spells front f l → MayStand (reading (law-of ed)) Spells front f m → map kind-of-field l ≡ map kind-of-field m
   same-sorts front f l m a b =
-      let r = reached A X line-of Said Spells first N front l (a .follows) in
+      let r = reached A X line-of Said Spells first N front l (a .1) in
       there (r .0) (r .1) (r .3) (subst (λ (x : List Line). MayStand (reading (law-of ed)) Spells x f l) (r .2) a) (subst (λ (x : List Line). MayStand (reading (law-of ed)) Spells x f m) (r .2) b)
     where
       there : (said : List (S L)) (p : Place A) → Came A X line-of Said Spells first N said p → MayStand (reading (law-of ed)) Spells (laws line-of said) f l → MayStand (reading (law-of ed)) Spells (laws line-of said) f m → map kind-of-field l ≡ map kind-of-field m
@@ -144,13 +146,13 @@ module _ {ed : Edition} {L : Lang} (strict : Machine L) (X : Lexis L) (line-of :
   -- ## The field at fault
   data Which (front : List Line) (f : Field) (fs : List Field) (n : ℕ) (g : Field) : Type 0 where
     by-list : (i : ℕ) → Listed n i → Nth i g (f ∷ fs) → Which front f fs n g
-    by-sorts : n ≡ 8 → (line : Line) → MayStand (reading (law-of ed)) Spells front f line → FirstWrongField (law-of ed) (λ l. map kind-of-field l ≡ map kind-of-field line) (f ∷ fs) g → Which front f fs n g
+    by-sorts : n ≡ 8 → (line : Line) → MayStand (reading (law-of ed)) Spells front f line → FirstMisspelt (law-of ed) (f ∷ fs) (map kind-of-field line) g → Which front f fs n g
     by-place : n ≡ 9 → FirstWrongField (law-of ed) (FollowsLeniently (reading (law-of ed)) Spells front) (f ∷ fs) g → Which front f fs n g
 
   which : {front : List Line} {f : Field} {fs : List Field} {n : ℕ} {g : Field} → AtFault (reading (law-of ed)) Spells front f fs n g → Which front f fs n g
   which (listed {i = i} a h) = by-list i (listed-is a) h
   which (misspelt line m w) = by-sorts refl line m w
-  which (forbidden w) = by-place refl w
+  which (forbidden w) = by-place refl (record { before = w .0; behind = w .1; among = w .2; right = w .3; wrong = w .4 })
 
   not-apart : {Y : Type 0} {n m : ℕ} → n ≡ m → apart m ≡ true → apart n ≡ false → Y
   not-apart e t h = clash (sym t ∙ ap apart (sym e) ∙ h)
@@ -160,7 +162,7 @@ module _ {ed : Edition} {L : Lang} (strict : Machine L) (X : Lexis L) (line-of :
   one-field front f fs n g h (by-list i a x) (by-sorts e l m w) = not-apart e refl (a .1)
   one-field front f fs n g h (by-list i a x) (by-place e w) = not-apart e refl (a .1)
   one-field front f fs n g h (by-sorts e l m w) (by-list j b y) = not-apart e refl (b .1)
-  one-field front f fs n g h (by-sorts e l m w) (by-sorts e′ l′ m′ w′) = first-wrong-one ed (λ x. map kind-of-field x ≡ map kind-of-field l) (f ∷ fs) g h w (subst (λ (s : List _). FirstWrongField (law-of ed) (λ x. map kind-of-field x ≡ s) (f ∷ fs) h) (same-sorts front f l′ l m′ m) w′)
+  one-field front f fs n g h (by-sorts e l m w) (by-sorts e′ l′ m′ w′) = misspelt-one w (subst (λ (ks : List FieldKind). FirstMisspelt (law-of ed) (f ∷ fs) ks h) (same-sorts front f l′ l m′ m) w′)
   one-field front f fs n g h (by-sorts e l m w) (by-place e′ w′) = absurd (omega arith)
   one-field front f fs n g h (by-place e w) (by-list j b y) = not-apart e refl (b .1)
   one-field front f fs n g h (by-place e w) (by-sorts e′ l m w′) = absurd (omega arith)

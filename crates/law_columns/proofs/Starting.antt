@@ -1,8 +1,9 @@
--- From values to fields: where values are the first wrong ones, the field is the first wrong field of the line. For every file. Assumes nothing.
+-- From values to fields: where values are the first wrong ones, the field is the first wrong field of the line; and where the first starts that is not of its kind. For every file. Assumes nothing.
 use mathlib.Core.Path.{_≡_, refl, sym, ap, subst, _∙_}
 use mathlib.Core.List.{List, [], _∷_, _++_, map, head-eq-of-cons-eq, tail-eq-of-cons-eq}
 use mathlib.Core.Option.{Option, none, some}
-use Prim.Native.Nat.{ℕ}
+use mathlib.Core.Bool.{true}
+use Prim.Native.Nat.{ℕ, suc}
 use Rattle.terms.specs.Ascii.{Bytes}
 use Rattle.terms.specs.Words.{Each}
 use Rattle.line.specs.Content.{Field}
@@ -10,16 +11,31 @@ use Rattle.grammar.specs.Editions.{Edition, law-of}
 use Rattle.grammar.specs.Language.{Lang}
 use Rattle.grammar.specs.Machine.{Machine}
 use Rattle.text.specs.Said as Old
-use Rattle.text.specs.Judge.{Sort, a-name, an-integer, a-pair, a-triple, a-coordinate, a-boundary, Val, Vals, Lexis, args}
+use Rattle.text.specs.Judge.{Sort, a-name, an-integer, a-pair, a-triple, a-coordinate, a-boundary, Val, read, Vals, Lexis, args}
 use Rattle.text.proofs.FieldReading.{says, said, read-right, read-only}
 use Rattle.text.proofs.Telling.{in-front}
 use Rattle.law.specs.Network.{Said, Line, word, SpellsField, SpellFields}
+use Rattle.law.specs.Network as Law
+use Rattle.law.specs.Faults.{kind-of-field, FirstMisspelt, here, further}
 use Rattle.law_spelling.specs.LineOf.{said-of, Of}
 use Rattle.law_spelling.proofs.Fields.{field-to, field-back}
 use Rattle.law_faults.proofs.Sorts.{law-said, law-front}
 use Rattle.law_faults.proofs.Reached.{cons-nil}
-use Rattle.law_columns.specs.Columns.{Start, FirstWrongField}
+use Rattle.law_faults.proofs.Misspelt.{kind-read, read-kind}
+use Rattle.law_columns.specs.Finding.{onRead, wrongAt, startOf, behindWord}
 use Rattle.law_columns.proofs.Wrong.{Spelled, Wrong}
+
+-- Is: which lines are meant. One of them begins with what these fields say
+abbrev pub Start : Law.Edition → (Is : Line → Type 0) → List Field → Type 0
+Start edition Is fields = (said : Line) × (rest : Line) × SpellFields edition fields said × Is (said ++ rest)
+
+-- the first field with which none of the lines that are meant is left
+pub record FirstWrongField (edition : Law.Edition) (Is : Line → Type 0) (fields : List Field) (f : Field) : Type 0 where
+  pub before : List Field
+  pub behind : List Field
+  pub among : fields ≡ before ++ (f ∷ behind)
+  pub right : Start edition Is before
+  pub wrong : Start edition Is (before ++ (f ∷ [])) → ⊥
 
 -- a sort of boundaries is of this edition
 abbrev pub SortOf : Edition → Sort → Type 0
@@ -38,6 +54,28 @@ says-of e a-triple h v = tt
 says-of e a-coordinate h v = tt
 says-of e (a-boundary d) h v = h
 
+-- ## 8
+-- where values are looked for from the left, the first field that is not of its kind is found ..
+misspelt-at : (ed : Edition) (ss : List Sort) → Each (SortOf ed) ss → (low w : Vals ss) {fs : List Field} {g : Field} → FirstMisspelt (law-of ed) fs (map kind-of-field (law-said ss w)) g → startOf (wrongAt ss (λ u. true) low fs) fs ≡ g .start
+unfolding wrongAt
+misspelt-at ed (s ∷ []) o low w (here n) = refl
+misspelt-at ed (s ∷ z ∷ ss) o low w (here {g = f} {fs = fs} n) = go (read s f) refl
+  where
+    go : (x : Option (Val s)) → read s f ≡ x → startOf (onRead x (λ v. suc (wrongAt (z ∷ ss) (λ u. true) (low .1) fs))) (f ∷ fs) ≡ f .start
+    go none q = refl
+    go (some u) q = let y = read-kind ed s (w .0) (says-of ed s (o .0) (w .0)) f u q in absurd (n (said-of (says s u)) (y .0) (y .1))
+misspelt-at ed (s ∷ z ∷ ss) o low w (further {f = f} x k h m) =
+    let y = kind-read ed s (w .0) (says-of ed s (o .0) (w .0)) f x k h in
+    rw (y .1) (misspelt-at ed (z ∷ ss) (o .1) (low .1) (w .1) m)
+
+-- .. also behind the keyword, where there is one
+pub misspelt-start : (ed : Edition) {L : Lang} (A : Machine L) (X : Lexis L) (ss : List Sort) → Each (SortOf ed) ss → (low w : Vals ss) (o : Option Bytes) {f : Field} {fs : List Field} {g : Field} → ((b : Bytes) → o ≡ some b → f .bytes ≡ b)
+    → FirstMisspelt (law-of ed) (f ∷ fs) (map kind-of-field (law-front o ++ law-said ss w)) g → startOf (behindWord o (wrongAt ss (λ u. true) low (args A X o f fs))) (f ∷ fs) ≡ g .start
+misspelt-start ed A X ss of low w none h m = misspelt-at ed ss of low w m
+misspelt-start ed A X ss of low w (some b) h (here n) = absurd (n (word b) refl (h b refl))
+misspelt-start ed A X ss of low w (some b) h (further x k j m) = misspelt-at ed ss of low w m
+
+-- ## 9
 -- fields that spell the first values spell the first of what is said ..
 pub spelled-to : (ed : Edition) (ss : List Sort) → Each (SortOf ed) ss → (fs : List Field) (u : Vals ss) → Spelled ss fs u → (a : Line) × (r : Line) × (law-said ss u ≡ a ++ r) × SpellFields (law-of ed) fs a
 spelled-to ed ss o [] u h = ([], law-said ss u, refl, tt)

@@ -1,4 +1,4 @@
--- The first value of a line that is not of its sort, and the first with which no permitted values go on. Over values alone: no line, no place. Assumes nothing.
+-- The first value of a line with which no permitted values go on. Over values alone: no line, no place. Assumes nothing.
 use mathlib.Core.Path.{_≡_, refl, sym, ap, subst, _∙_}
 use mathlib.Core.List.{List, [], _∷_, _++_}
 use mathlib.Core.Option.{Option, none, some}
@@ -8,9 +8,8 @@ use native.Mathlib.Omega.{arith}
 use lib.ListN.{length}
 use lib.Dec.{T}
 use Rattle.terms.specs.Words.{pick}
-use Rattle.terms.proofs.Tests.{nothing}
 use Rattle.line.specs.Content.{Field}
-use Rattle.text.specs.Judge.{Sort, Val, read, Vals, both, readAll}
+use Rattle.text.specs.Judge.{Sort, Val, read, Vals}
 use Rattle.law_columns.specs.Finding.{onRead, wrongAt, startOf}
 
 -- the fields spell the first of these values
@@ -36,41 +35,9 @@ pub started : (before : List Field) (f : Field) (behind : List Field) → startO
 started [] f behind = refl
 started (g ∷ before) f behind = started before f behind
 
--- ## 8
 one-value : {A : Type 0} {o : Option A} {a b : A} → o ≡ some a → o ≡ some b → a ≡ b
 one-value {o = o} {a = a} {b = b} e f = let h : some a ≡ some b = sym e ∙ f in cc
 
--- the one that is left
-all-but : {A B : Type 0} (x : Option A) (y : Option B) (w : A) → x ≡ some w → both x y ≡ none → y ≡ none
-all-but (some a) (some b) w q e = nothing (sym e)
-all-but (some a) none w q e = refl
-all-but none y w q e = nothing q
-
-here-misspelt : (s : Sort) (ss : List Sort) (f : Field) (fs : List Field) → Vals (s ∷ ss) → read s f ≡ none → Wrong (s ∷ ss) (λ u. Unit {0}) (f ∷ fs) 0
-here-misspelt s ss f fs v q = record { before = []; f = f; behind = fs; among = refl; at = refl; u = v; good = tt; right = tt; wrong = λ u g h. nothing (sym q ∙ h .0) }
-
-pub misspelt-wrong : (ss : List Sort) (fs : List Field) → length fs ≡ length ss → readAll ss fs ≡ none → (low v : Vals ss) → Wrong ss (λ u. Unit {0}) fs (wrongAt ss (λ u. true) low fs)
-unfolding wrongAt
-misspelt-wrong [] [] n e low v = nothing (sym e)
-misspelt-wrong [] (f ∷ fs) n e low v = absurd (omega arith)
-misspelt-wrong (s ∷ []) [] n e low v = absurd (omega arith)
-misspelt-wrong (s ∷ []) (f ∷ []) n e low v = here-misspelt s [] f [] v (go (read s f) e)
-  where
-    go : (x : Option (Val s)) → both x (some (tt {0})) ≡ none → x ≡ none
-    go none e = refl
-    go (some w) e = nothing (sym e)
-misspelt-wrong (s ∷ []) (f ∷ g ∷ fs) n e low v = absurd (omega arith)
-misspelt-wrong (s ∷ z ∷ ss) [] n e low v = absurd (omega arith)
-misspelt-wrong (s ∷ z ∷ ss) (f ∷ fs) n e low v = go (read s f) refl e (λ e. misspelt-wrong (z ∷ ss) fs (omega arith) e (low .1) (v .1))
-  where
-    go : (x : Option (Val s)) → read s f ≡ x → both x (readAll (z ∷ ss) fs) ≡ none → (readAll (z ∷ ss) fs ≡ none → Wrong (z ∷ ss) (λ u. Unit {0}) fs (wrongAt (z ∷ ss) (λ u. true) (low .1) fs))
-        → Wrong (s ∷ z ∷ ss) (λ u. Unit {0}) (f ∷ fs) (onRead x (λ v. suc (wrongAt (z ∷ ss) (λ u. true) (low .1) fs)))
-    go (some w) q e ih =
-        let r = ih (all-but (some w) (readAll (z ∷ ss) fs) w refl e) in
-        record { before = f ∷ r .before; f = r .f; behind = r .behind; among = ap (_∷_ f) (r .among); at = ap suc (r .at); u = (w, r .u); good = tt; right = (q, r .right); wrong = λ u g h. r .wrong (u .1) tt (h .1) }
-    go none q e ih = here-misspelt s (z ∷ ss) f fs v q
-
--- ## 9
 -- what is permitted stays so with low values from any place on
 abbrev pub Completes : (ss : List Sort) → (Vals ss → Bool) → Vals ss → Type 0
 Completes [] test low = Unit {0}

@@ -97,7 +97,7 @@ module _ {ed : Edition} {rules : Rules} {L : Lang} (A : Machine L) (X : Lexis L)
     where
       go : (o : Option Bytes) → X .keyword k ≡ o → Listed o → IsOption (law (say L k v))
       go none e h = absurd h
-      go (some w) e h = record { first = w; others = _; is = word-line A X line-of Said Spells first N k v w e; listed = h }
+      go (some w) e h = (w, _, word-line A X line-of Said Spells first N k v w e, h)
 
   -- an option of a row is one of the law's
   row-option : (row : List (Opt Kind Pay)) (before : List Kind) (s : S L) → Each (λ o. Listed (X .keyword (o .on))) row → Allowed L row before s → IsOption (law s)
@@ -213,8 +213,8 @@ module _ {ed : Edition} {rules : Rules} {L : Lang} (A : Machine L) (X : Lexis L)
   -- .. and where it does, the place is still among the same options: it may not stand, or it may come again
   not-due : (b : A .Base) (s : S L) (v : Pay (A .due b .on)) → s ≡ say L (A .due b .on) v → IsOption (law s) → ⊥
   not-due b s v e o =
-      let w = word-kind A X line-of Said Spells first N (A .due b .on) v (o .first) (o .others) (ap law (sym e) ∙ o .is) in
-      N .unlisted b (subst Listed (sym w) (o .listed))
+      let w = word-kind A X line-of Said Spells first N (A .due b .on) v (o .0) (o .1) (ap law (sym e) ∙ o .2) in
+      N .unlisted b (subst Listed (sym w) (o .3))
 
   options-stay : (b : A .Base) (before : List Kind) (g : List Bool) (l : List (S L)) (q : Place A) → Agrees L (A .opts b) before g → Each IsOption (laws line-of l) → run A (inside b g) l ≡ next q
       → (after : List Kind) × (g′ : List Bool) × (q ≡ inside b g′) × Agrees L (A .opts b) after g′

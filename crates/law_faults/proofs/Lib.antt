@@ -3,6 +3,7 @@ pub mod Moved
 pub mod Needs
 pub mod Reached
 pub mod Opening
+pub mod Misspelt
 pub mod Again
 pub mod LineFaults
 pub mod Unmarked

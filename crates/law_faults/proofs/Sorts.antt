@@ -72,7 +72,7 @@ three [] e = absurd (omega arith)
 three (a ∷ l) e = let x = two l (omega arith) in (a, x .0, x .1, ap (_∷_ a) (x .2))
 
 -- what has the sort of a value is a value of that sort
-of-sort : (s : Judge.Sort) (v : Val s) (x : Said) → kind-of-field x ≡ kind-of-field (said-of (says s v)) → (u : Val s) × (x ≡ said-of (says s u))
+pub of-sort : (s : Judge.Sort) (v : Val s) (x : Said) → kind-of-field x ≡ kind-of-field (said-of (says s v)) → (u : Val s) × (x ≡ said-of (says s u))
 of-sort a-name v x e = is-name x e
 of-sort an-integer v x e =
     let i = is-numbers 1 x e in
@@ -89,7 +89,7 @@ of-sort a-triple v x e =
 of-sort a-coordinate v x e = is-coordinate x e
 of-sort (a-boundary d) v x e = is-boundary x e
 
-one-sort : (s : Judge.Sort) (u v : Val s) → kind-of-field (said-of (says s u)) ≡ kind-of-field (said-of (says s v))
+pub one-sort : (s : Judge.Sort) (u v : Val s) → kind-of-field (said-of (says s u)) ≡ kind-of-field (said-of (says s v))
 one-sort a-name u v = refl
 one-sort an-integer u v = refl
 one-sort a-pair u v = refl
