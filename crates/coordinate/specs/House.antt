@@ -1,8 +1,6 @@
 -- WHAT A READER MUST BELIEVE. The house spelling of coordinates: how the writer spells them. Assumes nothing.
-use mathlib.Core.List.{_++_}
-use Prim.Native.Nat.{ℕ, suc, _/_, _%_}
-use lib.IntN.{ℤ, pos, negsuc}
-use Rattle.terms.specs.Ascii.{Bytes, ascii}
+use Rattle.terms.specs.Words.{_++_, ℕ, suc, _/_, _%_, ℤ, pos, Bytes, ascii}
+use lib.IntN.{negsuc}
 use Rattle.number.specs.Decimal.{decimal, padded}
 
 -- so many millionths of a degree: whole degrees, a point and six digits

@@ -10,7 +10,9 @@ use Rattle.terms.specs.Words.{pick}
 use Rattle.scan.specs.Allowed.{separates, outside, inside, all}
 use Rattle.scan.specs.Reach.{two, upTo, reach, stopsBy}
 use Rattle.scan.specs.declared.Until.the-variants.{Two, Separator, NotSeparator}
-use Rattle.line.specs.Content.{Field, at, parted, longest}
+use Rattle.line.specs.Content.{Field, at, longest}
+pub use Rattle.line.specs.Cutting.{glue}
+unfoldable pub use Rattle.line.specs.Cutting.{outerOf, fieldsAt}
 use Rattle.line.specs.declared.Form.{Form}
 use Rattle.line.specs.declared.Form.the-variants.{Bad, Body}
 use Rattle.line.specs.declared.Span.{Span}
@@ -23,11 +25,7 @@ opens = stopsBy (Two (code "/") (code "*"))
 abbrev pub shuts : Bytes → Bool
 shuts = stopsBy (Two (code "*") (code "/"))
 
--- what stands before the first `/*`, and from there on
-unfoldable pub outerOf : Bytes → Bytes
-outerOf [] = []
-outerOf (b ∷ rest) = pick (two (code "/") (code "*") (b ∷ rest)) [] (b ∷ outerOf rest)
-
+-- from the first `/*` on
 unfoldable pub noteOf : Bytes → Bytes
 noteOf [] = []
 noteOf (b ∷ rest) = pick (two (code "/") (code "*") (b ∷ rest)) (b ∷ rest) (noteOf rest)
@@ -54,16 +52,6 @@ unfoldable pub formOf : Bytes → Form
 formOf content = pick (leb (length content) longest) (pick (shut content) (pick (clean content) (Body (upTo opens content)) (Bad 4)) (Bad 3)) (Bad 2)
 
 -- ## The fields
--- a byte in front: a field of its own, or of the next field
-abbrev pub glue : Bool → ℕ → ℕ → List Field → List Field
-glue true start b fields = at start (b ∷ []) ∷ fields
-glue false start b [] = at start (b ∷ []) ∷ []
-glue false start b (f ∷ fields) = at start (b ∷ f .bytes) ∷ fields
-
-unfoldable pub fieldsAt : ℕ → Bytes → List Field
-fieldsAt start [] = []
-fieldsAt start (b ∷ rest) = pick (separates b) (fieldsAt (suc start) rest) (glue (parted rest) start b (fieldsAt (suc start) rest))
-
 -- the first field from a place on; an empty stretch where there is none
 unfoldable pub spanAt : Bytes → ℕ → Span
 spanAt s from =

@@ -2,6 +2,7 @@
 pub mod Line
 pub mod Text
 pub mod Content
+pub mod Cutting
 pub mod Faults
 pub mod Located
 pub mod Lines

@@ -2,12 +2,11 @@
 use Rattle.terms.specs.Words.{List, [], _∷_, _++_, map, Bool, false, not, _&&_, _||_, ℕ, suc, _+_, String, length, take, drop, eqb, leb, Bytes, ascii, pick}
 use lib.ListN.{getD}
 use Rattle.scan.specs.Allowed.{digit}
-use Rattle.scan.specs.Reach.{begins, sameBytes}
+use Rattle.scan.specs.Begins.{begins, sameBytes}
 use Rattle.line.specs.Line.{Field}
-use Rattle.line.specs.Lines.{linesOf, dropCr}
-use Rattle.line.specs.Forms.{outerOf, fieldsAt}
+use Rattle.line.specs.Cutting.{linesOf, dropCr, outerOf, fieldsAt}
 use Rattle.number.specs.Decimal.{decimal}
-use Rattle.number.specs.Executable.{integerOf}
+use Rattle.number.specs.Integer.{integerOf}
 use Rattle.number.specs.declared.Number.{Number}
 use Rattle.number.specs.declared.Number.the-variants.{Is, No}
 use Rattle.law.specs.Network.{largest}

@@ -1,7 +1,7 @@
 -- WHAT A READER MUST BELIEVE. What the mending tool replies, and what the lent list and the lent output then hold. Request L9. Assumes nothing.
 use Rattle.terms.specs.Words.{_≡_, List, ℕ, _/_, _≤_, _<_, length, replicate, Bytes}
 use Rattle.line.specs.Line.{Field}
-use Rattle.line.specs.Lines.{linesOf}
+use Rattle.line.specs.Cutting.{linesOf}
 use Rattle.law.specs.Network.{Network, Rules}
 use Rattle.law.specs.Tables.{Lent, holding}
 use Rattle.output.specs.Output.{zeros, Fits, filled}

@@ -10,6 +10,7 @@ use Rattle.terms.specs.Words.{pick}
 use Rattle.scan.specs.Allowed.{digit, all}
 use Rattle.scan.specs.Reach.{upTo, stopsBy}
 use Rattle.scan.specs.declared.Until.the-variants.{Byte}
+unfoldable pub use Rattle.number.specs.Integer.{worth, plain, plainOf, integerOf}
 use Rattle.number.specs.declared.Number as DN
 use Rattle.number.specs.declared.Number.the-variants as N
 use Rattle.number.specs.declared.Pair as DP
@@ -18,33 +19,16 @@ use Rattle.number.specs.declared.Triple as DT
 use Rattle.number.specs.declared.Triple.the-variants as T
 
 -- ## Digits
--- what digits are worth behind v
-unfoldable pub worth : ℕ → Bytes → ℕ
-worth v [] = v
-worth v (b ∷ t) = worth (v * 10 + (b - code "0")) t
-
 abbrev pub digits : Bytes → Bool
 digits s = all digit s
-
--- digits with no zero in front, but a single zero
-unfoldable pub plain : Bytes → Bool
-plain [] = false
-plain (b ∷ t) = pick (eqb b (code "0")) (eqb (length t) 0) (digits (b ∷ t))
 
 -- digits alone, leading zeros too
 unfoldable pub numberOf : Bytes → DN.Number
 numberOf s = pick (digits s) (N.Is (worth 0 s)) N.No
 
-unfoldable pub plainOf : Bytes → DN.Number
-plainOf s = pick (plain s) (N.Is (worth 0 s)) N.No
-
 -- as the program answers: more than nine digits are no number
 abbrev pub ifFew : Bytes → DN.Number → DN.Number
 ifFew s n = pick (leb (length s) 9) n N.No
-
--- ## Integers
-unfoldable pub integerOf : Bytes → DN.Number
-integerOf s = pick (leb (length s) 5) (plainOf s) N.No
 
 -- ## Identifiers
 -- where the first dot stands; the length where there is none

@@ -1,4 +1,4 @@
--- WHAT A READER MUST BELIEVE. What each answer of the program says of the field. `No` is 01's refusal 8: "field not of its kind (spelling ..)".
+-- What each answer of the program says of the field. `No` is 01's refusal 8: "field not of its kind (spelling ..)".
 -- Assumes nothing.
 use Prim.Native.Nat.{ℕ}
 use Rattle.terms.specs.Ascii.{Bytes}

@@ -1,10 +1,12 @@
 -- WHAT A READER MUST BELIEVE. Which bytes separate fields, which are allowed outside and inside comments. Assumes nothing.
 use Rattle.terms.specs.Words.{[], _∷_, Bool, true, not, _&&_, _||_, ℕ, code, eqb, leb, Bytes}
-pub use Rattle.scan.specs.Digit.{digit}
 
 -- the numbers from m to n
 abbrev pub within : ℕ → ℕ → ℕ → Bool
 within m n b = leb m b && leb b n
+
+abbrev pub digit : ℕ → Bool
+digit b = within (code "0") (code "9") b
 
 -- 01: "Fields are separated by one or more tabs": the rule before L3
 abbrev pub tab : ℕ → Bool

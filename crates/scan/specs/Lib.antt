@@ -1,4 +1,4 @@
 -- Which bytes are what, and how far a scan goes.
-pub mod Digit
 pub mod Allowed
+pub mod Begins
 pub mod Reach

@@ -1,6 +1,6 @@
--- Executable: where a scan stops, and whether two stretches of bytes are the same. Assumes nothing.
+-- Executable: where a scan stops. Assumes nothing.
 use mathlib.Core.List.{[], _∷_}
-use mathlib.Core.Bool.{Bool, true, false, not, _&&_}
+use mathlib.Core.Bool.{Bool, false, not, _&&_}
 use Prim.Native.Nat.{ℕ, suc, _+_}
 use Prim.Native.Char.{code}
 use lib.ListN.{drop}
@@ -8,6 +8,7 @@ use lib.Dec.{eqb}
 use Rattle.terms.specs.Ascii.{Bytes}
 use Rattle.terms.specs.Words.{pick}
 use Rattle.scan.specs.Allowed.{separates, outside, inside, digit}
+unfoldable pub use Rattle.scan.specs.Begins.{begins, first, two, sameBytes}
 use Rattle.scan.specs.declared.Until.{Until}
 use Rattle.scan.specs.declared.Until.the-variants.{Byte, Two, Separator, NotSeparator, NotOutside, NotInside, NotDigit}
 
@@ -20,23 +21,10 @@ upTo test (b ∷ rest) = pick (test (b ∷ rest)) 0 (suc (upTo test rest))
 abbrev pub reach : (Bytes → Bool) → Bytes → ℕ → ℕ
 reach test s from = from + upTo test (drop from s)
 
--- it begins with a byte that passes; with one that fails
-unfoldable pub begins : (ℕ → Bool) → Bytes → Bool
-begins test [] = false
-begins test (b ∷ rest) = test b
-
+-- it begins with a byte that fails
 unfoldable pub fails : (ℕ → Bool) → Bytes → Bool
 fails test [] = false
 fails test (b ∷ rest) = not (test b)
-
--- it begins with x; with x and y
-unfoldable pub first : ℕ → Bytes → Bool
-first x [] = false
-first x (b ∷ rest) = eqb b x
-
-unfoldable pub two : ℕ → ℕ → Bytes → Bool
-two x y [] = false
-two x y (b ∷ rest) = eqb b x && first y rest
 
 -- what a scan stops at
 unfoldable pub stopsBy : Until → Bytes → Bool
@@ -55,10 +43,3 @@ other x b = not (eqb b x)
 -- a byte that is allowed outside comments and opens none
 abbrev pub plain : ℕ → Bool
 plain b = outside b && other (code "/") b
-
--- byte for byte
-unfoldable pub sameBytes : Bytes → Bytes → Bool
-sameBytes [] [] = true
-sameBytes [] (b ∷ m) = false
-sameBytes (a ∷ l) [] = false
-sameBytes (a ∷ l) (b ∷ m) = eqb a b && sameBytes l m
