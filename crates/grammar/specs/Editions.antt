@@ -3,15 +3,11 @@ use mathlib.Core.Bool.{Bool, true, false}
 use Prim.Native.Nat.{ℕ, _≤_}
 use Rattle.terms.specs.Words.{Between}
 use Rattle.law.specs.Network.{Boundary, double-yellow, solid-yellow, solid-white, broken-white, largest}
-use Rattle.law.specs.Network as Law
-
-pub data Edition : Type 0 where
-  march december : Edition
+pub use Rattle.law.specs.Network.{Edition, march-2007 as march, december-2006 as december}
 
 -- as the law has them
-abbrev pub law-of : Edition → Law.Edition
-law-of march = Law.march-2007
-law-of december = Law.december-2006
+abbrev pub law-of : Edition → Edition
+law-of e = e
 
 -- L10: "`solid_yellow` was not yet a boundary"
 abbrev pub has-boundary : Edition → Boundary → Bool

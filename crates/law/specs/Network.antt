@@ -9,18 +9,19 @@ use Rattle.coordinate.specs.Spelling.{SpellsCoordinate}
 pub data Boundary : Type 0 where
   double-yellow solid-yellow solid-white broken-white : Boundary
 
--- ## Editions. L10: "State the common grammar once over the edition": which boundaries there are, and how few spots a zone may have
-pub record Edition : Type 0 where
-  pub boundaries : List Boundary
-  pub fewest-spots : ℕ
+-- ## Editions. L10: "State the common grammar once over the edition". The present one, 01: ""Source 004" is the RNDF and MDF format document of March 14, 2007"; the older one, L10: "as it stood on December 6, 2006 .. the rest we read by the present rules"
+pub data Edition : Type 0 where
+  march-2007 december-2006 : Edition
 
--- the present edition. 01: ""Source 004" is the RNDF and MDF format document of March 14, 2007"; "each of `double_yellow`, `solid_yellow`, `solid_white`, `broken_white`"; "`num_spots` ≥ 0"
-abbrev pub march-2007 : Edition
-march-2007 = record { boundaries = double-yellow ∷ solid-yellow ∷ solid-white ∷ broken-white ∷ []; fewest-spots = 0 }
+-- which boundaries there are. 01: "each of `double_yellow`, `solid_yellow`, `solid_white`, `broken_white`"; L10: "`solid_yellow` was not yet a boundary"
+abbrev pub boundaries : Edition → List Boundary
+boundaries march-2007 = double-yellow ∷ solid-yellow ∷ solid-white ∷ broken-white ∷ []
+boundaries december-2006 = double-yellow ∷ solid-white ∷ broken-white ∷ []
 
--- the older edition. L10: "as it stood on December 6, 2006 .. `solid_yellow` was not yet a boundary, and the note of February 20 is what allowed a zone without spots; the rest we read by the present rules"
-abbrev pub december-2006 : Edition
-december-2006 = record { boundaries = double-yellow ∷ solid-white ∷ broken-white ∷ []; fewest-spots = 1 }
+-- how few spots a zone may have. 01: "`num_spots` ≥ 0"; L10: "the note of February 20 is what allowed a zone without spots"
+abbrev pub fewest-spots : Edition → ℕ
+fewest-spots march-2007 = 0
+fewest-spots december-2006 = 1
 
 -- ## What is said
 -- 01: "**Identifiers**: integers joined by dots": x.y.z
@@ -57,7 +58,7 @@ pub record Lane : Type 0 where
   pub exits : List Exit
   pub points : List Position
 
--- N: what stands for a name: its field, with its place, while a text is read; its bytes in a network (grammar/specs/Names). 01: "A network or mission is its tables with each name's bytes in place of start and length."
+-- N: what stands for a name: its field, with its place, while a text is read; its bytes in a network (Same). 01: "A network or mission is its tables with each name's bytes in place of start and length."
 pub record Segment (N : Type 0) : Type 0 where
   pub name : Option N
   pub lanes : List Lane
@@ -184,7 +185,7 @@ module _ (edition : Edition) where
   SpellsField f (name g) = (f ≡ g) × Between 1 128 (length (f .bytes))
   SpellsField f (numbers l) = (f .bytes ≡ dotted l) × Each (λ n. n ≤ 99999) l
   SpellsField f (coordinate z) = SpellsCoordinate (f .bytes) z
-  SpellsField f (boundary b) = (f .bytes ≡ boundary-word b) × Among b (edition .boundaries)
+  SpellsField f (boundary b) = (f .bytes ≡ boundary-word b) × Among b (boundaries edition)
 
   -- fields, one for one
   abbrev pub SpellFields : List Field → Line → Type 0
@@ -290,7 +291,7 @@ module _ (rules : Rules) where
   pub record SpellsZone (m : ℕ) (a : Zone Field) (l : List Line) : Type 0 where
     pub border : List Line
     pub spots : List Line
-    pub count : Between (rules .edition .fewest-spots) largest (length (a .spots))
+    pub count : Between (fewest-spots (rules .edition)) largest (length (a .spots))
     pub bordered : SpellsPerimeter m (a .border) border
     pub each : InTurn (SpellsSpot m) 1 (a .spots) spots
     pub spelled : l ≡ line "zone" (numbers (m ∷ []) ∷ []) ∷ line "num_spots" (numbers (length (a .spots) ∷ []) ∷ []) ∷ map (λ v. line "zone_name" (name v ∷ [])) (perhaps (a .name)) ++ (border ++ (spots ++ (line "end_zone" [] ∷ [])))

@@ -31,7 +31,7 @@ pub five : (a b c d e : Bytes) → a ++ b ++ c ++ d ++ e ≡ a ++ (b ++ (c ++ (d
 five a b c d e = append-assoc (a ++ b ++ c) d e ∙ append-assoc (a ++ b) c (d ++ e) ∙ append-assoc a b (c ++ (d ++ e))
 
 -- the boundaries of an edition are those that the law lists
-pub listed-to : (e : Edition) (b : Boundary) → has-boundary e b ≡ true → Among b (law-of e .boundaries)
+pub listed-to : (e : Edition) (b : Boundary) → has-boundary e b ≡ true → Among b (Law.boundaries (law-of e))
 listed-to march double-yellow h = inl refl
 listed-to march solid-yellow h = inr (inl refl)
 listed-to march solid-white h = inr (inr (inl refl))
@@ -41,7 +41,7 @@ listed-to december solid-yellow h = clash (sym h)
 listed-to december solid-white h = inr (inl refl)
 listed-to december broken-white h = inr (inr (inl refl))
 
-pub listed-back : (e : Edition) (b : Boundary) → Among b (law-of e .boundaries) → has-boundary e b ≡ true
+pub listed-back : (e : Edition) (b : Boundary) → Among b (Law.boundaries (law-of e)) → has-boundary e b ≡ true
 listed-back march b h = refl
 listed-back december b (inl q) = ap (has-boundary december) q
 listed-back december b (inr (inl q)) = ap (has-boundary december) q

@@ -160,11 +160,11 @@ spot-back e strict m n a l h =
     )
 
 -- ## A zone
-count-to : (e : Edition) (n : ℕ) → Enough e n → Between (law-of e .fewest-spots) Law.largest n
+count-to : (e : Edition) (n : ℕ) → Enough e n → Between (Law.fewest-spots (law-of e)) Law.largest n
 count-to march n h = record { low = omega arith; high = h }
 count-to december n h = h
 
-count-back : (e : Edition) (n : ℕ) → Between (law-of e .fewest-spots) Law.largest n → Enough e n
+count-back : (e : Edition) (n : ℕ) → Between (Law.fewest-spots (law-of e)) Law.largest n → Enough e n
 count-back march n h = h .high
 count-back december n h = h
 

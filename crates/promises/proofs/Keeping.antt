@@ -11,7 +11,7 @@ use Rattle.terms.specs.Words as Words
 use Rattle.scan.specs.Allowed.{tab, separates}
 use Rattle.scan.proofs.Bytes.{all-imp}
 use Rattle.line.specs.Line.{Field, Comment, parted, SpellsFields, nothing, separator, field, Content}
-use Rattle.law.specs.Network.{Boundary, Edition, march-2007, december-2006, Network, Mission, Lane, Segment, Spot, Zone, Said, word, name, numbers, coordinate, boundary, Line, SpellsField, SpellFields, Rules, reading, present, Says, SayLines, done, blank, statement, SpellsText, SpellsLane, SpellsSegment, SpellsSpot, SpellsZone, SpellsNetwork, SpellsMission}
+use Rattle.law.specs.Network.{Boundary, Edition, march-2007, december-2006, boundaries, fewest-spots, Network, Mission, Lane, Segment, Spot, Zone, Said, word, name, numbers, coordinate, boundary, Line, SpellsField, SpellFields, Rules, reading, present, Says, SayLines, done, blank, statement, SpellsText, SpellsLane, SpellsSegment, SpellsSpot, SpellsZone, SpellsNetwork, SpellsMission}
 use Rattle.law.specs.Tables.{Lent, MissionLent}
 use Rattle.rows.specs.declared.FileRow.{FileRow}
 use Rattle.rows.specs.declared.MissionFileRow.{MissionFileRow}
@@ -57,7 +57,7 @@ lines-wider e (blank s r) = blank (says-wider e s) (lines-wider e r)
 lines-wider e (statement s r) = statement (says-wider e s) (lines-wider e r)
 
 -- ## Lines: a boundary of the older edition is one of the present one
-among-later : (b : Boundary) → Among b (december-2006 .boundaries) → Among b (march-2007 .boundaries)
+among-later : (b : Boundary) → Among b (boundaries december-2006) → Among b (boundaries march-2007)
 among-later b (inl e) = inl e
 among-later b (inr (inl e)) = inr (inr (inl e))
 among-later b (inr (inr (inl e))) = inr (inr (inr (inl e)))
@@ -86,7 +86,7 @@ in-turn : {A X : Type 0} {P Q : ℕ → A → List X → Type 0} → ((i : ℕ) 
 in-turn h Words.nothing = Words.nothing
 in-turn h (Words.then p r) = Words.then (h _ _ _ p) (in-turn h r)
 
-module _ (earlier later : Rules) (options : (ls : List (List Line)) (l : List Line) → earlier .Options ls l → later .Options ls l) (marks : later .spot-checkpoints ≤ earlier .spot-checkpoints) (spots : later .edition .fewest-spots ≤ earlier .edition .fewest-spots) where
+module _ (earlier later : Rules) (options : (ls : List (List Line)) (l : List Line) → earlier .Options ls l → later .Options ls l) (marks : later .spot-checkpoints ≤ earlier .spot-checkpoints) (spots : fewest-spots (later .edition) ≤ fewest-spots (earlier .edition)) where
   lane-by : (m i : ℕ) (a : Lane) (l : List Line) → SpellsLane earlier m i a l → SpellsLane later m i a l
   lane-by m i a l h = record { options = h .options; given = options _ _ (h .given); good = h .good; spelled = h .spelled }
 

@@ -9,7 +9,7 @@ use Rattle.terms.specs.Ascii.{Bytes}
 use Rattle.terms.specs.Words.{Each, Among, InTurn, nothing, then, perhaps}
 use Rattle.terms.proofs.Lists.{each-any, each-append}
 use Rattle.line.specs.Content.{Field}
-use Rattle.law.specs.Network.{Boundary, Edition, march-2007, Network, Lane, Segment, Perimeter, Position, Spot, Zone, Said, word, name, numbers, coordinate, boundary, Line, SpellFields, Mixed, left, right, AnyOrder, line, points, checkpoint-line, exit-line, lane-options, spot-options, file-options, reading, present, Says, SayLines, done, blank, statement, SpellsText, SpellsLane, SpellsSegment, SpellsPerimeter, SpellsSpot, SpellsZone, SpellsNetwork}
+use Rattle.law.specs.Network.{Boundary, Edition, march-2007, boundaries, fewest-spots, Network, Lane, Segment, Perimeter, Position, Spot, Zone, Said, word, name, numbers, coordinate, boundary, Line, SpellFields, Mixed, left, right, AnyOrder, line, points, checkpoint-line, exit-line, lane-options, spot-options, file-options, reading, present, Says, SayLines, done, blank, statement, SpellsText, SpellsLane, SpellsSegment, SpellsPerimeter, SpellsSpot, SpellsZone, SpellsNetwork}
 use Rattle.law.specs.Network as Law
 use Rattle.grammar.specs.Editions.{law-of}
 use Rattle.grammar.specs.Names.{segment-named, zone-named, network-named}
@@ -50,7 +50,7 @@ module _ (e : Edition) where
   SaidIn (name f) = Unit {0}
   SaidIn (numbers l) = Unit {0}
   SaidIn (coordinate z) = Unit {0}
-  SaidIn (boundary b) = Among b (e .boundaries)
+  SaidIn (boundary b) = Among b (boundaries e)
 
   abbrev LineIn : Line → Type 0
   LineIn = Each SaidIn
@@ -90,7 +90,7 @@ module _ (e : Edition) where
 
   -- ## Networks: boundaries of the edition, and spots enough
   abbrev SideIn : Option Boundary → Type 0
-  SideIn b = Each (λ x. Among x (e .boundaries)) (perhaps b)
+  SideIn b = Each (λ x. Among x (boundaries e)) (perhaps b)
 
   abbrev LaneIn : Lane → Type 0
   LaneIn a = SideIn (a .left) × SideIn (a .right)
@@ -99,7 +99,7 @@ module _ (e : Edition) where
   SegmentIn a = Each LaneIn (a .lanes)
 
   abbrev ZoneIn : {N : Type 0} → Zone N → Type 0
-  ZoneIn a = e .fewest-spots ≤ length (a .spots)
+  ZoneIn a = fewest-spots e ≤ length (a .spots)
 
   record NetworkIn {N : Type 0} (n : Network N) : Type 0 where
     pub segments : Each SegmentIn (n .segments)

@@ -15,6 +15,7 @@ use Rattle.grammar.specs.MissionStatements as Mdf
 use Rattle.grammar.specs.Network.{Network, under, SpellsNetworkBy}
 use Rattle.grammar.specs.Mission.{Mission, SpellsMission}
 use Rattle.grammar.specs.Names.{network-named, mission-named}
+pub use Rattle.law.specs.Same.{Name, bytes, bytes-of}
 use Rattle.text.specs.Said.{Said, SpellFields}
 use Rattle.text.specs.RndfLines.{rndf-line-in}
 use Rattle.text.specs.MdfLines.{mdf-line}
@@ -52,12 +53,6 @@ abbrev pub SpellsMdf : Mission Field → Bytes → Type 0
 SpellsMdf = SpellsText mdf-line SpellsMission
 
 -- 01: "A network or mission is its tables with each name's bytes in place of start and length."
-pub data Name : Type 0 where
-  bytes : Bytes → Name
-
-abbrev pub bytes-of : Field → Name
-bytes-of f = bytes (f .bytes)
-
 pub record MeansNetwork (n : Network Name) (text : Bytes) : Type 0 where
   pub located : Network Field
   pub spelled : SpellsRndf located text
