@@ -16,7 +16,8 @@ use Rattle.line.specs.Lines.{linesOf}
 use Rattle.rows.specs.Table.{putRows}
 use Rattle.output.specs.declared.Finished as DF
 use Rattle.output.specs.declared.Finished.the-variants.{Written, TooLong}
-use Rattle.output.specs.Output.{zeros, Output}
+use Rattle.output.specs.Ended.{Output}
+use Rattle.output.specs.Output.{zeros}
 use Rattle.output.specs.Output as Out
 use Rattle.output.specs.Pen.{pen, Wrote, Finishes}
 use Rattle.output.proofs.Writing.{same}

@@ -11,7 +11,8 @@ use lib.Seq.{set-append-seam, take-at}
 use lib.Dec.{ltb, leb}
 use Rattle.terms.specs.Ascii.{Bytes}
 use Rattle.terms.specs.Words.{pick}
-use Rattle.output.specs.Output.{zeros, filled, Fits, Output}
+use Rattle.output.specs.Ended.{Output}
+use Rattle.output.specs.Output.{zeros, filled, Fits}
 use Rattle.output.specs.Pen.{Pen, pen, step, put, Wrote, within, finishedOf, Finishes, outputOf, answerOf}
 use Rattle.output.specs.declared.Finished as DF
 use Rattle.output.specs.declared.Finished.the-variants.{Written, TooLong}

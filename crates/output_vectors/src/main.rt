@@ -16,7 +16,7 @@ use output::put_triple;
 use output::put_u16_be;
 use output::put_u32_be;
 ghost use lib.ListN.{length};
-ghost use Rattle.output.specs.Output.{Output};
+ghost use Rattle.output.specs.Ended.{Output};
 ghost use Rattle.output.specs.Pen.{pen, Wrote};
 ghost use Rattle.output_vectors.specs.Point.{pointLine};
 

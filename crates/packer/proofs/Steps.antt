@@ -23,7 +23,7 @@ use Rattle.replies.specs.Replies.{refusal, rows-used, AcceptsRndf, ReadsRndf}
 use Rattle.replies.specs.Replies as R
 use Rattle.replies.proofs.Later.{accepts-later}
 use Rattle.replies.proofs.Said.{never-both, refused-zero}
-use Rattle.output.specs.Output.{Output}
+use Rattle.output.specs.Ended.{Output}
 use Rattle.output.specs.Output as O
 use Rattle.output.specs.Pen.{Pen, pen, put, finishedOf, Finishes}
 use Rattle.output.specs.declared.Finished as DF

@@ -1,11 +1,11 @@
 -- WHAT A READER MUST BELIEVE. What a part that judges an accepted pair replies, and what the lent tables then hold. Requests L5 and L13. Assumes nothing.
 use Rattle.terms.specs.Words.{_≡_, List, ℕ, Bytes}
+use Prim.Native.Nat.{min}
 use Rattle.line.specs.Line.{Field}
 use Rattle.law.specs.Network.{Network, Mission, Rules}
 use Rattle.law.specs.Tables.{Lent, MissionLent, zeros, mission-zeros}
 use Rattle.route_law.specs.Moves.{Move, points, GoalPoints}
 use Rattle.route_law.specs.Routes.{GoodRoute, RouteFault}
-use Rattle.room.specs.Room.{fitted}
 use Rattle.refusal.specs.declared.Refusal.{Refusal}
 use Rattle.replies.specs.declared.PairReply.{PairReply}
 use Rattle.replies.specs.declared.PairReply.the-variants as Pair
@@ -28,7 +28,7 @@ module _ (rules : Rules) (rndf mdf : Bytes) (t : Lent) (u : MissionLent) where
       -- 01: "reads them first and refuses as the reader does before any refusal of its own"
       unread : (why : Refusal) → ReadsPair rules rndf mdf t u (Pair.Refused why) left mission-left → reply ≡ Pair.Refused why → Judges reply left mission-left
       -- 02: "Numbers from 20 on give file 0"; L7: "from 20 on unless said otherwise, it is 0", the column; of 11, L13: "11 (file 0) for the work space", L7: "Where the line is 0, .. it is 0"; 01: "All lent tables .. are then zero over their whole length". What stands in place of the line is told in 32 bits: more is told as 4,294,967,295
-      wrong : (pair : AcceptedPair) (line number : ℕ) → Wrong (pair .net) (pair .goals) line number → reply ≡ Pair.Refused (refusal 0 (fitted line) number 0) → left ≡ zeros t → mission-left ≡ mission-zeros u → Judges reply left mission-left
+      wrong : (pair : AcceptedPair) (line number : ℕ) → Wrong (pair .net) (pair .goals) line number → reply ≡ Pair.Refused (refusal 0 (min line 4294967295) number 0) → left ≡ zeros t → mission-left ≡ mission-zeros u → Judges reply left mission-left
       -- the reply and the tables are the reader's
       right : (pair : AcceptedPair) → Right (pair .net) (pair .goals) → ReadsPair rules rndf mdf t u reply left mission-left → Judges reply left mission-left
 

@@ -18,7 +18,8 @@ use Rattle.replies.specs.declared.RndfReply.the-variants as Reply
 use Rattle.replies.specs.declared.PairReply.{PairReply}
 use Rattle.replies.specs.declared.PairReply.the-variants as Pair
 use Rattle.replies.specs.Replies.{refusal, ReadsRndf, ReadsPair}
-use Rattle.output.specs.Output.{Fits, Output}
+use Rattle.output.specs.Ended.{Output}
+use Rattle.output.specs.Output.{Fits}
 use Rattle.output.specs.Output as O
 use Rattle.output.specs.declared.Finished.the-variants.{Written, TooLong}
 use Rattle.output.proofs.Whole.{answered-written, answered-too-long}

@@ -29,7 +29,7 @@ ghost use mathlib.Core.Path.{_≡_};
 ghost use lib.ListN.{length};
 ghost use Rattle.edition.specs.Editions.{rules-of};
 ghost use Rattle.law.specs.Tables.{lent, mission-lent};
-ghost use Rattle.output.specs.Output.{Output};
+ghost use Rattle.output.specs.Ended.{Output};
 ghost use Rattle.house_lines.specs.Arranged.{arrangedText};
 ghost use Rattle.writer.specs.Answers.{Answers, AnswersMdf};
 ghost use Rattle.writings.specs.Writes.{WritesRndf, WritesMdf};

@@ -16,7 +16,8 @@ use Rattle.packed_law.specs.Packed.{packed-form}
 use Rattle.house_text.specs.House.{HouseRndf, HouseMdf}
 use Rattle.house_text.specs.HouseText.{house-rndf, house-mdf}
 use Rattle.house_text.proofs.Lawful.{house-rndf-only, house-rndf-is, house-mdf-only, house-mdf-is}
-use Rattle.output.specs.Output.{Fits, Output}
+use Rattle.output.specs.Ended.{Output}
+use Rattle.output.specs.Output.{Fits}
 use Rattle.output.specs.declared.Finished as DF
 use Rattle.output.specs.declared.Finished.the-variants as Finished
 use Rattle.output.specs.Pen.{outputOf, answerOf}
