@@ -1,4 +1,4 @@
--- WHAT A READER MUST BELIEVE. The columns of each table, in the order in which document 01 lists them; a name is its start, then its length. Assumes nothing.
+-- The columns of each table, in the order in which document 01 lists them; a name is its start, then its length. Assumes nothing.
 use mathlib.Core.List.{List, [], _∷_}
 use Prim.Native.Nat.{ℕ}
 use lib.IntN.{ℤ}

@@ -1,4 +1,4 @@
--- WHAT A READER MUST BELIEVE. What a statement of the program means, as a statement of the grammar. Assumes nothing.
+-- What a statement of the program means, as a statement of the grammar. Assumes nothing.
 use Prim.Native.Nat.{ℕ}
 use lib.Dec.{eqb}
 use Rattle.terms.specs.Words.{pick}

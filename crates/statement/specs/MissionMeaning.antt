@@ -1,4 +1,4 @@
--- WHAT A READER MUST BELIEVE. What an order of the program means, as a statement of an MDF of the grammar. Assumes nothing.
+-- What an order of the program means, as a statement of an MDF of the grammar. Assumes nothing.
 use Rattle.grammar.specs.MissionStatements.{say, MDF-name, RNDF, format-version, creation-date, checkpoints, num-checkpoints, end-checkpoints, speed-limits, num-speed-limits, end-speed-limits, end-file, goal, limit}
 use Rattle.grammar.specs.MissionStatements as G
 use Rattle.statement.specs.declared.Order.{Order}

@@ -4,7 +4,7 @@ use Rattle.line.specs.Line.{Field}
 use Rattle.law.specs.Network.{Network, present, SpellsNetwork, SpellsText}
 use Rattle.law.specs.Tables.{Lent, HasRoom, filled, zeros}
 use Rattle.law.specs.Faults.{Sound}
-use Rattle.same.specs.Same.{SameNetwork}
+use Rattle.law.specs.Same.{SameNetwork}
 use Rattle.packed_law.specs.Packed.{packed-form, all-slots, NamesLie, OfThisVersion, LengthsRight}
 use Rattle.replies.specs.declared.RndfReply.{RndfReply}
 use Rattle.replies.specs.declared.RndfReply.the-variants as Reply
