@@ -17,14 +17,25 @@ find_kit() {
     toolchain=${RATTLE_HOME:-$(cd "$(dirname "$rt")/.." && pwd -P)}/on/$(uname -m)/toolchain
 }
 
+# below NAME: that crate and all crates below it, a line each. A line of crates.txt has what its crate names, and not all that this rests on.
+below() {
+    awk -v name="$1" '
+        function visit(n,    words, count, k) {
+            if (!(n in rests) || seen[n]++) return
+            count = split(rests[n], words, " ")
+            for (k = 1; k <= count; k++) visit(words[k])
+            print n
+        }
+        { sub(/#.*/, ""); i = index($0, ":") }
+        i { rests[substr($0, 1, i - 1)] = substr($0, i + 1) }
+        END { visit(name) }' "$root/crates.txt"
+}
+
 # show_progress NAME MARK: one line on standard error while `rt check NAME` runs, rewritten in place on a terminal, else a new one every ten crates. `rt` leaves
 # target/log/CRATE.res for each crate that it has begun: `failed` until the crate is proved. Those newer than MARK are of this run.
 show_progress() {
-    needed=$(sed -n "s/^$1:/$1/p" "$root/crates.txt")
-    all=0
-    for crate in $needed; do
-        ! grep -q "^$crate:" "$root/crates.txt" || all=$((all + 1))
-    done
+    needed=$(below "$1")
+    all=$(echo "$needed" | wc -l)
     told=-1
     while kill -0 $$ 2>/dev/null; do
         done=0
