@@ -110,7 +110,6 @@ pub fn put_pair(out: &mut [u8], at: usize, m: u32, n: u32) -> usize
 }
 
 // An identifier x.y.z.
-// Waits for the map (L2), as `put_coordinate` does.
 pub fn put_triple(out: &mut [u8], at: usize, x: u32, y: u32, z: u32) -> usize
     ensures { λ r. ⌜ Wrote (pen (now (out .entry)) at) (houseTriple x y z) (pen (now (out .exit)) r) ⌝ }
 {
@@ -148,7 +147,6 @@ pub fn put_u16_be(out: &mut [u8], at: usize, n: u16) -> usize
     put_byte(out, a, (n % 256) as u8)
 }
 
-// Waits for the packed network (L11).
 pub fn put_u32_be(out: &mut [u8], at: usize, n: u32) -> usize
     ensures { λ r. ⌜ Wrote (pen (now (out .entry)) at) (bigEndian 4 n) (pen (now (out .exit)) r) ⌝ }
 {

@@ -116,7 +116,6 @@ pub fn zone_at(t: &[u32], row: usize) -> ZoneRow
     }
 }
 
-// Waits for the map (L2), as `point_at` does.
 pub fn spot_at(t: &[u32], row: usize) -> SpotRow
     ensures { λ r. ⌜ r ≡ spotAt (now (t .entry)) row ⌝ }
 {
@@ -137,7 +136,6 @@ pub fn checkpoint_at(t: &[u32], row: usize) -> CheckpointRow
     }
 }
 
-// Waits for the packed network (L11).
 pub fn stop_at(t: &[u32], row: usize) -> StopRow
     ensures { λ r. ⌜ r ≡ stopAt (now (t .entry)) row ⌝ }
 {
