@@ -13,14 +13,14 @@ use Rattle.answer_fields.specs.Answers.{list-answer, AnswersList}
 -- no second answer, and no second list
 pub list-answer-settled : (t numbers : List ℕ) (lent : ℕ) (a a′ : ListAnswer) (l l′ : List ℕ) → AnswersList t numbers lent a l → AnswersList t numbers lent a′ l′ → (a ≡ a′) × (l ≡ l′)
 list-answer-settled t numbers lent a a′ l l′ x y =
-    let same = settled t numbers lent (x .reply) (y .reply) l l′ (x .looks) (y .looks) in
+    let same = settled t numbers lent (x .reply) (y .reply) l l′ (x .promised) (y .promised) in
     (x .told ∙ ap list-answer (same .0) ∙ sym (y .told), same .1)
 
 -- one there is
 pub list-answer-some : (t numbers : List ℕ) (lent : ℕ) → (a : ListAnswer) × (l : List ℕ) × AnswersList t numbers lent a l
 list-answer-some t numbers lent =
     let x = some-answer t numbers lent in
-    (list-answer (x .reply), x .left, record { reply = x .reply; looks = x .right; told = refl })
+    (list-answer (x .reply), x .left, record { reply = x .reply; promised = x .right; told = refl })
 
 -- one reply for one answer
 pub list-told-whole : (x y : ListReply) → list-answer x ≡ list-answer y → x ≡ y

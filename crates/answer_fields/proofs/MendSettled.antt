@@ -17,14 +17,14 @@ module _ (edition : Edition) (text : Bytes) (list : List ℕ) (lent : ℕ) where
   -- no second answer, no second list and no second output
   pub mend-answer-settled : (a a′ : MendAnswer) (l l′ : List ℕ) (o o′ : Bytes) → AnswersMend edition text list lent a l o → AnswersMend edition text list lent a′ l′ o′ → (a ≡ a′) × (l ≡ l′) × (o ≡ o′)
   mend-answer-settled a a′ l l′ o o′ x y =
-      let same = mend-settled (rules-of edition) text list lent (x .reply) (y .reply) l l′ o o′ (x .mends) (y .mends) in
+      let same = mend-settled (rules-of edition) text list lent (x .reply) (y .reply) l l′ o o′ (x .promised) (y .promised) in
       (x .told ∙ ap mend-answer (same .0) ∙ sym (y .told), same .1, same .2)
 
   -- one there is
   pub mend-answer-some : (a : MendAnswer) × (l : List ℕ) × (o : Bytes) × AnswersMend edition text list lent a l o
   mend-answer-some =
       let x = mend-some (inner edition) text list lent in
-      (mend-answer (x .reply), x .left, x .out, record { reply = x .reply; mends = x .mends; told = refl })
+      (mend-answer (x .reply), x .left, x .out, record { reply = x .reply; promised = x .mends; told = refl })
 
 -- one reply for one answer
 pub mend-told-whole : (x y : MendReply) → mend-answer x ≡ mend-answer y → x ≡ y

@@ -38,13 +38,13 @@ module _ (e : Edition) (start : ℕ) (rndf mdf : Bytes) (t : Lent) (u : MissionL
   pub library-agrees : (work : List ℕ) (given : Answer) (left : Lent) (mission-left : MissionLent) (work-left : List ℕ) → RowForEachPoint (rules-of e) rndf mdf t u work → AnswersMission e start rndf mdf t u work given left mission-left work-left
       → SomeAccepted ↔ (given .accepted ≡ 1)
   library-agrees work given left mission-left work-left room a =
-      let same = agreed (inner e) start rndf mdf t u work (a .reply) left mission-left work-left room (a .checks) in (
+      let same = agreed (inner e) start rndf mdf t u work (a .reply) left mission-left work-left room (a .promised) in (
         (λ s. ap (λ (x : Answer). x .accepted) (a .told) ∙ told (a .reply) (same .0 (record {
           route = s .route;
           reply = s .answers .reply;
           left = s .left;
           mission-left = s .mission-left;
-          checked = s .answers .checks;
+          checked = s .answers .promised;
           accepted = accepts (s .answers .reply) (ap (λ (x : Answer). x .accepted) (sym (s .answers .told)) ∙ s .accepted);
         }))),
         (λ h. let s = same .1 (accepts (a .reply) (ap (λ (x : Answer). x .accepted) (sym (a .told)) ∙ h)) in record {
@@ -52,7 +52,7 @@ module _ (e : Edition) (start : ℕ) (rndf mdf : Bytes) (t : Lent) (u : MissionL
           given = pair-answer (s .reply);
           left = s .left;
           mission-left = s .mission-left;
-          answers = record { reply = s .reply; checks = s .checked; told = refl };
+          answers = record { reply = s .reply; promised = s .checked; told = refl };
           accepted = told (s .reply) (s .accepted);
         }),
       )

@@ -16,11 +16,11 @@ module _ (e : Edition) (start : ℕ) (rndf mdf : Bytes) (t : Lent) (u : MissionL
   pub mission-answer-settled : (a a′ : Answer) (l l′ : Lent) (k k′ : MissionLent) (w w′ : List ℕ) → AnswersMission e start rndf mdf t u work a l k w → AnswersMission e start rndf mdf t u work a′ l′ k′ w′
       → (a ≡ a′) × (l ≡ l′) × (k ≡ k′) × (w ≡ w′)
   mission-answer-settled a a′ l l′ k k′ w w′ x y =
-      let same = mission-settled (inner e) start rndf mdf t u work (x .reply) (y .reply) l l′ k k′ w w′ (x .checks) (y .checks) in
+      let same = mission-settled (inner e) start rndf mdf t u work (x .reply) (y .reply) l l′ k k′ w w′ (x .promised) (y .promised) in
       (x .told ∙ ap pair-answer (same .0) ∙ sym (y .told), same .1, same .2, same .3)
 
   -- one there is
   pub mission-answer-some : (a : Answer) × (l : Lent) × (k : MissionLent) × (w : List ℕ) × AnswersMission e start rndf mdf t u work a l k w
   mission-answer-some =
       let x = mission-some (inner e) start rndf mdf t u work in
-      (pair-answer (x .reply), x .left, x .mission-left, x .work-left, record { reply = x .reply; checks = x .checks; told = refl })
+      (pair-answer (x .reply), x .left, x .mission-left, x .work-left, record { reply = x .reply; promised = x .checks; told = refl })

@@ -16,11 +16,11 @@ module _ (e : Edition) (start : ℕ) (route : List ℕ) (rndf mdf : Bytes) (t : 
   pub route-answer-settled : (a a′ : Answer) (l l′ : Lent) (k k′ : MissionLent) → AnswersRoute e start route rndf mdf t u a l k → AnswersRoute e start route rndf mdf t u a′ l′ k′
       → (a ≡ a′) × (l ≡ l′) × (k ≡ k′)
   route-answer-settled a a′ l l′ k k′ x y =
-      let same = route-settled (inner e) start route rndf mdf t u (x .reply) (y .reply) l l′ k k′ (x .checks) (y .checks) in
+      let same = route-settled (inner e) start route rndf mdf t u (x .reply) (y .reply) l l′ k k′ (x .promised) (y .promised) in
       (x .told ∙ ap pair-answer (same .0) ∙ sym (y .told), same .1, same .2)
 
   -- one there is
   pub route-answer-some : (a : Answer) × (l : Lent) × (k : MissionLent) × AnswersRoute e start route rndf mdf t u a l k
   route-answer-some =
       let x = route-some (inner e) start route rndf mdf t u in
-      (pair-answer (x .reply), x .left, x .mission-left, record { reply = x .reply; checks = x .judged; told = refl })
+      (pair-answer (x .reply), x .left, x .mission-left, record { reply = x .reply; promised = x .judged; told = refl })

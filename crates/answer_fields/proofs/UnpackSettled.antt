@@ -14,11 +14,11 @@ module _ (bytes : Bytes) (t : Lent) where
   -- no second answer, and no second memory
   pub unpack-answer-settled : (a a′ : Answer) (l l′ : Lent) → AnswersUnpack bytes t a l → AnswersUnpack bytes t a′ l′ → (a ≡ a′) × (l ≡ l′)
   unpack-answer-settled a a′ l l′ x y =
-      let same = unpack-settled bytes t (x .reply) (y .reply) l l′ (x .unpacks) (y .unpacks) in
+      let same = unpack-settled bytes t (x .reply) (y .reply) l l′ (x .promised) (y .promised) in
       (x .told ∙ ap rndf-answer (same .0) ∙ sym (y .told), same .1)
 
   -- one there is
   pub unpack-answer-some : Each (λ b. b < 256) bytes → (a : Answer) × (l : Lent) × AnswersUnpack bytes t a l
   unpack-answer-some small =
       let x = unpack-some bytes t small in
-      (rndf-answer (x .0), x .1 .0, record { reply = x .0; unpacks = x .1 .1; told = refl })
+      (rndf-answer (x .0), x .1 .0, record { reply = x .0; promised = x .1 .1; told = refl })

@@ -1,14 +1,10 @@
 -- WHAT A READER MUST BELIEVE. What the library for C and Rust answers, field by field, and what the lent tables and the lent output then hold. Assumes nothing.
-use mathlib.Core.Path.{_≡_}
-use mathlib.Core.List.{List}
-use Prim.Native.Nat.{ℕ}
-use Rattle.terms.specs.Ascii.{Bytes}
+use Rattle.terms.specs.Words.{_≡_, List, none, ℕ, Bytes}
 use Rattle.line.specs.Line.{Field}
 use Rattle.law.specs.Network.{Network}
 use Rattle.edition.specs.declared.Edition.{Edition}
 use Rattle.edition.specs.Editions.{rules-of}
 use Rattle.law.specs.Tables.{Lent, MissionLent}
-use Rattle.rows.specs.Read.{stretchOf}
 use Rattle.rows.specs.declared.Stretch.{Stretch}
 use Rattle.rows.specs.declared.FileRow.{FileRow}
 use Rattle.rows.specs.declared.MissionFileRow.{MissionFileRow}
@@ -19,13 +15,12 @@ use Rattle.replies.specs.declared.RndfReply.{RndfReply}
 use Rattle.replies.specs.declared.RndfReply.the-variants as Rndf
 use Rattle.replies.specs.declared.PairReply.{PairReply}
 use Rattle.replies.specs.declared.PairReply.the-variants as Pair
-use Rattle.replies.specs.Replies.{refusal, ReadsRndf, ReadsPair}
+use Rattle.replies.specs.Replies.{refusal, stretch, ReadsRndf, ReadsPair}
 use Rattle.writings.specs.declared.WriteReply.{WriteReply}
 use Rattle.writings.specs.declared.WriteReply.the-variants as Write
 use Rattle.writings.specs.declared.WriteMdfReply.{WriteMdfReply}
 use Rattle.writings.specs.declared.WriteMdfReply.the-variants as WriteMdf
-use Rattle.house_text.specs.House.{HouseRndf}
-use Rattle.writings.specs.Writes.{Writes, MapOf, PackedOf, WritesMdf}
+use Rattle.writings.specs.Writes.{Writes, WritesMdf}
 use Rattle.unpackings.specs.Unpacks.{Unpacks}
 use Rattle.mend_law.specs.declared.MendReply.{MendReply}
 use Rattle.mend_law.specs.declared.MendReply.the-variants as Mend
@@ -80,10 +75,10 @@ abbrev pub no-mission-counts : MissionCounts
 no-mission-counts = record { goals = 0; limits = 0 }
 
 abbrev pub no-file : FileRow
-no-file = record { name = stretchOf 0 0; version = stretchOf 0 0; date = stretchOf 0 0 }
+no-file = record { name = stretch none; version = stretch none; date = stretch none }
 
 abbrev pub no-mission-file : MissionFileRow
-no-mission-file = record { name = stretchOf 0 0; rndf = stretchOf 0 0; version = stretchOf 0 0; date = stretchOf 0 0 }
+no-mission-file = record { name = stretch none; rndf = stretch none; version = stretch none; date = stretch none }
 
 -- 01: "Where an answer is an enum, a definition sets out this paper's number and values for each of its cases."
 abbrev pub taken : Counts → FileRow → MissionCounts → MissionFileRow → Answer
@@ -109,76 +104,52 @@ abbrev pub write-mdf-answer : WriteMdfReply → WriteAnswer
 write-mdf-answer (WriteMdf.Written c f m g n) = record { answer = taken c f m g; length = n }
 write-mdf-answer (WriteMdf.Refused x) = record { answer = refused x; length = 0 }
 
--- ## An RNDF alone: what is answered are the fields of the reply, and that reply and what is left in the lent tables are as the reader promises. t: these tables as they were lent. L10: "The caller says which edition."
-pub record AnswersRndf (edition : Edition) (text : Bytes) (t : Lent) (given : Answer) (left : Lent) : Type 0 where
-  pub reply : RndfReply
-  pub reads : ReadsRndf (rules-of edition) text t reply left
-  pub told : given ≡ rndf-answer reply
+-- ## What is answered are the fields of a reply; that reply, and what is left in all that was lent, are as the part of the library that is asked promises
+pub record Answers {Reply Fields : Type 0} (fields : Reply → Fields) (Promised : Reply → Type 0) (given : Fields) : Type 0 where
+  pub reply : Reply
+  pub promised : Promised reply
+  pub told : given ≡ fields reply
 
--- ## An RNDF with its MDF. u: the goals and limits as they were lent
-pub record AnswersPair (edition : Edition) (rndf mdf : Bytes) (t : Lent) (u : MissionLent) (given : Answer) (left : Lent) (mission-left : MissionLent) : Type 0 where
-  pub reply : PairReply
-  pub reads : ReadsPair (rules-of edition) rndf mdf t u reply left mission-left
-  pub told : given ≡ pair-answer reply
+-- an RNDF alone. L10: "The caller says which edition." t: the tables as they were lent; left: what they then hold
+abbrev pub AnswersRndf : Edition → (text : Bytes) → Lent → Answer → (left : Lent) → Type 0
+AnswersRndf edition text t given left = Answers rndf-answer (λ reply. ReadsRndf (rules-of edition) text t reply left) given
 
--- ## A route, of an RNDF with its MDF. Request L5. start: the row of its first point; route: the rows of its points
-pub record AnswersRoute (edition : Edition) (start : ℕ) (route : List ℕ) (rndf mdf : Bytes) (t : Lent) (u : MissionLent) (given : Answer) (left : Lent) (mission-left : MissionLent) : Type 0 where
-  pub reply : PairReply
-  pub checks : ChecksRoute (rules-of edition) start route rndf mdf t u reply left mission-left
-  pub told : given ≡ pair-answer reply
+-- an RNDF with its MDF. u: the goals and limits as they were lent
+abbrev pub AnswersPair : Edition → (rndf mdf : Bytes) → Lent → MissionLent → Answer → (left : Lent) → (mission-left : MissionLent) → Type 0
+AnswersPair edition rndf mdf t u given left mission-left = Answers pair-answer (λ reply. ReadsPair (rules-of edition) rndf mdf t u reply left mission-left) given
 
--- ## Whether the mission of an RNDF with its MDF can be driven. Request L13. start: the row of the point where the drive begins, as the caller gives it; work: the work space as it was lent, a word to a row
-pub record AnswersMission (edition : Edition) (start : ℕ) (rndf mdf : Bytes) (t : Lent) (u : MissionLent) (work : List ℕ) (given : Answer) (left : Lent) (mission-left : MissionLent) (work-left : List ℕ) : Type 0 where
-  pub reply : PairReply
-  pub checks : ChecksMission (rules-of edition) start rndf mdf t u work reply left mission-left work-left
-  pub told : given ≡ pair-answer reply
+-- a route, of an RNDF with its MDF. Request L5. start: the row of its first point; route: the rows of its points
+abbrev pub AnswersRoute : Edition → (start : ℕ) → (route : List ℕ) → (rndf mdf : Bytes) → Lent → MissionLent → Answer → (left : Lent) → (mission-left : MissionLent) → Type 0
+AnswersRoute edition start route rndf mdf t u given left mission-left = Answers pair-answer (λ reply. ChecksRoute (rules-of edition) start route rndf mdf t u reply left mission-left) given
 
--- ## Any writing of an RNDF's network: the fields of the writer's reply, and the tables and the output as it promises. lent: the length of that output
-pub record AnswersWrite (edition : Edition) (Writing : Network Field → Bytes → Type 0) (text : Bytes) (t : Lent) (lent : ℕ) (given : WriteAnswer) (left : Lent) (out : Bytes) : Type 0 where
-  pub reply : WriteReply
-  pub writes : Writes (rules-of edition) Writing text t lent reply left out
-  pub told : given ≡ write-answer reply
+-- whether the mission of an RNDF with its MDF can be driven. Request L13. start: the row of the point where the drive begins, as the caller gives it; work: the work space as it was lent, a word to a row
+abbrev pub AnswersMission : Edition → (start : ℕ) → (rndf mdf : Bytes) → Lent → MissionLent → (work : List ℕ) → Answer → (left : Lent) → (mission-left : MissionLent) → (work-left : List ℕ) → Type 0
+AnswersMission edition start rndf mdf t u work given left mission-left work-left = Answers pair-answer (λ reply. ChecksMission (rules-of edition) start rndf mdf t u work reply left mission-left work-left) given
 
--- its house writing
-abbrev pub AnswersWriteRndf : Edition → (text : Bytes) → Lent → (lent : ℕ) → WriteAnswer → (left : Lent) → (out : Bytes) → Type 0
-AnswersWriteRndf edition = AnswersWrite edition HouseRndf
+-- a writing of an RNDF's network: its house writing, its map (L2), its packed form (L11). lent: the length of the lent output; out: what it then holds
+abbrev pub AnswersWrite : Edition → (Writing : Network Field → Bytes → Type 0) → (text : Bytes) → Lent → (lent : ℕ) → WriteAnswer → (left : Lent) → (out : Bytes) → Type 0
+AnswersWrite edition Writing text t lent given left out = Answers write-answer (λ reply. Writes (rules-of edition) Writing text t lent reply left out) given
 
--- its map. Request L2
-abbrev pub AnswersWriteMap : Edition → (text : Bytes) → Lent → (lent : ℕ) → WriteAnswer → (left : Lent) → (out : Bytes) → Type 0
-AnswersWriteMap edition = AnswersWrite edition MapOf
+-- the house writing of the MDF of a pair
+abbrev pub AnswersWriteMdf : Edition → (rndf mdf : Bytes) → Lent → MissionLent → (lent : ℕ) → WriteAnswer → (left : Lent) → (mission-left : MissionLent) → (out : Bytes) → Type 0
+AnswersWriteMdf edition rndf mdf t u lent given left mission-left out = Answers write-mdf-answer (λ reply. WritesMdf (rules-of edition) rndf mdf t u lent reply left mission-left out) given
 
--- its packed form. Request L11
-abbrev pub AnswersWritePacked : Edition → (text : Bytes) → Lent → (lent : ℕ) → WriteAnswer → (left : Lent) → (out : Bytes) → Type 0
-AnswersWritePacked edition = AnswersWrite edition PackedOf
-
--- ## The house writing of the MDF of a pair
-pub record AnswersWriteMdf (edition : Edition) (rndf mdf : Bytes) (t : Lent) (u : MissionLent) (lent : ℕ) (given : WriteAnswer) (left : Lent) (mission-left : MissionLent) (out : Bytes) : Type 0 where
-  pub reply : WriteMdfReply
-  pub writes : WritesMdf (rules-of edition) rndf mdf t u lent reply left mission-left out
-  pub told : given ≡ write-mdf-answer reply
-
--- ## A packed network. Request L11: the fields of a reader's reply. No edition: the present rules
-pub record AnswersUnpack (bytes : Bytes) (t : Lent) (given : Answer) (left : Lent) : Type 0 where
-  pub reply : RndfReply
-  pub unpacks : Unpacks bytes t reply left
-  pub told : given ≡ rndf-answer reply
+-- a packed network. Request L11: the fields of a reader's reply. No edition: the present rules
+abbrev pub AnswersUnpack : (bytes : Bytes) → Lent → Answer → (left : Lent) → Type 0
+AnswersUnpack bytes t given left = Answers rndf-answer (λ reply. Unpacks bytes t reply left) given
 
 -- ## The look-up of a list of checkpoint numbers. Request L4. t: the table; numbers: the list; lent: the length of the lent list of points; left: what it then holds
 abbrev pub list-answer : ListReply → ListAnswer
 list-answer Listed.Answered = record { accepted = 1; file = 0; line = 0; number = 0; column = 0 }
 list-answer (Listed.Refused x) = record { accepted = 0; file = x .file; line = x .line; number = x .number; column = x .column }
 
-pub record AnswersList (t numbers : List ℕ) (lent : ℕ) (given : ListAnswer) (left : List ℕ) : Type 0 where
-  pub reply : ListReply
-  pub looks : PointsOf t numbers lent reply left
-  pub told : given ≡ list-answer reply
+abbrev pub AnswersList : (t numbers : List ℕ) → (lent : ℕ) → ListAnswer → (left : List ℕ) → Type 0
+AnswersList t numbers lent given left = Answers list-answer (λ reply. PointsOf t numbers lent reply left) given
 
 -- ## Mending. Request L9. list: the list as it was lent, two words to a row; lent: the length of the lent output; left and out: what both then hold
 abbrev pub mend-answer : MendReply → MendAnswer
 mend-answer (Mend.Mended rows n) = record { accepted = 1; file = 0; line = 0; number = 0; column = 0; rows = rows; length = n }
 mend-answer (Mend.Refused x) = record { accepted = 0; file = x .file; line = x .line; number = x .number; column = x .column; rows = 0; length = 0 }
 
-pub record AnswersMend (edition : Edition) (text : Bytes) (list : List ℕ) (lent : ℕ) (given : MendAnswer) (left : List ℕ) (out : Bytes) : Type 0 where
-  pub reply : MendReply
-  pub mends : Mends (rules-of edition) text list lent reply left out
-  pub told : given ≡ mend-answer reply
+abbrev pub AnswersMend : Edition → (text : Bytes) → (list : List ℕ) → (lent : ℕ) → MendAnswer → (left : List ℕ) → (out : Bytes) → Type 0
+AnswersMend edition text list lent given left out = Answers mend-answer (λ reply. Mends (rules-of edition) text list lent reply left out) given
