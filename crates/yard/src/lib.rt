@@ -42,7 +42,9 @@ ghost use lib.ListN.{length};
 ghost use Rattle.law.specs.Tables.{lent, mission-lent};
 ghost use Rattle.edition.specs.Editions.{numbered};
 ghost use Rattle.look_up.specs.LookUp.{PointOf};
-ghost use Rattle.answer_fields.specs.Answers.{named, laid-out, taken, refused, rndf-answer, pair-answer, write-answer, write-mdf-answer, list-answer, mend-answer, AnswersRndf, AnswersPair, AnswersRoute, AnswersMission, AnswersWriteRndf, AnswersWriteMap, AnswersWritePacked, AnswersWriteMdf, AnswersUnpack, AnswersMend, AnswersList};
+ghost use Rattle.house_text.specs.House.{HouseRndf};
+ghost use Rattle.writings.specs.Writes.{MapOf, PackedOf};
+ghost use Rattle.answer_fields.specs.Answers.{named, laid-out, taken, refused, rndf-answer, pair-answer, write-answer, write-mdf-answer, list-answer, mend-answer, AnswersRndf, AnswersPair, AnswersRoute, AnswersMission, AnswersWrite, AnswersWriteMdf, AnswersUnpack, AnswersMend, AnswersList};
 
 fn named(s: Stretch) -> Name
     ensures { λ r. ⌜ r ≡ named s ⌝ }
@@ -403,7 +405,7 @@ pub extern "C" fn kastepuhm_write_rndf(
     exits: &mut [u32],
     out: &mut [u8],
 ) -> WriteAnswer
-    ensures { λ r. ⌜ AnswersWriteRndf (numbered edition) (now (text .entry)) (lent (now (segments .entry)) (now (lanes .entry)) (now (zones .entry)) (now (spots .entry)) (now (points .entry)) (now (checkpoints .entry)) (now (stops .entry)) (now (exits .entry))) (length (now (out .entry))) r (lent (now (segments .exit)) (now (lanes .exit)) (now (zones .exit)) (now (spots .exit)) (now (points .exit)) (now (checkpoints .exit)) (now (stops .exit)) (now (exits .exit))) (now (out .exit)) ⌝ }
+    ensures { λ r. ⌜ AnswersWrite (numbered edition) HouseRndf (now (text .entry)) (lent (now (segments .entry)) (now (lanes .entry)) (now (zones .entry)) (now (spots .entry)) (now (points .entry)) (now (checkpoints .entry)) (now (stops .entry)) (now (exits .entry))) (length (now (out .entry))) r (lent (now (segments .exit)) (now (lanes .exit)) (now (zones .exit)) (now (spots .exit)) (now (points .exit)) (now (checkpoints .exit)) (now (stops .exit)) (now (exits .exit))) (now (out .exit)) ⌝ }
 {
     let by = edition_of(edition);
     let reply = write_rndf(
@@ -437,7 +439,7 @@ pub extern "C" fn kastepuhm_write_map(
     exits: &mut [u32],
     out: &mut [u8],
 ) -> WriteAnswer
-    ensures { λ r. ⌜ AnswersWriteMap (numbered edition) (now (text .entry)) (lent (now (segments .entry)) (now (lanes .entry)) (now (zones .entry)) (now (spots .entry)) (now (points .entry)) (now (checkpoints .entry)) (now (stops .entry)) (now (exits .entry))) (length (now (out .entry))) r (lent (now (segments .exit)) (now (lanes .exit)) (now (zones .exit)) (now (spots .exit)) (now (points .exit)) (now (checkpoints .exit)) (now (stops .exit)) (now (exits .exit))) (now (out .exit)) ⌝ }
+    ensures { λ r. ⌜ AnswersWrite (numbered edition) MapOf (now (text .entry)) (lent (now (segments .entry)) (now (lanes .entry)) (now (zones .entry)) (now (spots .entry)) (now (points .entry)) (now (checkpoints .entry)) (now (stops .entry)) (now (exits .entry))) (length (now (out .entry))) r (lent (now (segments .exit)) (now (lanes .exit)) (now (zones .exit)) (now (spots .exit)) (now (points .exit)) (now (checkpoints .exit)) (now (stops .exit)) (now (exits .exit))) (now (out .exit)) ⌝ }
 {
     let by = edition_of(edition);
     let reply = write_map(
@@ -471,7 +473,7 @@ pub extern "C" fn kastepuhm_write_packed(
     exits: &mut [u32],
     out: &mut [u8],
 ) -> WriteAnswer
-    ensures { λ r. ⌜ AnswersWritePacked (numbered edition) (now (text .entry)) (lent (now (segments .entry)) (now (lanes .entry)) (now (zones .entry)) (now (spots .entry)) (now (points .entry)) (now (checkpoints .entry)) (now (stops .entry)) (now (exits .entry))) (length (now (out .entry))) r (lent (now (segments .exit)) (now (lanes .exit)) (now (zones .exit)) (now (spots .exit)) (now (points .exit)) (now (checkpoints .exit)) (now (stops .exit)) (now (exits .exit))) (now (out .exit)) ⌝ }
+    ensures { λ r. ⌜ AnswersWrite (numbered edition) PackedOf (now (text .entry)) (lent (now (segments .entry)) (now (lanes .entry)) (now (zones .entry)) (now (spots .entry)) (now (points .entry)) (now (checkpoints .entry)) (now (stops .entry)) (now (exits .entry))) (length (now (out .entry))) r (lent (now (segments .exit)) (now (lanes .exit)) (now (zones .exit)) (now (spots .exit)) (now (points .exit)) (now (checkpoints .exit)) (now (stops .exit)) (now (exits .exit))) (now (out .exit)) ⌝ }
 {
     let by = edition_of(edition);
     let reply = write_packed(

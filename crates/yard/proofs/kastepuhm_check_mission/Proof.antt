@@ -48,7 +48,7 @@ returns : tie.Need-returns
 returns c =
     let w = c .before .before .before .before .before .before .before .before .before .before .before .before .before .before .before .before .before .before .before .before .before .before .check-mission in
     let by = c .before .before .before .before .before .before .before .before .before .before .before .before .before .before .before .before .before .before .before .before .before .before .before .before .before .before .before .before .before .before .before .before .before .before .edition-of in
-    record { reply = w .result; checks = rw (by .ensures) at (w .ensures); told = c .pair-answer .ensures }
+    record { reply = w .result; promised = rw (by .ensures) at (w .ensures); told = c .pair-answer .ensures }
 
 pub kastepuhm-check-mission-spec : {M : Type 1} → statement M
 kastepuhm-check-mission-spec =

@@ -22,7 +22,7 @@ returns : tie.Need-returns
 returns c =
     let w = c .before .before .before .before .before .mend in
     let by = c .before .before .before .before .before .before .before .before .edition-of in
-    record { reply = w .result; mends = rw (by .ensures) at (w .ensures); told = c .mend-answer .ensures }
+    record { reply = w .result; promised = rw (by .ensures) at (w .ensures); told = c .mend-answer .ensures }
 
 pub kastepuhm-mend-spec : {M : Type 1} → statement M
 kastepuhm-mend-spec =

@@ -36,7 +36,7 @@ same-length-8 c = c .before .before .before .before .before .before .before .bef
 returns : tie.Need-returns
 returns c =
     let w = c .before .before .before .before .before .before .before .before .before .before .before .before .before .before .before .before .read-packed in
-    record { reply = w .result; unpacks = w .ensures; told = c .rndf-answer .ensures }
+    record { reply = w .result; promised = w .ensures; told = c .rndf-answer .ensures }
 
 pub kastepuhm-read-packed-spec : {M : Type 1} → statement M
 kastepuhm-read-packed-spec =

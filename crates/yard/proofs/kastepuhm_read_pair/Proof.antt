@@ -46,7 +46,7 @@ returns : tie.Need-returns
 returns c =
     let w = c .before .before .before .before .before .before .before .before .before .before .before .before .before .before .before .before .before .before .before .before .read-pair in
     let by = c .before .before .before .before .before .before .before .before .before .before .before .before .before .before .before .before .before .before .before .before .before .before .before .before .before .before .before .before .before .before .before .edition-of in
-    record { reply = w .result; reads = rw (by .ensures) at (w .ensures); told = c .pair-answer .ensures }
+    record { reply = w .result; promised = rw (by .ensures) at (w .ensures); told = c .pair-answer .ensures }
 
 pub kastepuhm-read-pair-spec : {M : Type 1} → statement M
 kastepuhm-read-pair-spec =

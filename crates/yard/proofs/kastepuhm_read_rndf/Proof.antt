@@ -40,7 +40,7 @@ returns : tie.Need-returns
 returns c =
     let w = c .before .before .before .before .before .before .before .before .before .before .before .before .before .before .before .before .read-rndf in
     let by = c .before .before .before .before .before .before .before .before .before .before .before .before .before .before .before .before .before .before .before .before .before .before .before .before .before .edition-of in
-    record { reply = w .result; reads = rw (by .ensures) at (w .ensures); told = c .rndf-answer .ensures }
+    record { reply = w .result; promised = rw (by .ensures) at (w .ensures); told = c .rndf-answer .ensures }
 
 pub kastepuhm-read-rndf-spec : {M : Type 1} → statement M
 kastepuhm-read-rndf-spec =

@@ -43,7 +43,7 @@ returns : tie.Need-returns
 returns c =
     let w = c .before .before .before .before .before .before .before .before .before .before .before .before .before .before .before .before .before .before .write-rndf in
     let by = c .before .before .before .before .before .before .before .before .before .before .before .before .before .before .before .before .before .before .before .before .before .before .before .before .before .before .before .before .edition-of in
-    record { reply = w .result; writes = rw (by .ensures) at (w .ensures); told = c .write-answer .ensures }
+    record { reply = w .result; promised = rw (by .ensures) at (w .ensures); told = c .write-answer .ensures }
 
 pub kastepuhm-write-rndf-spec : {M : Type 1} → statement M
 kastepuhm-write-rndf-spec =
