@@ -258,10 +258,9 @@ fn count_change(text: &[u8], line: &[u8], next: usize, kind: u8) -> Becomes
     corrected(number, items_from(text, next, item, end))
 }
 
-// What becomes of a line, without its LF, behind which the text goes on at `next`. Its kind is handed in: whoever goes on to the next line needs it too. For a count line the lines behind it are looked at up to its end word.
+// What becomes of a line, without its LF, behind which the text goes on at `next`. Its kind is handed in, for whoever goes on to the next line needs it too: of another kind nothing is said. For a count line the lines behind it are looked at up to its end word.
 pub fn line_change(text: &[u8], line: &[u8], next: usize, kind: u8, before: Before) -> Becomes
-    requires { ⌜ kind ≡ rndfLineKind (now line) ⌝ }
-    ensures { λ r. ⌜ r ≡ changeOf before (now (line .entry)) (linesOf (drop next (now (text .entry)))) ⌝ }
+    ensures { λ r. ⌜ (kind ≡ rndfLineKind (now (line .entry)) → r ≡ changeOf before (now (line .entry)) (linesOf (drop next (now (text .entry))))) ⌝ }
 {
     if before.over {
         return behind_end(line);

@@ -3,17 +3,13 @@ use mathlib.Core.Path.{_≡_, refl, sym, ap, subst, _∙_}
 use mathlib.Core.List.{List, [], _∷_, _++_, append-assoc, append-nil}
 use Prim.Native.Nat.{ℕ, _≤_, _<_}
 use native.Mathlib.Omega.{arith}
-use lib.ListN.{length, take, drop, length-append, take-append-drop}
+use lib.ListN.{length, length-append}
 use lib.Seq.{take-append-le, drop-append-le}
 use Rattle.terms.specs.Words.{Bytes}
-use Rattle.scan.specs.Allowed.{digit}
-use Rattle.scan.proofs.Reach.{begins-some}
-use Rattle.line.specs.Line.{lf, Lacks, none, more, Cut, nothing, unfinished, line}
+use Rattle.line.specs.Line.{lf, Lacks, more, Cut, nothing, unfinished, line}
 use Rattle.line.specs.Lines.{linesOf}
 use Rattle.line.proofs.Cuts.{cut, cut-is}
-use Rattle.line.proofs.Contents.{all-lacks}
-use Rattle.number.specs.House.{numberByte, houseInteger}
-use Rattle.number.proofs.House.{house-integer-first, house-integer-bytes}
+use Rattle.number.specs.House.{houseInteger}
 use Rattle.room.specs.Room.{fitted}
 use Rattle.mend_law.specs.Mend.{mended-text}
 use Rattle.mend_law.proofs.Ties.{whole-line, line-left, whole-last}
@@ -22,34 +18,14 @@ use Rattle.mend_lines.specs.declared.Becomes.{Becomes}
 use Rattle.mend_lines.specs.declared.Becomes.the-variants.{Stays, Goes, Recount}
 use Rattle.mend_lines.specs.Forward.{noneBefore, changeOf}
 use Rattle.mend_pieces.specs.Pieces.{pieceOf, linesFor, behindLine, mendedBytes, mendedLines}
+use Rattle.mend_pieces.proofs.Recounted.{recounted-some, recounted-lacks}
 use Rattle.mend_told.proofs.Bounds.{Inside, recount-inside}
 use Rattle.mend_told.proofs.Told.{bytes-told}
-
--- ## Bytes without an LF
-lacks-both : {x : ℕ} {a b : Bytes} → Lacks x a → Lacks x b → Lacks x (a ++ b)
-lacks-both none k = k
-lacks-both (more n h) k = more n (lacks-both h k)
-
-lacks-parts : {x : ℕ} (a b : Bytes) → Lacks x (a ++ b) → Lacks x a × Lacks x b
-lacks-parts [] b h = (none, h)
-lacks-parts (c ∷ a) b (more n h) = let p = lacks-parts a b h in (more n (p .0), p .1)
-
-integer-lacks : (n : ℕ) → Lacks lf (houseInteger n)
-integer-lacks n = all-lacks numberByte lf refl (houseInteger n) (house-integer-bytes n)
 
 -- ## A line whose number is replaced
 module _ (l : Bytes) (start stop n : ℕ) where
   abbrev recounted : Bytes
   recounted = pieceOf (Recount start stop n) l
-
-  recounted-some : 0 < length recounted
-  recounted-some = simp length-append (omega (arith, begins-some digit (houseInteger (fitted n)) (house-integer-first (fitted n))))
-
-  recounted-lacks : Lacks lf l → Lacks lf recounted
-  recounted-lacks h =
-      let a = lacks-parts (take start l) (drop start l) (subst (Lacks lf) (sym (take-append-drop start l)) h) in
-      let z = lacks-parts (take stop l) (drop stop l) (subst (Lacks lf) (sym (take-append-drop stop l)) h) in
-      lacks-both (a .0) (lacks-both (integer-lacks (fitted n)) (z .1))
 
   -- the LF behind it stays
   recounted-ended : Inside l start stop n → pieceOf (Recount start stop n) (l ++ (lf ∷ [])) ≡ recounted ++ (lf ∷ [])

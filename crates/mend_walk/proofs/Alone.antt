@@ -2,26 +2,22 @@
 use mathlib.Core.Path.{_≡_, refl, sym, ap, _∙_}
 use mathlib.Core.List.{[], _∷_, _++_}
 use mathlib.Core.Bool.{Bool, true, false}
-use Prim.Native.Nat.{ℕ, zero, suc, _+_, _-_, _≤_, _<_}
+use Prim.Native.Nat.{ℕ, suc, _+_, _-_, _≤_, _<_}
 use native.Mathlib.Omega.{arith}
 use borrow.Author.Tests.{eqb-true, ltb-true, ltb-false}
-use lib.ListN.{length, take, drop, getD, length-append, length-drop}
+use lib.ListN.{length, take, drop, getD, length-drop}
 use lib.Seq.{length-take-le, take-add, take-suc, drop-at}
 use lib.Dec.{ltb}
 use Rattle.terms.specs.Words.{Bytes, pick}
-use Rattle.scan.specs.Allowed.{digit}
 use Rattle.scan.specs.Reach.{upTo, stopsBy}
 use Rattle.scan.specs.declared.Until.the-variants.{Byte}
-use Rattle.scan.proofs.Reach.{upTo-le, upTo-hit, first-at, begins-some}
-use Rattle.line.specs.Text.{lf, Lacks, none, more, nothing, unfinished, line}
+use Rattle.scan.proofs.Reach.{upTo-le, upTo-hit, first-at}
+use Rattle.line.specs.Text.{lf, Lacks, nothing, unfinished, line}
 use Rattle.line.specs.Lines.{linesOf}
 use Rattle.line.proofs.Cuts.{cut-is, line-lacks, line-long}
-use Rattle.line.proofs.Contents.{all-lacks}
-use Rattle.number.specs.House.{numberByte, houseInteger}
-use Rattle.number.proofs.House.{house-integer-bytes, house-integer-first}
-use Rattle.room.specs.Room.{fitted}
 use Rattle.mend_lines.specs.declared.Becomes.the-variants.{Recount}
 use Rattle.mend_pieces.specs.Pieces.{lfFrom, stopOf, pieceOf}
+use Rattle.mend_pieces.proofs.Recounted.{recounted-some, recounted-lacks}
 
 -- bytes without LF, if there are any, are one line
 pub one-line : (l : Bytes) → 0 < length l → Lacks lf l → linesOf l ≡ l ∷ []
@@ -77,30 +73,10 @@ line-alone text from h = go (ltb (from + u) (length text)) refl
         let whole : drop from (take (from + u) text) ≡ take (from + u - from) rest = rw same (from-front from u text (omega arith)) in
         rw whole (one-line (take (from + u - from) rest) (omega (arith, line-long text from (from + u) h refl)) lacks)
 
--- ## With a number in it
-lacks-take : {x : ℕ} (n : ℕ) {l : Bytes} → Lacks x l → Lacks x (take n l)
-lacks-take zero k = none
-lacks-take (suc n) none = none
-lacks-take (suc n) (more d k) = more d (lacks-take n k)
-
-lacks-drop : {x : ℕ} (n : ℕ) {l : Bytes} → Lacks x l → Lacks x (drop n l)
-lacks-drop zero k = k
-lacks-drop (suc n) none = none
-lacks-drop (suc n) (more d k) = lacks-drop n k
-
-lacks-both : {x : ℕ} {l r : Bytes} → Lacks x l → Lacks x r → Lacks x (l ++ r)
-lacks-both none k = k
-lacks-both (more d h) k = more d (lacks-both h k)
-
-lf-no-number : numberByte lf ≡ false
-lf-no-number = refl
-
--- with a number in place of a part of it it is still one line
+-- ## With a number in place of a part of it: still one line
 pub recounted-alone : (text : Bytes) (from start stop n : ℕ) → from < length text
     → linesOf (pieceOf (Recount start stop n) (take (lfFrom text from - from) (drop from text))) ≡ pieceOf (Recount start stop n) (take (lfFrom text from - from) (drop from text)) ∷ []
 recounted-alone text from start stop n h =
     let l = take (lfFrom text from - from) (drop from text) in
     let k = line-lacks text from (lfFrom text from) h refl in
-    let number = houseInteger (fitted n) in
-    let some = begins-some digit number (house-integer-first (fitted n)) in
-    one-line (take start l ++ (number ++ drop stop l)) (omega (arith, length-append (take start l) (number ++ drop stop l), length-append number (drop stop l))) (lacks-both (lacks-take start k) (lacks-both (all-lacks numberByte lf lf-no-number number (house-integer-bytes (fitted n))) (lacks-drop stop k)))
+    one-line (pieceOf (Recount start stop n) l) (recounted-some l start stop n) (recounted-lacks l start stop n k)

@@ -10,7 +10,7 @@ behind-end-requires c κs = search needs
 
 returns : tie.Need-returns
 unfolding changeOf
-returns c = rw (c .before .if1 .taken) (c .behind-end .ensures)
+returns c = λ kind. rw (c .before .if1 .taken) (c .behind-end .ensures)
 
 again-requires : tie.Need-again-requires
 again-requires c κs = search needs
@@ -18,7 +18,7 @@ again-requires c κs = search needs
 returns-2 : tie.Need-returns-2
 returns-2 c =
     let A = c .before .before .before .before .before .args in
-    goes-again (A .text .now) (A .line .now) (A .next) (A .before) (c .before .before .if1 .left) (A .kind) (c .before .again .result) (c .before .before .before .before .before .pre) (c .before .again .ensures) (c .if2 .taken)
+    λ kind. goes-again (A .text .now) (A .line .now) (A .next) (A .before) (c .before .before .if1 .left) (A .kind) (c .before .again .result) kind (c .before .again .ensures) (c .if2 .taken)
 
 count-change-requires : tie.Need-count-change-requires
 count-change-requires c κs = search needs
@@ -26,7 +26,7 @@ count-change-requires c κs = search needs
 returns-3 : tie.Need-returns-3
 returns-3 c =
     let A = c .before .before .before .before .before .before .args in
-    else-counts (A .text .now) (A .line .now) (A .next) (A .before) (c .before .before .before .if1 .left) (A .kind) (c .before .before .again .result) (c .before .before .before .before .before .before .pre) (c .before .before .again .ensures) (c .before .if2 .left) _ (c .count-change .ensures)
+    λ kind. else-counts (A .text .now) (A .line .now) (A .next) (A .before) (c .before .before .before .if1 .left) (A .kind) (c .before .before .again .result) kind (c .before .before .again .ensures) (c .before .if2 .left) _ (c .count-change .ensures)
 
 pub line-change-spec : {M : Type 1} → statement M
 line-change-spec =

@@ -44,7 +44,7 @@ add-line-change : tie.Need-add-line-change Inv-loop μ-loop
 add-line-change c = omega (arith, line-inside (c .before .before .before .before .before .before .before .before .before .before .args .text .now) (c .before .before .before .before .loop .from) (c .before .before .far-byte-from .result) (c .before .before .before .loop-test .taken) (c .before .before .far-byte-from .ensures) .1)
 
 line-change-requires : tie.Need-line-change-requires Inv-loop μ-loop
-line-change-requires c κs = c .line-kind .ensures
+line-change-requires c κs = tt
 
 stays-right-requires : tie.Need-stays-right-requires Inv-loop μ-loop
 stays-right-requires c κs = tt
@@ -55,9 +55,10 @@ returns c =
     let l = c .before .before .before .before .before .before .before .loop in
     let f = c .before .before .before .before .before .far-byte-from in
     let m = c .before .before .line-change in
+    let kind = c .before .before .before .line-kind .ensures in
     let t = c .before .stays-right in
     let d = behindLine (l .before) (take (f .result - l .from) (drop (l .from) (a .text .now))) in
-    rw (not-true (t .result) (c .if1 .taken)) at (sym (exits-at (a .text .now) (l .from) (f .result) (c .before .before .before .before .before .before .loop-test .taken) (f .ensures) (l .before) d (m .result) (m .ensures) refl (lookIn (a .segments .now) (a .lanes .now) (a .zones .now)) (a .segment-count) (t .result) (t .ensures)) ∙ l .inv)
+    rw (not-true (t .result) (c .if1 .taken)) at (sym (exits-at (a .text .now) (l .from) (f .result) (c .before .before .before .before .before .before .loop-test .taken) (f .ensures) (l .before) d (m .result) (m .ensures kind) refl (lookIn (a .segments .now) (a .lanes .now) (a .zones .now)) (a .segment-count) (t .result) (t .ensures)) ∙ l .inv)
 
 after-requires : tie.Need-after-requires Inv-loop μ-loop
 after-requires c κs = tt
@@ -74,10 +75,11 @@ loop-again c =
     let l = c .before .before .before .before .before .before .before .before .loop in
     let f = c .before .before .before .before .before .before .far-byte-from in
     let m = c .before .before .before .line-change in
+    let kind = c .before .before .before .before .line-kind .ensures in
     let t = c .before .before .stays-right in
     let d = c .after .result in
-    let w = c .after .ensures ∙ ap (afterOf (l .before)) (c .before .before .before .before .line-kind .ensures) in
-    rw (not-false (t .result) (c .before .if1 .left)) at (sym (exits-at (a .text .now) (l .from) (f .result) (c .before .before .before .before .before .before .before .loop-test .taken) (f .ensures) (l .before) d (m .result) (m .ensures) w (lookIn (a .segments .now) (a .lanes .now) (a .zones .now)) (a .segment-count) (t .result) (t .ensures)) ∙ l .inv)
+    let w = c .after .ensures ∙ ap (afterOf (l .before)) kind in
+    rw (not-false (t .result) (c .before .if1 .left)) at (sym (exits-at (a .text .now) (l .from) (f .result) (c .before .before .before .before .before .before .before .loop-test .taken) (f .ensures) (l .before) d (m .result) (m .ensures kind) w (lookIn (a .segments .now) (a .lanes .now) (a .zones .now)) (a .segment-count) (t .result) (t .ensures)) ∙ l .inv)
 
 returns-2 : tie.Need-returns-2 Inv-loop μ-loop
 returns-2 c = let a = c .before .before .before .before .before .before .before .args in sym (no-exits-left (a .text .now) (c .before .loop .from) (c .loop-test .left) (c .before .loop .before) (lookIn (a .segments .now) (a .lanes .now) (a .zones .now)) (a .segment-count)) ∙ c .before .loop .inv

@@ -46,7 +46,7 @@ add-line-change : tie.Need-add-line-change Inv-loop μ-loop
 add-line-change c = omega (arith, line-inside (c .before .before .before .before .before .before .before .before .before .args .text .now) (c .before .before .before .before .loop .from) (c .before .before .far-byte-from .result) (c .before .before .before .loop-test .taken) (c .before .before .far-byte-from .ensures) .1)
 
 line-change-requires : tie.Need-line-change-requires Inv-loop μ-loop
-line-change-requires c κs = c .line-kind .ensures
+line-change-requires c κs = tt
 
 list-change-requires : tie.Need-list-change-requires Inv-loop μ-loop
 list-change-requires c κs = omega (arith, c .before .before .before .before .before .before .loop .inv .1, c .before .before .before .before .before .loop-test .taken, c .before .before .before .before .before .before .before .before .if1 .left)
@@ -70,14 +70,15 @@ loop-again c =
     let h = c .before .before .before .before .before .before .before .before .before .loop-test .taken in
     let f = c .before .before .before .before .before .before .before .before .far-byte-from in
     let m = c .before .before .before .before .before .line-change in
+    let kind = c .before .before .before .before .before .before .line-kind .ensures in
     let r = c .before .before .before .list-change in
     let d = c .after .result in
-    let w = c .after .ensures ∙ ap (afterOf (l .before)) (c .before .before .before .before .before .before .line-kind .ensures) in (
+    let w = c .after .ensures ∙ ap (afterOf (l .before)) kind in (
       r .kept .0 ∙ l .inv .0,
       omega (arith, r .ensures .1, one-row-at-most (m .result) (l .line), f .ensures, l .inv .1),
       omega (arith, f .ensures, l .inv .2),
-      rows-again s (l .from) (f .result) h (f .ensures) (l .before) d (m .result) (m .ensures) w (l .line) (l .rows) (r .result) (l .list) _ (r .ensures .0) (r .ensures .1) ∙ l .inv .3,
-      counted-again s (l .from) (f .result) h (f .ensures) (l .before) d (m .result) (m .ensures) w (l .line) (l .rows) (r .result) (r .ensures .1) ∙ l .inv .4,
+      rows-again s (l .from) (f .result) h (f .ensures) (l .before) d (m .result) (m .ensures kind) w (l .line) (l .rows) (r .result) (l .list) _ (r .ensures .0) (r .ensures .1) ∙ l .inv .3,
+      counted-again s (l .from) (f .result) h (f .ensures) (l .before) d (m .result) (m .ensures kind) w (l .line) (l .rows) (r .result) (r .ensures .1) ∙ l .inv .4,
     )
 
 same-length : tie.Need-same-length Inv-loop μ-loop

@@ -42,7 +42,7 @@ add-line-change : tie.Need-add-line-change Inv-loop μ-loop
 add-line-change c = omega (arith, line-inside (c .before .before .before .before .before .before .before .before .args .text .now) (c .before .before .before .before .loop .from) (c .before .before .far-byte-from .result) (c .before .before .before .loop-test .taken) (c .before .before .far-byte-from .ensures) .1)
 
 line-change-requires : tie.Need-line-change-requires Inv-loop μ-loop
-line-change-requires c κs = c .line-kind .ensures
+line-change-requires c κs = tt
 
 line-stop-requires : tie.Need-line-stop-requires Inv-loop μ-loop
 line-stop-requires c κs = tt
@@ -74,11 +74,12 @@ loop-again c =
     let l = c .before .before .before .before .before .before .before .before .before .before .before .before .loop in
     let f = c .before .before .before .before .before .before .before .before .before .before .far-byte-from in
     let m = c .before .before .before .before .before .before .before .line-change in
+    let kind = c .before .before .before .before .before .before .before .before .line-kind .ensures in
     let stop = c .before .before .before .before .before .before .line-stop in
     let p = c .before .before .before .put-piece in
     let d = c .after .result in
-    let w = c .after .ensures ∙ ap (afterOf (l .before)) (c .before .before .before .before .before .before .before .before .line-kind .ensures) in
-    (p .kept .0 ∙ l .inv .0, bytes-again s (l .from) (f .result) (c .before .before .before .before .before .before .before .before .before .before .before .loop-test .taken) (f .ensures) (l .before) d (m .result) (m .ensures) w (stop .result) _ _ (stop .ensures) (p .ensures) ∙ l .inv .1)
+    let w = c .after .ensures ∙ ap (afterOf (l .before)) kind in
+    (p .kept .0 ∙ l .inv .0, bytes-again s (l .from) (f .result) (c .before .before .before .before .before .before .before .before .before .before .before .loop-test .taken) (f .ensures) (l .before) d (m .result) (m .ensures kind) w (stop .result) _ _ (stop .ensures) (p .ensures) ∙ l .inv .1)
 
 same-length : tie.Need-same-length Inv-loop μ-loop
 same-length c = c .before .loop .inv .0

@@ -97,7 +97,7 @@ add-line-change c =
     place-fits (length s) (l .from) (far .result) (l .inv .0) inside
 
 line-change-requires : tie.Need-line-change-requires Inv-loop μ-loop
-line-change-requires c κs = c .line-kind .ensures
+line-change-requires c κs = tt
 
 walk-line-requires : tie.Need-walk-line-requires Inv-loop μ-loop
 walk-line-requires c κs = (c .before .before .before .before .before .before .before .before .before .loop-test .taken, c .before .before .before .before .before .before .before .before .before .before .loop .inv .0)
@@ -125,12 +125,13 @@ returns-2 c =
     let h = c .before .before .before .before .before .before .before .before .before .before .before .before .before .before .before .before .before .before .before .before .before .loop-test .taken in
     let far = c .before .before .before .before .before .before .before .before .before .before .before .before .before .before .before .before .before .before .before .before .far-byte-from in
     let change = c .before .before .before .before .before .before .before .before .before .before .before .before .before .before .before .before .before .line-change in
+    let kind = c .before .before .before .before .before .before .before .before .before .before .before .before .before .before .before .before .before .before .line-kind .ensures in
     let w = c .before .before .before .before .before .before .before .before .before .before .before .walk-line in
     let m = few (l .gained) (l .segments) (l .lanes) (l .zones) (l .checkpoints) in
     let tables : Progress → Memory = λ p. few p (w .last .1 .1 .1 .1 .1 .1 .1 .1 .0) (w .last .1 .1 .1 .1 .1 .1 .1 .1 .1 .0) (w .last .1 .1 .1 .1 .1 .1 .1 .1 .1 .1 .0) (w .last .1 .1 .1 .1 .1 .1 .1 .1 .1 .1 .1 .0) in
     let walked = w .ensures (l .inv .1) (few-rows (length s) (l .from) (total (l .gained)) (l .inv .0) h (l .inv .3)) (few-lines (length s) (l .from) (l .line) (l .inv .0) h (l .inv .2)) (still-one (change .result) s (l .from) h) in
     let fault = c .before .walked .given in
-    λ size. ends-there (inner (A .edition)) s (l .from) h (l .before) (l .place) m (l .line) (far .result) (far .ensures) (change .result) (change .ensures) walked (fault .0 .0 .line) (fault .0 .0 .number) (ap (λ (x : Walked). stood x tables) (fault .1)) ∙ l .inv .8
+    λ size. ends-there (inner (A .edition)) s (l .from) h (l .before) (l .place) m (l .line) (far .result) (far .ensures) (change .result) (change .ensures kind) walked (fault .0 .0 .line) (fault .0 .0 .number) (ap (λ (x : Walked). stood x tables) (fault .1)) ∙ l .inv .8
 
 enum-known-walked-2 : tie.Need-enum-known-walked-2 Inv-loop μ-loop
 enum-known-walked-2 c = search needs
@@ -162,14 +163,15 @@ loop-again c =
     let h = c .before .before .before .before .before .before .before .before .before .before .before .before .before .before .before .before .before .before .before .before .before .before .loop-test .taken in
     let far = c .before .before .before .before .before .before .before .before .before .before .before .before .before .before .before .before .before .before .before .before .before .far-byte-from in
     let change = c .before .before .before .before .before .before .before .before .before .before .before .before .before .before .before .before .before .before .line-change in
+    let kind = c .before .before .before .before .before .before .before .before .before .before .before .before .before .before .before .before .before .before .before .line-kind .ensures in
     let w = c .before .before .before .before .before .before .before .before .before .before .before .before .walk-line in
     let m = few (l .gained) (l .segments) (l .lanes) (l .zones) (l .checkpoints) in
     let tables : Progress → Memory = λ p. few p (w .last .1 .1 .1 .1 .1 .1 .1 .1 .0) (w .last .1 .1 .1 .1 .1 .1 .1 .1 .1 .0) (w .last .1 .1 .1 .1 .1 .1 .1 .1 .1 .1 .0) (w .last .1 .1 .1 .1 .1 .1 .1 .1 .1 .1 .1 .0) in
     let walked = w .ensures (l .inv .1) (few-rows (length s) (l .from) (total (l .gained)) (l .inv .0) h (l .inv .3)) (few-lines (length s) (l .from) (l .line) (l .inv .0) h (l .inv .2)) (still-one (change .result) s (l .from) h) in
     let k = c .before .before .walked2 .given in
     let told = ap (λ (x : Walked). stood x tables) (k .1) in
-    let so = c .after .ensures ∙ ap (afterOf (l .before)) (c .before .before .before .before .before .before .before .before .before .before .before .before .before .before .before .before .before .before .before .line-kind .ensures) in
-    let counted = counts-on (inner (A .edition)) s (l .from) h (l .before) (l .place) m (l .line) (far .result) (far .ensures) (change .result) (change .ensures) walked (k .0 .0) (tables (k .0 .1 .0)) (k .0 .1 .1 .0) (far .result + 1) (c .after .result) told so refl (l .inv .2) (l .inv .3) in (
+    let so = c .after .ensures ∙ ap (afterOf (l .before)) kind in
+    let counted = counts-on (inner (A .edition)) s (l .from) h (l .before) (l .place) m (l .line) (far .result) (far .ensures) (change .result) (change .ensures kind) walked (k .0 .0) (tables (k .0 .1 .0)) (k .0 .1 .1 .0) (far .result + 1) (c .after .result) told so refl (l .inv .2) (l .inv .3) in (
       l .inv .0,
       l .inv .1,
       counted .0,
@@ -178,7 +180,7 @@ loop-again c =
       w .kept .1 .1 .1 .1 .1 .1 .1 .1 .1 .0 ∙ l .inv .5,
       w .kept .1 .1 .1 .1 .1 .1 .1 .1 .1 .1 .0 ∙ l .inv .6,
       w .kept .1 .1 .1 .1 .1 .1 .1 .1 .1 .1 .1 .0 ∙ l .inv .7,
-      goes-on (inner (A .edition)) s (l .from) h (l .before) (l .place) m (l .line) (far .result) (far .ensures) (change .result) (change .ensures) walked (k .0 .0) (tables (k .0 .1 .0)) (k .0 .1 .1 .0) (far .result + 1) (c .after .result) told so refl ∙ l .inv .8,
+      goes-on (inner (A .edition)) s (l .from) h (l .before) (l .place) m (l .line) (far .result) (far .ensures) (change .result) (change .ensures kind) walked (k .0 .0) (tables (k .0 .1 .0)) (k .0 .1 .1 .0) (far .result + 1) (c .after .result) told so refl ∙ l .inv .8,
     )
 
 same-length-5 : tie.Need-same-length-5 Inv-loop μ-loop

@@ -31,7 +31,7 @@ add-line-change : tie.Need-add-line-change
 add-line-change c = omega (arith, line-inside (c .before .before .before .before .before .before .before .before .args .text .now) (c .before .before .before .before .before .before .before .before .args .from) (c .before .before .far-byte-from .result) (c .before .before .before .before .if1 .left) (c .before .before .far-byte-from .ensures) .1)
 
 line-change-requires : tie.Need-line-change-requires
-line-change-requires c κs = c .line-kind .ensures
+line-change-requires c κs = tt
 
 put-change-requires : tie.Need-put-change-requires
 put-change-requires c κs = tt
@@ -53,12 +53,13 @@ returns-3 c =
     let a = c .before .before .before .before .before .before .before .before .before .before .before .before .before .before .args in
     let f = c .before .before .before .before .before .before .before .before .far-byte-from in
     let m = c .before .before .before .before .before .line-change in
+    let kind = c .before .before .before .before .before .before .line-kind .ensures in
     let p = c .before .before .before .put-change in
-    let w = c .after .ensures ∙ ap (afterOf (a .before)) (c .before .before .before .before .before .before .line-kind .ensures) in
+    let w = c .after .ensures ∙ ap (afterOf (a .before)) kind in
     λ h k. record {
       told = _;
       wrote = p .ensures;
-      all = told-at (a .text .now) (a .from) (f .result) h (f .ensures) (a .name .now) (a .line) (a .before) (c .after .result) (m .result) (m .ensures) w;
+      all = told-at (a .text .now) (a .from) (f .result) h (f .ensures) (a .name .now) (a .line) (a .before) (c .after .result) (m .result) (m .ensures kind) w;
       onward = omega (arith, f .ensures);
       few = omega (arith, f .ensures, k);
     }

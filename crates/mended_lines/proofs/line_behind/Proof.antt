@@ -41,7 +41,7 @@ add-line-change : tie.Need-add-line-change Inv-loop μ-loop
 add-line-change c = omega (arith, line-inside (c .before .before .before .before .before .before .before .args .text .now) (c .before .before .before .before .loop .from) (c .before .before .far-byte-from .result) (c .before .before .before .loop-test .taken) (c .before .before .far-byte-from .ensures) .1)
 
 line-change-requires : tie.Need-line-change-requires Inv-loop μ-loop
-line-change-requires c κs = c .line-kind .ensures
+line-change-requires c κs = tt
 
 is-kept-requires : tie.Need-is-kept-requires Inv-loop μ-loop
 is-kept-requires c κs = tt
@@ -51,7 +51,7 @@ returns c =
     let l = c .before .before .before .before .before .before .before .loop in
     let f = c .before .before .before .before .before .far-byte-from in
     let k = c .before .is-kept in
-    sym (found-here (c .before .before .before .before .before .before .before .before .before .before .args .text .now) (l .from) (f .result) (c .before .before .before .before .before .before .loop-test .taken) (f .ensures) (l .before) (k .result) (k .ensures ∙ ap keptOf (c .before .before .line-change .ensures)) (l .line) (l .left) (c .if1 .taken)) ∙ l .inv .0
+    sym (found-here (c .before .before .before .before .before .before .before .before .before .before .args .text .now) (l .from) (f .result) (c .before .before .before .before .before .before .loop-test .taken) (f .ensures) (l .before) (k .result) (k .ensures ∙ ap keptOf (c .before .before .line-change .ensures (c .before .before .before .line-kind .ensures))) (l .line) (l .left) (c .if1 .taken)) ∙ l .inv .0
 
 left-behind-requires : tie.Need-left-behind-requires Inv-loop μ-loop
 left-behind-requires c κs = tt
@@ -75,7 +75,7 @@ loop-again c =
     let k = c .before .before .before .is-kept in
     let n = c .before .left-behind in
     let w = c .after .ensures ∙ ap (afterOf (l .before)) (c .before .before .before .before .before .line-kind .ensures) in
-    (found-later (c .before .before .before .before .before .before .before .before .before .before .before .before .args .text .now) (l .from) (f .result) (c .before .before .before .before .before .before .before .before .loop-test .taken) (f .ensures) (l .before) (k .result) (k .ensures ∙ ap keptOf (c .before .before .before .before .line-change .ensures)) (l .line) (l .left) (c .before .before .if1 .left) (c .after .result) w (n .result) (n .ensures) ∙ l .inv .0, omega (arith, f .ensures, l .inv .1))
+    (found-later (c .before .before .before .before .before .before .before .before .before .before .before .before .args .text .now) (l .from) (f .result) (c .before .before .before .before .before .before .before .before .loop-test .taken) (f .ensures) (l .before) (k .result) (k .ensures ∙ ap keptOf (c .before .before .before .before .line-change .ensures (c .before .before .before .before .before .line-kind .ensures))) (l .line) (l .left) (c .before .before .if1 .left) (c .after .result) w (n .result) (n .ensures) ∙ l .inv .0, omega (arith, f .ensures, l .inv .1))
 
 returns-2 : tie.Need-returns-2 Inv-loop μ-loop
 returns-2 c = sym (found-none (c .before .before .before .before .args .text .now) (c .before .loop .from) (c .loop-test .left) (c .before .loop .line) (c .before .loop .left) (c .before .loop .before)) ∙ c .before .loop .inv .0
