@@ -15,6 +15,8 @@ use Rattle.rows.specs.Strides.{segmentStride, laneStride, zoneStride, checkpoin
 use Rattle.rows.specs.declared.SegmentRow.{SegmentRow}
 use Rattle.rows.specs.declared.LaneRow.{LaneRow}
 use Rattle.rows.specs.declared.ZoneRow.{ZoneRow}
+use Rattle.units.specs.declared.CheckpointNumberRead.{CheckpointNumberRead}
+use Rattle.units.specs.declared.CheckpointNumberRead.the-variants as C
 use Rattle.rows.specs.declared.CheckpointRow.{CheckpointRow}
 use Rattle.rows.proofs.Lay.{put-outside, length-put, put-same, put-other}
 use Rattle.statement.specs.declared.Statement.{Statement}
@@ -26,7 +28,7 @@ use Rattle.progress.specs.After.{noName, segmentRow, zoneRow, afterOf}
 use Rattle.progress.specs.Given.{rowOf}
 use Rattle.walk.specs.Standing.{Where}
 use Rattle.references.specs.Finding.{lookIn}
-use Rattle.network.specs.Storing.{Memory, stored}
+use Rattle.network.specs.Storing.{Memory, storeNumbered, stored}
 use Rattle.network.specs.Reading.{put}
 use Rattle.mend_alike.specs.Plain.{plain, plainly, plainRow}
 
@@ -88,7 +90,7 @@ segment-in (Row.Lane a) = none
 segment-in (Row.Zone a) = none
 segment-in (Row.Spot a) = none
 segment-in (Row.Point a) = none
-segment-in (Row.Checkpoint a) = none
+segment-in (Row.Checkpoint read k) = none
 segment-in (Row.Stop a) = none
 segment-in (Row.Exit a) = none
 
@@ -99,7 +101,7 @@ lane-in (Row.Lane a) = some a
 lane-in (Row.Zone a) = none
 lane-in (Row.Spot a) = none
 lane-in (Row.Point a) = none
-lane-in (Row.Checkpoint a) = none
+lane-in (Row.Checkpoint read k) = none
 lane-in (Row.Stop a) = none
 lane-in (Row.Exit a) = none
 
@@ -110,9 +112,13 @@ zone-in (Row.Lane a) = none
 zone-in (Row.Zone a) = some a
 zone-in (Row.Spot a) = none
 zone-in (Row.Point a) = none
-zone-in (Row.Checkpoint a) = none
+zone-in (Row.Checkpoint read k) = none
 zone-in (Row.Stop a) = none
 zone-in (Row.Exit a) = none
+
+abbrev made : CheckpointNumberRead → ℕ → Option CheckpointRow
+made (C.Is number) k = some (record { number = number; point = k })
+made C.Refused k = none
 
 abbrev checkpoint-in : Row → Option CheckpointRow
 checkpoint-in Row.Nothing = none
@@ -121,7 +127,7 @@ checkpoint-in (Row.Lane a) = none
 checkpoint-in (Row.Zone a) = none
 checkpoint-in (Row.Spot a) = none
 checkpoint-in (Row.Point a) = none
-checkpoint-in (Row.Checkpoint a) = some a
+checkpoint-in (Row.Checkpoint read k) = made read k
 checkpoint-in (Row.Stop a) = none
 checkpoint-in (Row.Exit a) = none
 
@@ -138,7 +144,7 @@ module _ (m : Memory) where
   segments-stored (Row.Zone a) = refl
   segments-stored (Row.Spot a) = refl
   segments-stored (Row.Point a) = refl
-  segments-stored (Row.Checkpoint a) = refl
+  segments-stored (Row.Checkpoint read k) = refl
   segments-stored (Row.Stop a) = refl
   segments-stored (Row.Exit a) = refl
 
@@ -150,7 +156,7 @@ module _ (m : Memory) where
   lanes-stored (Row.Zone a) = refl
   lanes-stored (Row.Spot a) = refl
   lanes-stored (Row.Point a) = refl
-  lanes-stored (Row.Checkpoint a) = refl
+  lanes-stored (Row.Checkpoint read k) = refl
   lanes-stored (Row.Stop a) = refl
   lanes-stored (Row.Exit a) = refl
 
@@ -162,19 +168,20 @@ module _ (m : Memory) where
   zones-stored (Row.Zone a) = refl
   zones-stored (Row.Spot a) = refl
   zones-stored (Row.Point a) = refl
-  zones-stored (Row.Checkpoint a) = refl
+  zones-stored (Row.Checkpoint read k) = refl
   zones-stored (Row.Stop a) = refl
   zones-stored (Row.Exit a) = refl
 
   checkpoints-stored : (r : Row) → stored r m .checkpoints ≡ put-if checkpointStride checkpointWords (m .checkpoints) (m .so-far .checkpoints) (checkpoint-in r)
-  unfolding stored
+  unfolding stored storeNumbered
   checkpoints-stored Row.Nothing = refl
   checkpoints-stored (Row.Segment a) = refl
   checkpoints-stored (Row.Lane a) = refl
   checkpoints-stored (Row.Zone a) = refl
   checkpoints-stored (Row.Spot a) = refl
   checkpoints-stored (Row.Point a) = refl
-  checkpoints-stored (Row.Checkpoint a) = refl
+  checkpoints-stored (Row.Checkpoint (C.Is number) k) = refl
+  checkpoints-stored (Row.Checkpoint C.Refused k) = refl
   checkpoints-stored (Row.Stop a) = refl
   checkpoints-stored (Row.Exit a) = refl
 
@@ -194,7 +201,7 @@ segment-plain (Row.Lane a) = refl
 segment-plain (Row.Zone a) = refl
 segment-plain (Row.Spot a) = refl
 segment-plain (Row.Point a) = refl
-segment-plain (Row.Checkpoint a) = refl
+segment-plain (Row.Checkpoint read k) = refl
 segment-plain (Row.Stop a) = refl
 segment-plain (Row.Exit a) = refl
 
@@ -205,7 +212,7 @@ lane-plain (Row.Lane a) = refl
 lane-plain (Row.Zone a) = refl
 lane-plain (Row.Spot a) = refl
 lane-plain (Row.Point a) = refl
-lane-plain (Row.Checkpoint a) = refl
+lane-plain (Row.Checkpoint read k) = refl
 lane-plain (Row.Stop a) = refl
 lane-plain (Row.Exit a) = refl
 
@@ -216,7 +223,7 @@ zone-plain (Row.Lane a) = refl
 zone-plain (Row.Zone a) = refl
 zone-plain (Row.Spot a) = refl
 zone-plain (Row.Point a) = refl
-zone-plain (Row.Checkpoint a) = refl
+zone-plain (Row.Checkpoint read k) = refl
 zone-plain (Row.Stop a) = refl
 zone-plain (Row.Exit a) = refl
 
@@ -227,7 +234,7 @@ checkpoint-plain (Row.Lane a) = refl
 checkpoint-plain (Row.Zone a) = refl
 checkpoint-plain (Row.Spot a) = refl
 checkpoint-plain (Row.Point a) = refl
-checkpoint-plain (Row.Checkpoint a) = refl
+checkpoint-plain (Row.Checkpoint read k) = refl
 checkpoint-plain (Row.Stop a) = refl
 checkpoint-plain (Row.Exit a) = refl
 

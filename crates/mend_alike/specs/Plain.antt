@@ -72,6 +72,6 @@ plainRow (Row.Lane a) = Row.Lane a
 plainRow (Row.Zone a) = Row.Zone (zoneRow (a .«first_point») (a .points) (a .«first_spot») (a .spots) noName)
 plainRow (Row.Spot a) = Row.Spot a
 plainRow (Row.Point a) = Row.Point a
-plainRow (Row.Checkpoint a) = Row.Checkpoint a
+plainRow (Row.Checkpoint read k) = Row.Checkpoint read k
 plainRow (Row.Stop a) = Row.Stop a
 plainRow (Row.Exit a) = Row.Exit (record { point = a .point; entry = 0 })

@@ -45,7 +45,7 @@ use Rattle.network.proofs.Answered.{filled-over, no-fault, filled-later}
 use Rattle.network.proofs.Gathered.{rows-given, filled-read}
 use Rattle.network.proofs.Holding.{CountsNetwork}
 use Rattle.network.proofs.Onward.{ends-so}
-use Rattle.network.proofs.Spelled.{statements-read, left-counted, left-filled}
+use Rattle.network.proofs.Spelled.{statements-read, numbers-fit, left-counted, left-filled}
 use Rattle.network.proofs.Stored.{shown-checkpoint}
 use Rattle.network_references.proofs.Looks.{filled-looked}
 use Rattle.network_references.proofs.Theorems.{repeats-told}
@@ -82,8 +82,8 @@ module _ (n : Network Field) (text : Bytes) (size : length text ≤ most) (s : S
 
   pub alone : (sg ln zn ck : List ℕ) (m : Memory) → filledOf march text (few noProgress sg ln zn ck) ≡ gathered m → Alone sg ln zn ck m
   alone sg ln zn ck m e =
-      let found : gathered m ≡ _ = sym e ∙ filled-read text (s .said) (statements-read n text s) sg ln zn [] [] ck [] [] in
-      let all = left-filled n text s size t room _ (filled-read text (s .said) (statements-read n text s) (zeros t .segments) (zeros t .lanes) (zeros t .zones) (zeros t .spots) (zeros t .points) (zeros t .checkpoints) (zeros t .stops) (zeros t .exits)) in
+      let found : gathered m ≡ _ = sym e ∙ filled-read text (s .said) (statements-read n text s) (numbers-fit n (s .said) (s .net)) sg ln zn [] [] ck [] [] in
+      let all = left-filled n text s size t room _ (filled-read text (s .said) (statements-read n text s) (numbers-fit n (s .said) (s .net)) (zeros t .segments) (zeros t .lanes) (zeros t .zones) (zeros t .spots) (zeros t .points) (zeros t .checkpoints) (zeros t .stops) (zeros t .exits)) in
       record {
         segments = λ q. ap (λ (f : Found Memory). memory-in m f .segments) found ∙ ap (λ (l : List ℕ). putRows segmentStride segmentWords l 0 (map shown-segment (rows-given (s .said) .segments))) q ∙ all .segments;
         lanes = λ q. ap (λ (f : Found Memory). memory-in m f .lanes) found ∙ ap (λ (l : List ℕ). putRows laneStride laneWords l 0 (map shown-lane (rows-given (s .said) .lanes))) q ∙ all .lanes;

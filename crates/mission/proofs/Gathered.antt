@@ -4,10 +4,13 @@ use mathlib.Core.List.{List, [], _∷_, _++_, map}
 use Prim.Native.Nat.{ℕ, suc}
 use native.Mathlib.Omega.{arith}
 use lib.ListN.{length}
+use Rattle.terms.specs.Words.{Each}
+use Rattle.units.specs.Range.{Numbered}
 use Rattle.line.specs.Content.{Field}
 use Rattle.grammar.specs.MissionStatements.{Kind, Says, Statement, Limit, MDF-name, RNDF, format-version, creation-date, checkpoints, num-checkpoints, end-checkpoints, speed-limits, num-speed-limits, end-speed-limits, end-file, goal, limit}
 use Rattle.grammar.specs.Tables.{MissionFileRow, MissionTables}
 use Rattle.grammar.specs.Renamed.{orders-named, order-named}
+use Rattle.grammar.proofs.Rows.{each-front, each-behind}
 use Rattle.fill.specs.Counts.{MissionCounts}
 use Rattle.fill.specs.Tally.{no-mission-counts, mission-tally, mission-tallied}
 use Rattle.fill.specs.Filling.{ends, rows}
@@ -20,8 +23,8 @@ use Rattle.statement.specs.MissionKinds.{ofKind}
 use Rattle.made_out.specs.Names.{stretch-of}
 use Rattle.mission_progress.specs.declared.MissionProgress.{MissionProgress}
 use Rattle.mission_progress.specs.declared.MissionRow.{MissionRow}
-use Rattle.mission_progress.specs.Progress.{noneRead, goalRow}
-use Rattle.mission_progress.proofs.Shown.{shown, shown-limit, shown-row, after-shown, row-shown}
+use Rattle.mission_progress.specs.Progress.{noneRead}
+use Rattle.mission_progress.proofs.Shown.{shown, shown-goal, shown-limit, shown-row, Fits, after-shown, row-shown}
 use Rattle.walk.specs.Standing.{Where, over}
 use Rattle.walk.proofs.MdfWalk.{told-as}
 use Rattle.mission.specs.Storing.{MissionMemory, memory, stored}
@@ -29,7 +32,7 @@ use Rattle.mission.specs.Reading.{with-progress, put}
 
 -- ## Rows stored from a row on
 abbrev pub goals-put : List ℕ → ℕ → List ℕ → List ℕ
-goals-put t at numbers = putRows goalStride goalWords t at (map goalRow numbers)
+goals-put t at numbers = putRows goalStride goalWords t at (map shown-goal numbers)
 
 abbrev pub limits-put : List ℕ → ℕ → List Limit → List ℕ
 limits-put t at limits = putRows limitStride limitWords t at (map shown-limit limits)
@@ -80,22 +83,32 @@ limits-on (a-goal n) c t ls = refl
 limits-on (a-limit l) c t ls = refl
 
 -- ## One statement
-put-shown : (w : Where) (k : Kind) (v : Says Stretch k) (f : MissionFileRow Stretch) (c : MissionCounts) (goals limits : List ℕ)
+put-shown : (w : Where) (k : Kind) (v : Says Stretch k) → Fits (gives Stretch k v) → (f : MissionFileRow Stretch) (c : MissionCounts) (goals limits : List ℕ)
     → put w (ofKind k v) (memory (shown f c) goals limits) ≡ with-rows (next k v f) (mission-tally k c) goals limits c (in-tables (gives Stretch k v))
 unfolding put
-put-shown w k v f c goals limits =
+put-shown w k v h f c goals limits =
     ap₂ (λ (p : MissionProgress) (m : MissionMemory). with-progress p m) (after-shown k v f c)
-    (ap (λ (r : MissionRow). stored r (memory (shown f c) goals limits)) (row-shown k v) ∙ row-stored (gives Stretch k v) f c goals limits)
+    (ap (λ (r : MissionRow). stored r (memory (shown f c) goals limits)) (row-shown k v h) ∙ row-stored (gives Stretch k v) f c goals limits)
 
 -- ## All statements
-pub over-shown : (ws : List Where) (ts : List (Statement Field)) → length ws ≡ length ts → (f : MissionFileRow Stretch) (c : MissionCounts) (goals limits : List ℕ)
+-- rows whose numbers are of their kinds
+pub record AllFit (o : Rows) : Type 0 where
+  pub goals : Each Numbered (o .goals)
+  pub limits : Each (λ l. Fits (a-limit l)) (o .limits)
+
+row-fits : (r : Row) → AllFit (in-tables r) → Fits r
+row-fits nothing h = tt
+row-fits (a-goal n) h = h .goals .0
+row-fits (a-limit l) h = h .limits .0
+
+pub over-shown : (ws : List Where) (ts : List (Statement Field)) → length ws ≡ length ts → (f : MissionFileRow Stretch) → AllFit (rows mission-filling (map (order-named stretch-of) ts) f) → (c : MissionCounts) (goals limits : List ℕ)
     → over (λ w t. put w (told-as t)) ws ts (memory (shown f c) goals limits)
     ≡ with-rows (ends mission-filling (map (order-named stretch-of) ts) f) (mission-tallied (map (order-named stretch-of) ts) c) goals limits c (rows mission-filling (map (order-named stretch-of) ts) f)
 unfolding over ends rows mission-tallied putRows
-over-shown [] [] e f c goals limits = refl
-over-shown [] (t ∷ ts) e f c goals limits = absurd (omega arith)
-over-shown (w ∷ ws) [] e f c goals limits = absurd (omega arith)
-over-shown (w ∷ ws) (t ∷ ts) e f c goals limits =
+over-shown [] [] e f h c goals limits = refl
+over-shown [] (t ∷ ts) e f h c goals limits = absurd (omega arith)
+over-shown (w ∷ ws) [] e f h c goals limits = absurd (omega arith)
+over-shown (w ∷ ws) (t ∷ ts) e f h c goals limits =
     let k = t .kind in
     let v = orders-named stretch-of k (t .val) in
     let r = gives Stretch k v in
@@ -103,10 +116,12 @@ over-shown (w ∷ ws) (t ∷ ts) e f c goals limits =
     let o : Rows = rows mission-filling us (next k v f) in
     let g : List ℕ = goals-put goals (c .goals) (in-tables r .goals) in
     let l : List ℕ = limits-put limits (c .limits) (in-tables r .limits) in
+    let first : AllFit (in-tables r) = record { goals = each-front Numbered (in-tables r .goals) (o .goals) (h .goals); limits = each-front (λ l. Fits (a-limit l)) (in-tables r .limits) (o .limits) (h .limits) } in
+    let others : AllFit o = record { goals = each-behind Numbered (in-tables r .goals) (o .goals) (h .goals); limits = each-behind (λ l. Fits (a-limit l)) (in-tables r .limits) (o .limits) (h .limits) } in
     let goals-are = ap (λ (d : MissionCounts). goals-put g (d .goals) (o .goals)) (tally-by-row k v c) ∙ goals-on r c goals (o .goals) in
     let limits-are = ap (λ (d : MissionCounts). limits-put l (d .limits) (o .limits)) (tally-by-row k v c) ∙ limits-on r c limits (o .limits) in
-    ap (over (λ w t. put w (told-as t)) ws ts) (put-shown w k v f c goals limits)
-    ∙ over-shown ws ts (omega (arith, e)) (next k v f) (mission-tally k c) g l
+    ap (over (λ w t. put w (told-as t)) ws ts) (put-shown w k v (row-fits r first) f c goals limits)
+    ∙ over-shown ws ts (omega (arith, e)) (next k v f) others (mission-tally k c) g l
     ∙ ap₂ (memory (shown (ends mission-filling us (next k v f)) (mission-tallied us (mission-tally k c)))) goals-are limits-are
 
 -- from the first statement on: the tables of `fill`
@@ -116,7 +131,11 @@ tables-of ts = mission-fill (stretch 0 0) (map (order-named stretch-of) ts)
 abbrev pub counts-of : List (Statement Field) → MissionCounts
 counts-of ts = mission-tallied (map (order-named stretch-of) ts) no-mission-counts
 
-pub all-shown : (ws : List Where) (ts : List (Statement Field)) → length ws ≡ length ts → (goals limits : List ℕ)
+-- the numbers in these are of their kinds
+abbrev pub TablesFit : MissionTables Stretch → Type 0
+TablesFit t = AllFit (record { goals = t .goals; limits = t .limits })
+
+pub all-shown : (ws : List Where) (ts : List (Statement Field)) → length ws ≡ length ts → TablesFit (tables-of ts) → (goals limits : List ℕ)
     → over (λ w t. put w (told-as t)) ws ts (memory noneRead goals limits) ≡ memory (shown (tables-of ts .file) (counts-of ts)) (goals-put goals 0 (tables-of ts .goals)) (limits-put limits 0 (tables-of ts .limits))
 unfolding mission-fill
-all-shown ws ts e goals limits = over-shown ws ts e (start (stretch 0 0)) no-mission-counts goals limits
+all-shown ws ts e h goals limits = over-shown ws ts e (start (stretch 0 0)) h no-mission-counts goals limits

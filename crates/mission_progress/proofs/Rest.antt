@@ -8,8 +8,9 @@ use Rattle.rows.specs.declared.MissionFileRow.{MissionFileRow}
 use Rattle.statement.specs.declared.Order.{Order}
 use Rattle.statement.specs.declared.Order.the-variants as o
 use Rattle.statement.proofs.Order.{the-type}
+use Rattle.mission_progress.specs.declared.MissionProgress.{MissionProgress}
 use Rattle.mission_progress.specs.declared.MissionRow.the-variants as Row
-use Rattle.mission_progress.specs.Progress.{fileAfterOf, missionRowOf}
+use Rattle.mission_progress.specs.Progress.{fileAfterOf, missionRowOf, as-many, countedOf}
 
 -- all but the four that give a name
 abbrev nameless : List ℕ
@@ -50,3 +51,19 @@ no-row o.EndSpeedLimits h = refl
 no-row o.EndFile h = refl
 no-row (o.Goal n) h = absurd (miss rowless 11 tt h)
 no-row (o.Limit i a b) h = absurd (miss rowless 12 tt h)
+
+pub none-more : (s : Order) (f : MissionFileRow) (p : MissionProgress) → OneOf rowless (tagOf the-type s) → countedOf s f p ≡ as-many f p
+unfolding countedOf
+none-more (o.MdfName a l) f p h = refl
+none-more (o.Rndf a l) f p h = refl
+none-more (o.FormatVersion a l) f p h = refl
+none-more (o.CreationDate a l) f p h = refl
+none-more o.Checkpoints f p h = refl
+none-more (o.NumCheckpoints n) f p h = refl
+none-more o.EndCheckpoints f p h = refl
+none-more o.SpeedLimits f p h = refl
+none-more (o.NumSpeedLimits n) f p h = refl
+none-more o.EndSpeedLimits f p h = refl
+none-more o.EndFile f p h = refl
+none-more (o.Goal n) f p h = absurd (miss rowless 11 tt h)
+none-more (o.Limit i a b) f p h = absurd (miss rowless 12 tt h)

@@ -6,14 +6,12 @@ use Rattle.terms.specs.Words.{pick}
 use Rattle.rows.specs.Read.{stretchOf}
 use Rattle.rows.specs.declared.Stretch.{Stretch}
 use Rattle.rows.specs.declared.MissionFileRow.{MissionFileRow}
-use Rattle.rows.specs.declared.GoalRow.{GoalRow}
-use Rattle.rows.specs.declared.LimitRow.{LimitRow}
 use Rattle.statement.specs.declared.Order.{Order}
 use Rattle.statement.specs.declared.Order.the-variants as o
 use Rattle.mission_progress.specs.declared.MissionProgress.{MissionProgress}
 use Rattle.mission_progress.specs.declared.MissionRow.{MissionRow}
 use Rattle.mission_progress.specs.declared.MissionRow.the-variants as Row
-use Rattle.mission_progress.specs.Kinds.{goalNumber, limitId, limitSpeed}
+use Rattle.mission_progress.specs.Given.{goalGiven, limitGiven}
 
 -- 01: "a missing name is 0, 0"
 abbrev pub missingName : Stretch
@@ -43,12 +41,6 @@ fileAfterOf (o.Goal n) f = f
 fileAfterOf (o.Limit i a b) f = f
 
 -- the row that a statement gives
-abbrev pub goalRow : ℕ → GoalRow
-goalRow n = record { number = goalNumber n }
-
-abbrev pub limitRow : (id minimum maximum : ℕ) → LimitRow
-limitRow id minimum maximum = record { id = limitId id; minimum = limitSpeed minimum; maximum = limitSpeed maximum }
-
 unfoldable pub missionRowOf : Order → MissionRow
 missionRowOf (o.MdfName a l) = Row.Nothing
 missionRowOf (o.Rndf a l) = Row.Nothing
@@ -61,17 +53,36 @@ missionRowOf o.SpeedLimits = Row.Nothing
 missionRowOf (o.NumSpeedLimits n) = Row.Nothing
 missionRowOf o.EndSpeedLimits = Row.Nothing
 missionRowOf o.EndFile = Row.Nothing
-missionRowOf (o.Goal n) = Row.Goal (goalRow n)
-missionRowOf (o.Limit i a b) = Row.Limit (limitRow i a b)
+missionRowOf (o.Goal n) = goalGiven n
+missionRowOf (o.Limit i a b) = limitGiven i a b
 
--- a row for each goal and each limit
-abbrev pub counted : MissionRow → MissionFileRow → MissionProgress → MissionProgress
-counted Row.Nothing f p = record { file = f; goals = p .goals; limits = p .limits }
-counted (Row.Goal g) f p = record { file = f; goals = p .goals + 1; limits = p .limits }
-counted (Row.Limit l) f p = record { file = f; goals = p .goals; limits = p .limits + 1 }
+-- a row for each line of a goal, and of a limit
+abbrev pub as-many : MissionFileRow → MissionProgress → MissionProgress
+as-many f p = record { file = f; goals = p .goals; limits = p .limits }
+
+abbrev pub one-goal : MissionFileRow → MissionProgress → MissionProgress
+one-goal f p = record { file = f; goals = p .goals + 1; limits = p .limits }
+
+abbrev pub one-limit : MissionFileRow → MissionProgress → MissionProgress
+one-limit f p = record { file = f; goals = p .goals; limits = p .limits + 1 }
+
+unfoldable pub countedOf : Order → MissionFileRow → MissionProgress → MissionProgress
+countedOf (o.MdfName a l) f p = as-many f p
+countedOf (o.Rndf a l) f p = as-many f p
+countedOf (o.FormatVersion a l) f p = as-many f p
+countedOf (o.CreationDate a l) f p = as-many f p
+countedOf o.Checkpoints f p = as-many f p
+countedOf (o.NumCheckpoints n) f p = as-many f p
+countedOf o.EndCheckpoints f p = as-many f p
+countedOf o.SpeedLimits f p = as-many f p
+countedOf (o.NumSpeedLimits n) f p = as-many f p
+countedOf o.EndSpeedLimits f p = as-many f p
+countedOf o.EndFile f p = as-many f p
+countedOf (o.Goal n) f p = one-goal f p
+countedOf (o.Limit i a b) f p = one-limit f p
 
 unfoldable pub missionAfterOf : Order → MissionProgress → MissionProgress
-missionAfterOf s p = counted (missionRowOf s) (fileAfterOf s (p .file)) p
+missionAfterOf s p = countedOf s (fileAfterOf s (p .file)) p
 
 -- as the program counts: where one row more might not fit into 32 bits, nothing more is counted. No text that is read has so many rows (proofs/Shown.counts)
 unfoldable pub missionAfterWithin : Order → MissionProgress → MissionProgress

@@ -20,7 +20,7 @@ ghost use mathlib.Core.Path.{_≡_};
 ghost use Prim.Native.Nat.{_<_};
 ghost use lib.Dec.{leb};
 ghost use Rattle.rows.specs.Read.{stretchOf};
-ghost use Rattle.mission_progress.specs.Kinds.{goalNumber, limitId, limitSpeed};
+ghost use Rattle.mission_progress.specs.Given.{goalGiven, limitGiven};
 ghost use Rattle.mission_progress.specs.Progress.{noneRead, total, fileAfterOf, missionAfterOf, missionAfterWithin, missionRowOf};
 
 // The number of rows from which on nothing more is counted. No text that is read has so many.
@@ -39,35 +39,33 @@ pub enum MissionRow {
     Limit(LimitRow),
 }
 
-// A number as a kind. No place lets a number through that its constructor refuses; for all that each such number has an answer that is no value of the kind.
-fn goal_number(n: u32) -> CheckpointNumber
-    ensures { λ r. ⌜ r ≡ goalNumber n ⌝ }
+// The row of a goal, or of a limit; none where a number is not of its kind, as no place lets through.
+fn goal_row(n: u32) -> MissionRow
+    ensures { λ r. ⌜ r ≡ goalGiven n ⌝ }
 {
-    let read = CheckpointNumber::new(n);
-    match read {
-        CheckpointNumberRead::Is(number) => number,
-        CheckpointNumberRead::Refused => CheckpointNumber(0),
-    }
+    let CheckpointNumberRead::Is(number) = CheckpointNumber::new(n) else {
+        return MissionRow::Nothing;
+    };
+    MissionRow::Goal(GoalRow { number })
 }
 
-fn limit_id(n: u32) -> SegmentId
-    ensures { λ r. ⌜ r ≡ limitId n ⌝ }
+fn limit_row(id: u32, minimum: u32, maximum: u32) -> MissionRow
+    ensures { λ r. ⌜ r ≡ limitGiven id minimum maximum ⌝ }
 {
-    let read = SegmentId::new(n);
-    match read {
-        SegmentIdRead::Is(id) => id,
-        SegmentIdRead::Refused => SegmentId(0),
-    }
-}
-
-fn limit_speed(n: u32) -> Mph
-    ensures { λ r. ⌜ r ≡ limitSpeed n ⌝ }
-{
-    let read = Mph::new(n);
-    match read {
-        MphRead::Is(speed) => speed,
-        MphRead::Refused => Mph(65535),
-    }
+    let SegmentIdRead::Is(part) = SegmentId::new(id) else {
+        return MissionRow::Nothing;
+    };
+    let MphRead::Is(least) = Mph::new(minimum) else {
+        return MissionRow::Nothing;
+    };
+    let MphRead::Is(most) = Mph::new(maximum) else {
+        return MissionRow::Nothing;
+    };
+    MissionRow::Limit(LimitRow {
+        id: part,
+        minimum: least,
+        maximum: most,
+    })
 }
 
 fn name_at(start: u32, length: u32) -> Stretch
@@ -180,14 +178,8 @@ pub fn mission_row(o: Order) -> MissionRow
     ensures { λ r. ⌜ r ≡ missionRowOf o ⌝ }
 {
     match o {
-        Order::Goal(n) => MissionRow::Goal(GoalRow {
-            number: goal_number(n),
-        }),
-        Order::Limit(id, minimum, maximum) => MissionRow::Limit(LimitRow {
-            id: limit_id(id),
-            minimum: limit_speed(minimum),
-            maximum: limit_speed(maximum),
-        }),
+        Order::Goal(n) => goal_row(n),
+        Order::Limit(id, minimum, maximum) => limit_row(id, minimum, maximum),
         _ => MissionRow::Nothing,
     }
 }

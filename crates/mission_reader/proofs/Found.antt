@@ -26,13 +26,13 @@ use Rattle.rows.specs.Lay.{rowsOf}
 use Rattle.rows.proofs.Lay.{fits-row}
 use Rattle.rows.proofs.Tables.{length-put-rows}
 use Rattle.table_words.specs.Words.{MissionLent, mission-zeros}
-use Rattle.mission_progress.specs.Progress.{noneRead, goalRow}
+use Rattle.mission_progress.specs.Progress.{noneRead}
 use Rattle.mission_progress.proofs.Shown as P
 use Rattle.walk.specs.Walking.{Found, fault, gathered}
 use Rattle.mission.specs.Storing.{MissionMemory, memory}
 use Rattle.mission.specs.Reading.{filledOf}
 use Rattle.mission.proofs.Gathered.{goals-put, limits-put, tables-of, counts-of}
-use Rattle.mission.proofs.Filled.{filled-faulty, filled-short, filled-read, filled-spelled, all-read, mission-memory}
+use Rattle.mission.proofs.Filled.{filled-faulty, filled-short, filled-over, filled-read, numbers-fit, filled-spelled, all-read, mission-memory}
 use Rattle.mission_reader.specs.MissionReplies.{RoomFor}
 
 abbrev line-of : Found MissionMemory → ℕ
@@ -65,7 +65,7 @@ found-fault mdf g l i k e = go (read-mdf mdf) refl
     go (short j) r =
         let q = sym (filled-short mdf (memory noneRead g l) j r) ∙ e in
         inr (mdf-unended-right mdf i (r ∙ ap (λ (a : ℕ). short a) (ap line-of q)), sym (ap number-of q))
-    go (read ts) r = no-fault (sym (filled-read mdf ts r g l) ∙ e)
+    go (read ts) r = no-fault (sym (filled-over mdf (memory noneRead g l) ts r) ∙ e)
 
 -- ## Rows
 pub found-mission : (mdf : Bytes) (g l : List ℕ) (w : MissionMemory) → filledOf mdf (memory noneRead g l) ≡ gathered w → (m : Mission Field) × SpellsMdf m mdf
@@ -101,7 +101,7 @@ module _ (m : Mission Field) (text : Bytes) (s : SpellsMdf m text) where
     held goals limits = memory (P.shown (tables-of (s .said) .file) (counts-of (s .said))) (goals-put goals 0 (tables-of (s .said) .goals)) (limits-put limits 0 (tables-of (s .said) .limits))
 
     left-is : w ≡ held g l
-    left-is = ap (left-in w) (sym e ∙ filled-read text (s .said) statements-read g l)
+    left-is = ap (left-in w) (sym e ∙ filled-read text (s .said) statements-read (numbers-fit m text s) g l)
 
     -- THE LAWS: whatever room there is, the rows are counted and the file's own row is known; for what is known does not depend on what the tables hold
     pub known-behind : w .so-far ≡ all-read m
@@ -109,11 +109,11 @@ module _ (m : Mission Field) (text : Bytes) (s : SpellsMdf m text) where
         let zg = mission-zeros ample .goals in
         let zl = mission-zeros ample .limits in
         ap (λ (x : MissionMemory). x .so-far) left-is
-        ∙ ap (λ (x : Found MissionMemory). left-in w x .so-far) (sym (filled-read text (s .said) statements-read zg zl) ∙ filled-spelled m text s ample ample-room)
+        ∙ ap (λ (x : Found MissionMemory). left-in w x .so-far) (sym (filled-read text (s .said) statements-read (numbers-fit m text s) zg zl) ∙ filled-spelled m text s ample ample-room)
 
     -- and each table is as long as it was
     pub goals-long : length (w .goals) ≡ length g
-    goals-long = ap (λ (x : MissionMemory). length (x .goals)) left-is ∙ length-put-rows goalStride goalWords (lit< tt) (λ v. refl) g 0 (map goalRow (tables-of (s .said) .goals))
+    goals-long = ap (λ (x : MissionMemory). length (x .goals)) left-is ∙ length-put-rows goalStride goalWords (lit< tt) (λ v. refl) g 0 (map P.shown-goal (tables-of (s .said) .goals))
 
     pub limits-long : length (w .limits) ≡ length l
     limits-long = ap (λ (x : MissionMemory). length (x .limits)) left-is ∙ length-put-rows limitStride limitWords (lit< tt) (λ v. refl) l 0 (map P.shown-limit (tables-of (s .said) .limits))

@@ -28,7 +28,7 @@ use Rattle.network.specs.Storing.{memory}
 use Rattle.network.specs.Reading.{with-progress, put, filledOf}
 use Rattle.network.proofs.Answered.{by-meaning}
 use Rattle.network.proofs.ExitLines.{exit-starts, exits-at}
-use Rattle.network.proofs.Stored.{told, shown-point, shown-checkpoint, shown-stop, exit-point, rows-put, first-behind, within-behind, points-behind, statements-put}
+use Rattle.network.proofs.Stored.{told, shown-point, shown-checkpoint, shown-stop, AllNumbered, exit-point, rows-put, first-behind, within-behind, points-behind, statements-put}
 
 -- ## What the statements of a text give. Names are stretches of the text
 abbrev pub nothing-yet : State Stretch
@@ -53,7 +53,7 @@ pub points-so-far : (ts : List (Statement Field)) → progress-behind ts .first 
 points-so-far ts = points-behind (told ts) nothing-yet 0 0 refl
 
 -- THE LAW
-pub filled-read : (text : Bytes) (ts : List (Statement Field)) → read-rndf text ≡ read ts → (sg ln zn sp : List ℕ) (pt : List ℤ) (ck st ex : List ℕ)
+pub filled-read : (text : Bytes) (ts : List (Statement Field)) → read-rndf text ≡ read ts → AllNumbered (rows-given ts .checkpoints) → (sg ln zn sp : List ℕ) (pt : List ℤ) (ck st ex : List ℕ)
     → filledOf march text (memory noProgress sg ln zn sp pt ck st ex) ≡ gathered (memory (progress-behind ts)
     (putRows segmentStride segmentWords sg 0 (map shown-segment (rows-given ts .segments)))
     (putRows laneStride laneWords ln 0 (map shown-lane (rows-given ts .lanes)))
@@ -64,8 +64,8 @@ pub filled-read : (text : Bytes) (ts : List (Statement Field)) → read-rndf tex
     (putRows stopStride stopWords st 0 (map shown-stop (rows-given ts .stops)))
     (putRows exitStride exitWords ex 0 (exits-given text ts)))
 unfolding filledOf rows-put
-filled-read text ts e sg ln zn sp pt ck st ex =
+filled-read text ts e g sg ln zn sp pt ck st ex =
     let m = memory noProgress sg ln zn sp pt ck st ex in
     ap (λ (p : Progress). E.whole-walk march put by-meaning (with-progress p m) text) (sym none-shown)
     ∙ E.walk-read march put by-meaning (with-progress (shown nothing-yet no-counts 0 0) m) text ts e
-    ∙ ap gathered (statements-put (places-in text) ts (R.rndf-as-many text ts e) nothing-yet no-counts 0 0 refl (refl, refl, refl) m)
+    ∙ ap gathered (statements-put (places-in text) ts (R.rndf-as-many text ts e) nothing-yet g no-counts 0 0 refl (refl, refl, refl) m)

@@ -1,4 +1,4 @@
--- Rows in their ranges are shown with their own words: no width or number is refused, no row number is cut. Assumes nothing.
+-- Rows in their ranges are shown with their own words: no width is refused, no row number is cut. Assumes nothing.
 use mathlib.Core.Path.{_≡_, refl, sym, ap, ap₂, _∙_}
 use mathlib.Core.List.{List, [], _∷_, map}
 use mathlib.Core.Option.{Option, none, some}
@@ -6,20 +6,18 @@ use mathlib.Core.Logic.{inl, inr}
 use Prim.Native.Nat.{ℕ, suc, _≤_, _<_}
 use native.Mathlib.Omega.{arith}
 use lib.ListN.{length, replicate}
-use Rattle.terms.specs.Words.{Each, Between}
+use Rattle.terms.specs.Words.{Each}
 use Rattle.grammar.specs.Tables as T
-use Rattle.grammar.specs.Network.{largest}
 use Rattle.line.specs.Content.{Field}
 use Rattle.units.specs.declared.Feet.{Feet}
 use Rattle.units.specs.declared.FeetRead.{FeetRead}
-use Rattle.units.specs.declared.CheckpointNumberRead.{CheckpointNumberRead}
-use Rattle.units.proofs.Ranges.{feet-is, checkpoint-number-is}
+use Rattle.units.proofs.Ranges.{feet-is}
 use Rattle.made_out.specs.Names.{stretch-of}
 use Rattle.rows.specs.declared.Stretch as RS
 use Rattle.rows.specs.Lay.{rowsOf, putRow}
 use Rattle.rows.specs.Columns.{segmentWords, laneWords, zoneWords, spotWords, checkpointWords, stopWords}
 use Rattle.rows.specs.Table.{tableOf, putRows}
-use Rattle.progress.specs.After.{widthOf, width-read, numberOf, number-read, fileRow}
+use Rattle.progress.specs.After.{widthOf, width-read, fileRow}
 use Rattle.room.specs.Room.{fitted}
 use Rattle.room.proofs.Fitted.{fitted-kept}
 use Rattle.progress.specs.Shown.{shown-if-given, shown-file, shown-segment, shown-lane, shown-zone, shown-spot}
@@ -39,10 +37,6 @@ unfolding widthOf
 width-kept w (inl e) = ap (λ (x : ℕ). widthOf x .0) e ∙ ap (λ (x : Feet). x .0) missing-shown ∙ sym e
 width-kept w (inr h) = ap (λ (x : FeetRead). width-read x .0) (feet-is (record { low = omega arith; high = h }))
 
-number-kept : (w : ℕ) → Between 1 largest w → numberOf w .0 ≡ w
-unfolding numberOf
-number-kept w b = ap (λ (x : CheckpointNumberRead). number-read x .0) (checkpoint-number-is (record { low = b .low; high = b .high }))
-
 -- the row of a point that there is fits into a word
 pub row-kept : (n points : ℕ) → n < points → points ≤ most → fitted n ≡ n
 row-kept n points h l = fitted-kept n (omega arith)
@@ -55,7 +49,7 @@ pub spot-kept : (points : ℕ) (r : T.SpotRow) → SpotBounds points r → spotW
 spot-kept points r b = ap (λ (w : ℕ). r .first-point ∷ w ∷ []) (width-kept (r .width) (b .width))
 
 pub checkpoint-kept : (points : ℕ) → points ≤ most → (r : T.CheckpointRow) → CheckpointBounds points r → checkpointWords (shown-checkpoint r) ≡ checkpoint-words r
-checkpoint-kept points l r b = ap₂ (λ (a p : ℕ). a ∷ p ∷ []) (number-kept (r .number) (b .number)) (row-kept (r .point) points (b .inside) l)
+checkpoint-kept points l r b = ap (λ (p : ℕ). r .number ∷ p ∷ []) (row-kept (r .point) points (b .inside) l)
 
 pub stop-kept : (points : ℕ) → points ≤ most → (n : ℕ) → n < points → stopWords (shown-stop n) ≡ stop-words n
 stop-kept points l n h = ap (λ (p : ℕ). p ∷ []) (row-kept n points h l)

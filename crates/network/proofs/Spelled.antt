@@ -9,6 +9,7 @@ use lib.Dec.{lit<}
 use lib.IntN.{pos}
 use Rattle.terms.specs.Ascii.{Bytes}
 use Rattle.terms.proofs.Lists.{each-map, each-any}
+use Rattle.units.specs.Range.{Numbered}
 use Rattle.line.specs.Content.{Field}
 use Rattle.grammar.specs.Editions.{Edition, march}
 use Rattle.grammar.specs.Statements.{Statement, PointId}
@@ -52,7 +53,7 @@ use Rattle.network.specs.Storing.{Memory, memory}
 use Rattle.network.specs.Reading.{most, filledOf}
 use Rattle.network.proofs.Answered.{filled-over, no-fault, found-rows}
 use Rattle.network.proofs.ExitLines.{exit-starts, exits-at}
-use Rattle.network.proofs.Stored.{told, shown-point, shown-checkpoint, shown-stop, exit-point}
+use Rattle.network.proofs.Stored.{told, shown-point, shown-checkpoint, shown-stop, AllNumbered, exit-point}
 use Rattle.network.proofs.Gathered.{nothing-yet, rows-given, state-behind, progress-behind, exits-given, points-so-far, filled-read}
 use Rattle.network.proofs.Kept.{row-kept, lane-kept, spot-kept, checkpoint-kept, stop-kept, segment-kept, zone-kept, file-kept, table-kept}
 use Rattle.network.proofs.Holding.{at-first, CountsNetwork, exits-by-line, HoldsNetwork, CountedNetwork, FilledNetwork}
@@ -62,6 +63,15 @@ module _ (n : Network Field) (ts : List (Statement Field)) (s : SpellsNetwork n 
   rows-are : tabled (state-behind ts .file) (rows-given ts) ≡ tables-named stretch-of (tables-unresolved n)
   unfolding fill
   rows-are = network-fills (stretch 0 0) (network-named stretch-of n) (told ts) (network-spelled stretch-of n ts s) ∙ tables-with-named stretch-of n (λ e. e)
+
+  -- every checkpoint number is one
+  pub numbers-fit : AllNumbered (rows-given ts .checkpoints)
+  unfolding tables-with
+  numbers-fit =
+      let b = spelled-bounded (λ e. e) n ts s .checkpoints in
+      let points = length (tables-unresolved n .points) in
+      subst AllNumbered (ap (λ (t : Tables Stretch PointId). t .checkpoints) (sym rows-are))
+      (each-map (CheckpointBounds points) (λ r. Numbered (r .number)) (λ r h. record { low = h .number .low; high = h .number .high }) (tables-unresolved n .checkpoints) b)
 
   counts-are : tallied (told ts) no-counts ≡ sizes (tables n)
   counts-are =
@@ -190,7 +200,7 @@ module _ (n : Network Field) (text : Bytes) (h : SpellsRndf n text) where
   pub counted-spelled : (t : Lent) → CountedNetwork n (filledOf march text (at-first t))
   counted-spelled t = record {
     left = _;
-    rows = filled-read text (h .said) (statements-read n text h) (t .segments) (t .lanes) (t .zones) (t .spots) (t .points) (t .checkpoints) (t .stops) (t .exits);
+    rows = filled-read text (h .said) (statements-read n text h) (numbers-fit n (h .said) (h .net)) (t .segments) (t .lanes) (t .zones) (t .spots) (t .points) (t .checkpoints) (t .stops) (t .exits);
     counts = progress-counts n (h .said) (h .net);
   }
 
@@ -198,7 +208,7 @@ module _ (n : Network Field) (text : Bytes) (h : SpellsRndf n text) where
   pub filled-spelled : length text ≤ most → (t : Lent) → HasRoom (sizes (tables n)) t → FilledNetwork n (exit-line-starts n text h) t (filledOf march text (at-first (zeros t)))
   filled-spelled long t room = record {
     left = held n text h long t room;
-    rows = filled-read text (h .said) (statements-read n text h) (zeros t .segments) (zeros t .lanes) (zeros t .zones) (zeros t .spots) (zeros t .points) (zeros t .checkpoints) (zeros t .stops) (zeros t .exits);
+    rows = filled-read text (h .said) (statements-read n text h) (numbers-fit n (h .said) (h .net)) (zeros t .segments) (zeros t .lanes) (zeros t .zones) (zeros t .spots) (zeros t .points) (zeros t .checkpoints) (zeros t .stops) (zeros t .exits);
     counts = progress-counts n (h .said) (h .net);
     holds = held-is n text h long t room;
   }

@@ -10,6 +10,8 @@ use lib.Dec.{leb}
 use lib.IntN.{ℤ}
 use borrow.Author.Tests.{leb-true}
 use Rattle.terms.specs.Words.{pick}
+use Rattle.units.specs.declared.CheckpointNumberRead.{CheckpointNumberRead}
+use Rattle.units.specs.declared.CheckpointNumberRead.the-variants as C
 use Rattle.rows.specs.declared.PointRow.{PointRow}
 use Rattle.rows.specs.Lay.{putRow}
 use Rattle.rows.specs.Columns.{segmentWords, laneWords, zoneWords, spotWords, pointWords, checkpointWords, stopWords, exitWords}
@@ -22,7 +24,7 @@ use Rattle.progress.specs.After.{total, afterOf}
 use Rattle.progress.specs.Given.{rowOf}
 use Rattle.progress.proofs.Shown.{grows}
 use Rattle.walk.specs.Standing.{Where}
-use Rattle.network.specs.Storing.{Memory, memory, storePart, stored}
+use Rattle.network.specs.Storing.{Memory, memory, storePart, storeNumbered, stored}
 use Rattle.network.specs.Reading.{with-progress, put}
 
 -- how long each table is
@@ -61,6 +63,11 @@ part-long t first within a = go (leb (first * 2) (length t)) refl
         let k = length-take-le (first * 2) t h in
         length-append (take (first * 2) t) (putRow 2 (drop (first * 2) t) within (pointWords a)) ∙ omega arith
 
+numbered-long : (t : List ℕ) (row : ℕ) (read : CheckpointNumberRead) (point : ℕ) → length (storeNumbered t row read point) ≡ length t
+unfolding storeNumbered
+numbered-long t row (C.Is number) point = length-put 2 t row (checkpointWords (record { number = number; point = point })) refl
+numbered-long t row C.Refused point = refl
+
 pub stored-long : (r : Row) (m : Memory) → lengths (stored r m) ≡ lengths m
 unfolding stored
 stored-long Row.Nothing m = refl
@@ -69,7 +76,7 @@ stored-long (Row.Lane a) m = rw (length-put 5 (m .lanes) (m .so-far .lanes) (lan
 stored-long (Row.Zone a) m = rw (length-put 6 (m .zones) (m .so-far .zones) (zoneWords a) refl) refl
 stored-long (Row.Spot a) m = rw (length-put 2 (m .spots) (m .so-far .spots) (spotWords a) refl) refl
 stored-long (Row.Point a) m = rw (part-long (m .points) (m .so-far .first) (m .so-far .within) a) refl
-stored-long (Row.Checkpoint a) m = rw (length-put 2 (m .checkpoints) (m .so-far .checkpoints) (checkpointWords a) refl) refl
+stored-long (Row.Checkpoint read point) m = rw (numbered-long (m .checkpoints) (m .so-far .checkpoints) read point) refl
 stored-long (Row.Stop a) m = rw (length-put 1 (m .stops) (m .so-far .stops) (stopWords a) refl) refl
 stored-long (Row.Exit a) m = rw (length-put 2 (m .exits) (m .so-far .exits) (exitWords a) refl) refl
 

@@ -5,11 +5,17 @@ use Prim.Native.Nat.{ℕ, _+_, _<_}
 use native.Mathlib.Omega.{arith}
 use lib.ListN.{length, length-append, length-map}
 use lib.Dec.{lit<}
+use Rattle.terms.specs.Words.{Each}
+use Rattle.units.specs.Range.{Numbered}
+use Rattle.units.specs.Made.{checkpointNumber}
+use Rattle.units.specs.declared.CheckpointNumberRead.{CheckpointNumberRead}
+use Rattle.units.proofs.Ranges.{checkpoint-number-is}
 use Rattle.line.specs.Content.{Field}
 use Rattle.grammar.specs.Language.{asKind}
 use Rattle.grammar.specs.Statements.{Kind, Says, Statement, lines, say, PointId, Position, RNDF-name, num-segments, num-zones, format-version, creation-date, segment, num-lanes, segment-name, end-segment, lane, num-waypoints, lane-width, left-boundary, right-boundary, checkpoint, stop, exit, end-lane, zone, num-spots, zone-name, end-zone, perimeter, num-perimeterpoints, end-perimeter, spot, spot-width, end-spot, end-file, point}
 use Rattle.grammar.specs.Renamed.{says-named, statement-named}
 use Rattle.grammar.specs.Tables as T
+use Rattle.grammar.proofs.Rows.{each-front, each-behind}
 use Rattle.fill.specs.NetworkRows.{State, Rows, in-tables, _⊕_, next, gives, rows, ends}
 use Rattle.fill.specs.NetworkRows as NR
 use Rattle.fill.specs.Filling as Filling
@@ -30,13 +36,13 @@ use Rattle.rows.specs.Table.{putRows}
 use Rattle.rows.proofs.Tables.{put-rows-append}
 use Rattle.progress.specs.declared.Progress.{Progress}
 use Rattle.progress.specs.declared.Row as DR
-use Rattle.progress.specs.After.{numberOf}
+use Rattle.progress.specs.declared.Row.the-variants as Row
 use Rattle.room.specs.Room.{fitted}
 use Rattle.progress.specs.Shown.{shown, shown-row, shown-segment, shown-lane, shown-zone, shown-spot, first-after, within-after}
 use Rattle.progress.proofs.Shown.{after-shown, points-kept, row-shown}
 use Rattle.walk.specs.Standing.{Where, over}
 use Rattle.walk.proofs.RndfWalk.{told-as}
-use Rattle.network.specs.Storing.{Memory, memory, storePart, stored}
+use Rattle.network.specs.Storing.{Memory, memory, storePart, storeNumbered, stored}
 use Rattle.network.specs.Reading.{with-progress, put}
 use Rattle.network.proofs.Parts.{part-is}
 use Rattle.network.proofs.ExitLines.{if-there, exit-starts, exit-at, exits-at}
@@ -46,7 +52,11 @@ abbrev pub shown-point : Position → PointRow
 shown-point p = record { latitude = p .latitude; longitude = p .longitude }
 
 abbrev pub shown-checkpoint : T.CheckpointRow → CheckpointRow
-shown-checkpoint a = record { number = numberOf (a .number); point = fitted (a .point) }
+shown-checkpoint a = record { number = checkpointNumber (a .number); point = fitted (a .point) }
+
+-- the numbers of these checkpoints are of their kind
+abbrev pub AllNumbered : List T.CheckpointRow → Type 0
+AllNumbered = Each (λ a. Numbered (a .number))
 
 abbrev pub shown-stop : ℕ → StopRow
 shown-stop n = record { point = fitted n }
@@ -79,21 +89,21 @@ exit-of start (NR.a-checkpoint a) = []
 exit-of start (NR.a-stop a) = []
 exit-of start (NR.an-exit a) = exit-at (exit-point a) start ∷ []
 
-row-put : (r : NR.Row Stretch) (start : ℕ) (s : State Stretch) (c : Counts) (f w : ℕ) → f + w ≡ c .points → (p : Progress) (m : Memory)
+row-put : (r : NR.Row Stretch) → AllNumbered (in-tables r .checkpoints) → (start : ℕ) (s : State Stretch) (c : Counts) (f w : ℕ) → f + w ≡ c .points → (p : Progress) (m : Memory)
     → with-progress p (stored (shown-row start r) (with-progress (shown s c f w) m)) ≡ rows-put p c (in-tables r) (exit-of start r) m
-unfolding stored rows-put putRows
-row-put NR.nothing start s c f w e p m = refl
-row-put (NR.a-segment a) start s c f w e p m = refl
-row-put (NR.a-lane a) start s c f w e p m = refl
-row-put (NR.a-zone a) start s c f w e p m = refl
-row-put (NR.a-spot a) start s c f w e p m = refl
-row-put (NR.a-point a) start s c f w e p m =
+unfolding stored storeNumbered rows-put putRows
+row-put NR.nothing g start s c f w e p m = refl
+row-put (NR.a-segment a) g start s c f w e p m = refl
+row-put (NR.a-lane a) g start s c f w e p m = refl
+row-put (NR.a-zone a) g start s c f w e p m = refl
+row-put (NR.a-spot a) g start s c f w e p m = refl
+row-put (NR.a-point a) g start s c f w e p m =
     let q : storePart (m .points) f w (shown-point a) ≡ putRow pointStride (m .points) (c .points) (pointWords (shown-point a))
     = part-is (m .points) f w (shown-point a) ∙ ap (λ (i : ℕ). putRow pointStride (m .points) i (pointWords (shown-point a))) e in
     λ i. memory p (m .segments) (m .lanes) (m .zones) (m .spots) (q i) (m .checkpoints) (m .stops) (m .exits)
-row-put (NR.a-checkpoint a) start s c f w e p m = refl
-row-put (NR.a-stop a) start s c f w e p m = refl
-row-put (NR.an-exit a) start s c f w e p m = refl
+row-put (NR.a-checkpoint a) g start s c f w e p m = ap (λ (read : CheckpointNumberRead). with-progress p (stored (Row.Checkpoint read (fitted (a .point))) (with-progress (shown s c f w) m))) (checkpoint-number-is (g .0))
+row-put (NR.a-stop a) g start s c f w e p m = refl
+row-put (NR.an-exit a) g start s c f w e p m = refl
 
 one-exit : (start : ℕ) (r : NR.Row Stretch) → length (exit-of start r) ≡ length (in-tables r .exits)
 one-exit start NR.nothing = refl
@@ -152,14 +162,14 @@ agree-one : (u : Statement Stretch) (s : State Stretch) (c : Counts) → Agree s
 unfolding tallied Filling.ends
 agree-one u s c h = ends-agree (u ∷ []) s c h
 
-statement-put : (place : Where) (u : Statement Stretch) (s : State Stretch) (c : Counts) (f w : ℕ) → f + w ≡ s .points → Agree s c → (m : Memory)
+statement-put : (place : Where) (u : Statement Stretch) (s : State Stretch) → AllNumbered (in-tables (gives (u .kind) (u .val) s) .checkpoints) → (c : Counts) (f w : ℕ) → f + w ≡ s .points → Agree s c → (m : Memory)
     → put place (ofKind (u .kind) (u .val)) (with-progress (shown s c f w) m)
     ≡ rows-put (shown (next (u .kind) (u .val) s) (tally (u .kind) c) (first-after (u .kind) f w) (within-after (u .kind) w)) c (in-tables (gives (u .kind) (u .val) s)) (exit-of (place .last) (gives (u .kind) (u .val) s)) m
 unfolding put
-statement-put place u s c f w e h m =
+statement-put place u s g c f w e h m =
     let q : f + w ≡ c .points = e ∙ h .2 in
     ap₂ (λ (p : Progress) (r : DR.Row). with-progress p (stored r (with-progress (shown s c f w) m))) (after-shown (u .kind) (u .val) s c f w e (h .0) (h .1)) (row-shown (u .kind) (u .val) s c f w (place .last) e)
-    ∙ row-put (gives (u .kind) (u .val) s) (place .last) s c f w q (shown (next (u .kind) (u .val) s) (tally (u .kind) c) (first-after (u .kind) f w) (within-after (u .kind) w)) m
+    ∙ row-put (gives (u .kind) (u .val) s) g (place .last) s c f w q (shown (next (u .kind) (u .val) s) (tally (u .kind) c) (first-after (u .kind) f w) (within-after (u .kind) w)) m
 
 -- ## Statements, each where it stands
 -- where the points of the last part begin behind statements, and how many there are
@@ -186,14 +196,14 @@ exit-rows (w ∷ ws) (u ∷ us) s = exit-of (w .last) (gives (u .kind) (u .val) 
 abbrev pub told : List (Statement Field) → List (Statement Stretch)
 told = map (statement-named stretch-of)
 
-all-put : (ws : List Where) (ts : List (Statement Field)) → length ws ≡ length ts → (s : State Stretch) (c : Counts) (f w : ℕ) → f + w ≡ s .points → Agree s c → (m : Memory)
+all-put : (ws : List Where) (ts : List (Statement Field)) → length ws ≡ length ts → (s : State Stretch) → AllNumbered (rows (told ts) s .checkpoints) → (c : Counts) (f w : ℕ) → f + w ≡ s .points → Agree s c → (m : Memory)
     → over (λ w t. put w (told-as t)) ws ts (with-progress (shown s c f w) m)
     ≡ rows-put (shown (ends (told ts) s) (tallied (told ts) c) (first-behind (told ts) f w) (within-behind (told ts) w)) c (rows (told ts) s) (exit-rows ws (told ts) s) m
 unfolding over rows-put putRows first-behind within-behind exit-rows tallied Filling.rows Filling.ends
-all-put [] [] n s c f w e h m = refl
-all-put [] (t ∷ ts) n s c f w e h m = absurd (omega arith)
-all-put (v ∷ ws) [] n s c f w e h m = absurd (omega arith)
-all-put (v ∷ ws) (t ∷ ts) n s c f w e h m =
+all-put [] [] n s g c f w e h m = refl
+all-put [] (t ∷ ts) n s g c f w e h m = absurd (omega arith)
+all-put (v ∷ ws) [] n s g c f w e h m = absurd (omega arith)
+all-put (v ∷ ws) (t ∷ ts) n s g c f w e h m =
     let u : Statement Stretch = statement-named stretch-of t in
     let s′ = next (u .kind) (u .val) s in
     let c′ = tally (u .kind) c in
@@ -202,8 +212,10 @@ all-put (v ∷ ws) (t ∷ ts) n s c f w e h m =
     let r = gives (u .kind) (u .val) s in
     let p′ = shown s′ c′ f′ w′ in
     let m′ = rows-put p′ c (in-tables r) (exit-of (v .last) r) m in
-    ap (λ (x : Memory). over (λ w t. put w (told-as t)) ws ts x) (statement-put v u s c f w e h m)
-    ∙ all-put ws ts (omega arith) s′ c′ f′ w′ (points-kept (u .kind) (u .val) s f w e) (agree-one u s c h) m′
+    let g₁ = each-front (λ a. Numbered (a .number)) (in-tables r .checkpoints) (rows (told ts) s′ .checkpoints) g in
+    let g₂ = each-behind (λ a. Numbered (a .number)) (in-tables r .checkpoints) (rows (told ts) s′ .checkpoints) g in
+    ap (λ (x : Memory). over (λ w t. put w (told-as t)) ws ts x) (statement-put v u s g₁ c f w e h m)
+    ∙ all-put ws ts (omega arith) s′ g₂ c′ f′ w′ (points-kept (u .kind) (u .val) s f w e) (agree-one u s c h) m′
     ∙ rows-put-twice p′ (shown (ends (told ts) s′) (tallied (told ts) c′) (first-behind (told ts) f′ w′) (within-behind (told ts) w′)) c c′ (in-tables r) (rows (told ts) s′) (exit-of (v .last) r) (exit-rows ws (told ts) s′) m (counted-one u s c) (one-exit (v .last) r)
 
 -- ## The exits: each exit's point with the start of its entry
@@ -253,9 +265,9 @@ exit-rows-are (w ∷ ws) (t ∷ ts) n s =
     ∙ sym (exit-here (t .kind) (t .val) s (w .last) (rows (told ts) s′ .exits) (exit-starts ws ts))
 
 -- THE LAW
-pub statements-put : (ws : List Where) (ts : List (Statement Field)) → length ws ≡ length ts → (s : State Stretch) (c : Counts) (f w : ℕ) → f + w ≡ s .points → Agree s c → (m : Memory)
+pub statements-put : (ws : List Where) (ts : List (Statement Field)) → length ws ≡ length ts → (s : State Stretch) → AllNumbered (rows (told ts) s .checkpoints) → (c : Counts) (f w : ℕ) → f + w ≡ s .points → Agree s c → (m : Memory)
     → over (λ w t. put w (told-as t)) ws ts (with-progress (shown s c f w) m)
     ≡ rows-put (shown (ends (told ts) s) (tallied (told ts) c) (first-behind (told ts) f w) (within-behind (told ts) w)) c (rows (told ts) s) (exits-at (map exit-point (rows (told ts) s .exits)) (exit-starts ws ts)) m
-statements-put ws ts n s c f w e h m =
-    all-put ws ts n s c f w e h m
+statements-put ws ts n s g c f w e h m =
+    all-put ws ts n s g c f w e h m
     ∙ ap (λ (es : List ExitRow). rows-put (shown (ends (told ts) s) (tallied (told ts) c) (first-behind (told ts) f w) (within-behind (told ts) w)) c (rows (told ts) s) es m) (exit-rows-are ws ts n s)

@@ -18,6 +18,7 @@ use progress::Progress;
 use progress::Row;
 use refusal::Fault;
 use refusal::LONGEST_TEXT;
+use rows::CheckpointRow;
 use rows::POINT_STRIDE;
 use rows::PointRow;
 use rows::store_checkpoint;
@@ -32,6 +33,7 @@ use said_line::Line;
 use said_line::Said;
 use said_line::line_said;
 use statement::Statement;
+use units::CheckpointNumberRead;
 ghost use mathlib.Core.Path.{_≡_};
 ghost use Prim.Native.Nat.{_≤_};
 ghost use lib.ListN.{length};
@@ -40,7 +42,7 @@ ghost use Rattle.grammar.specs.PlaceTable.{rndf-table};
 ghost use Rattle.place_table.specs.Verdicts.{verdictOf};
 ghost use Rattle.edition.specs.Editions.{inner};
 ghost use Rattle.progress.specs.After.{noProgress, total};
-ghost use Rattle.network.specs.Storing.{Memory, memory, storePart, stored};
+ghost use Rattle.network.specs.Storing.{Memory, memory, storePart, storeNumbered, stored};
 ghost use Rattle.network.specs.Reading.{told, filledIn};
 ghost use Rattle.network.specs.Reaching.{refusalOf, stood, onwards, reachedIn, endedOf};
 
@@ -65,6 +67,16 @@ fn store_in_part(points: &mut [i32], first: u32, within: u32, point: PointRow)
     }
 }
 
+// A checkpoint with the number that its kind made; none where it made none.
+fn store_numbered(checkpoints: &mut [u32], row: usize, read: CheckpointNumberRead, point: u32)
+    ensures { λ _. ⌜ now (checkpoints .exit) ≡ storeNumbered (now (checkpoints .entry)) row read point ⌝ }
+{
+    let CheckpointNumberRead::Is(number) = read else {
+        return;
+    };
+    store_checkpoint(checkpoints, row, CheckpointRow { number, point });
+}
+
 // The row that a statement gave, behind the rows that its table has so far.
 fn store(
     segments: &mut [u32],
@@ -87,7 +99,9 @@ fn store(
         Row::Zone(a) => store_zone(zones, gained.zones as usize, a),
         Row::Spot(a) => store_spot(spots, gained.spots as usize, a),
         Row::Point(a) => store_in_part(points, gained.first, gained.within, a),
-        Row::Checkpoint(a) => store_checkpoint(checkpoints, gained.checkpoints as usize, a),
+        Row::Checkpoint(read, point) => {
+            store_numbered(checkpoints, gained.checkpoints as usize, read, point)
+        }
         Row::Stop(a) => store_stop(stops, gained.stops as usize, a),
         Row::Exit(a) => store_exit(exits, gained.exits as usize, a),
     }

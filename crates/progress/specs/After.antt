@@ -2,13 +2,10 @@
 use Prim.Native.Nat.{ℕ, suc, _+_}
 use Rattle.grammar.specs.Tables.{first-spot}
 use Rattle.room.specs.Room.{fitted}
-use Rattle.units.specs.Made.{feet, checkpointNumber, feetOf, checkpointNumberOf, missingFeet}
+use Rattle.units.specs.Made.{feet, feetOf, missingFeet}
 use Rattle.units.specs.declared.Feet.{Feet}
-use Rattle.units.specs.declared.CheckpointNumber.{CheckpointNumber}
 use Rattle.units.specs.declared.FeetRead.{FeetRead}
 use Rattle.units.specs.declared.FeetRead.the-variants as F
-use Rattle.units.specs.declared.CheckpointNumberRead.{CheckpointNumberRead}
-use Rattle.units.specs.declared.CheckpointNumberRead.the-variants as C
 use Rattle.rows.specs.declared.Stretch.{Stretch}
 use Rattle.rows.specs.declared.FileRow.{FileRow}
 use Rattle.rows.specs.declared.SegmentRow.{SegmentRow}
@@ -29,13 +26,6 @@ width-read F.Refused = missingFeet
 
 unfoldable pub widthOf : ℕ → Feet
 widthOf n = width-read (feetOf n)
-
-abbrev pub number-read : CheckpointNumberRead → CheckpointNumber
-number-read (C.Is n) = n
-number-read C.Refused = checkpointNumber 0
-
-unfoldable pub numberOf : ℕ → CheckpointNumber
-numberOf n = number-read (checkpointNumberOf n)
 
 -- a boundary's number; any other than 1 to 4 is taken for the last
 unfoldable pub sideOf : ℕ → ℕ

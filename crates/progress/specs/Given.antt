@@ -2,12 +2,13 @@
 use Prim.Native.Nat.{ℕ}
 use Rattle.grammar.specs.Tables.{row-of}
 use Rattle.room.specs.Room.{fitted}
+use Rattle.units.specs.Made.{checkpointNumberOf}
 use Rattle.statement.specs.declared.Statement.{Statement}
 use Rattle.statement.specs.declared.Statement.the-variants as st
 use Rattle.progress.specs.declared.Progress.{Progress}
 use Rattle.progress.specs.declared.Row.{Row}
 use Rattle.progress.specs.declared.Row.the-variants as Row
-use Rattle.progress.specs.After.{numberOf, next-point}
+use Rattle.progress.specs.After.{next-point}
 
 -- the row of waypoint z of the part that is open. Options come before the points of their part, so its first point is the next row of the points
 abbrev pub pointOf : Progress → ℕ → ℕ
@@ -29,7 +30,7 @@ rowOf (st.NumWaypoints n) start p = Row.Nothing
 rowOf (st.LaneWidth n) start p = Row.Nothing
 rowOf (st.LeftBoundary b) start p = Row.Nothing
 rowOf (st.RightBoundary b) start p = Row.Nothing
-rowOf (st.Checkpoint i n) start p = Row.Checkpoint (record { number = numberOf n; point = pointOf p (i .z) })
+rowOf (st.Checkpoint i n) start p = Row.Checkpoint (checkpointNumberOf n) (pointOf p (i .z))
 rowOf (st.Stop i) start p = Row.Stop (record { point = pointOf p (i .z) })
 rowOf (st.Exit i e) start p = Row.Exit (record { point = pointOf p (i .z); entry = start })
 rowOf st.EndLane start p = Row.Lane (p .lane)

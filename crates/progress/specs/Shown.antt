@@ -15,7 +15,8 @@ use Rattle.rows.specs.declared.SpotRow.{SpotRow}
 use Rattle.progress.specs.declared.Progress.{Progress}
 use Rattle.progress.specs.declared.Row.{Row}
 use Rattle.progress.specs.declared.Row.the-variants as Row
-use Rattle.progress.specs.After.{named, noName, fileRow, segmentRow, laneRow, zoneRow, spotRow, widthOf, numberOf}
+use Rattle.progress.specs.After.{named, noName, fileRow, segmentRow, laneRow, zoneRow, spotRow, widthOf}
+use Rattle.units.specs.Made.{checkpointNumberOf}
 use Rattle.room.specs.Room.{fitted}
 
 -- ## Names and rows
@@ -135,6 +136,6 @@ shown-row start (NR.a-lane a) = Row.Lane (shown-lane a)
 shown-row start (NR.a-zone a) = Row.Zone (shown-zone a)
 shown-row start (NR.a-spot a) = Row.Spot (shown-spot a)
 shown-row start (NR.a-point a) = Row.Point (record { latitude = a .latitude; longitude = a .longitude })
-shown-row start (NR.a-checkpoint a) = Row.Checkpoint (record { number = numberOf (a .number); point = fitted (a .point) })
+shown-row start (NR.a-checkpoint a) = Row.Checkpoint (checkpointNumberOf (a .number)) (fitted (a .point))
 shown-row start (NR.a-stop n) = Row.Stop (record { point = fitted n })
 shown-row start (NR.an-exit a) = Row.Exit (record { point = fitted (a .point); entry = start })

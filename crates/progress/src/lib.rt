@@ -6,7 +6,6 @@
 //
 // Rests on `rows` (the rows by value), `room` (a count or a row's number in a word), `units`, `statement`, `fill` and `grammar`.
 use room::in_word;
-use rows::CheckpointRow;
 use rows::ExitRow;
 use rows::FileRow;
 use rows::LaneRow;
@@ -26,7 +25,7 @@ ghost use Prim.Native.Nat.{suc, pred, _+_};
 ghost use Rattle.grammar.specs.Tables.{first-spot};
 ghost use Rattle.units.specs.Made.{missingFeet};
 ghost use Rattle.room.specs.Room.{fitted};
-ghost use Rattle.progress.specs.After.{named, noName, fileRow, segmentRow, laneRow, zoneRow, spotRow, noSegment, noLane, noZone, noSpot, noProgress, widthOf, numberOf, sideOf, next-point, with-segment, with-lane, with-zone, with-spot, one-checkpoint, one-stop, one-exit, points-at, begun, afterWithin};
+ghost use Rattle.progress.specs.After.{named, noName, fileRow, segmentRow, laneRow, zoneRow, spotRow, noSegment, noLane, noZone, noSpot, noProgress, widthOf, sideOf, next-point, with-segment, with-lane, with-zone, with-spot, one-checkpoint, one-stop, one-exit, points-at, begun, afterWithin};
 ghost use Rattle.progress.specs.Given.{pointOf, rowOf};
 ghost use Rattle.statement.specs.declared.Statement.the-variants as st;
 
@@ -52,6 +51,7 @@ pub struct Progress {
 }
 
 // What a statement gives: nothing, or one row of one table. The entry of an exit is where its field starts in the text: it is looked up later.
+// A checkpoint's is what its kind answers to the number, and the point: no number that the kind refuses becomes a row (no place lets one through).
 pub enum Row {
     Nothing,
     Segment(SegmentRow),
@@ -59,28 +59,18 @@ pub enum Row {
     Zone(ZoneRow),
     Spot(SpotRow),
     Point(PointRow),
-    Checkpoint(CheckpointRow),
+    Checkpoint(CheckpointNumberRead, u32),
     Stop(StopRow),
     Exit(ExitRow),
 }
 
-// The width that a number is; a number that is none counts as missing.
+// The width that a number is; a number that is none, as no place lets through, is the width that is missing.
 fn feet(n: u32) -> Feet
     ensures { λ r. ⌜ r ≡ widthOf n ⌝ }
 {
     match Feet::new(n) {
         FeetRead::Is(width) => width,
         FeetRead::Refused => Feet::missing(),
-    }
-}
-
-// The checkpoint number that a number is; one that is none counts as 0, which no checkpoint has.
-fn checkpoint_number(n: u32) -> CheckpointNumber
-    ensures { λ r. ⌜ r ≡ numberOf n ⌝ }
-{
-    match CheckpointNumber::new(n) {
-        CheckpointNumberRead::Is(number) => number,
-        CheckpointNumberRead::Refused => CheckpointNumber(0),
     }
 }
 
@@ -540,10 +530,9 @@ impl Progress {
                 latitude: latitude,
                 longitude: longitude,
             }),
-            Statement::Checkpoint(i, n) => Row::Checkpoint(CheckpointRow {
-                number: checkpoint_number(n),
-                point: self.point_row(i.z),
-            }),
+            Statement::Checkpoint(i, n) => {
+                Row::Checkpoint(CheckpointNumber::new(n), self.point_row(i.z))
+            }
             Statement::Stop(i) => Row::Stop(StopRow {
                 point: self.point_row(i.z),
             }),

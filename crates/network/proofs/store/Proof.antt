@@ -6,7 +6,7 @@ use Rattle.network.proofs.store.Tie as tie
 use Rattle.network.proofs.store.Reads as reads
 use Rattle.network.proofs.store.Lts as lts
 use Rattle.network.proofs.store_in_part.Reads as store-in-part-reads
-use Rattle.rows.proofs.store_checkpoint.Reads as store-checkpoint-reads
+use Rattle.network.proofs.store_numbered.Reads as store-numbered-reads
 use Rattle.rows.proofs.store_exit.Reads as store-exit-reads
 use Rattle.rows.proofs.store_lane.Reads as store-lane-reads
 use Rattle.rows.proofs.store_segment.Reads as store-segment-reads
@@ -78,12 +78,12 @@ enum-known-row-6 : tie.Need-enum-known-row-6
 enum-known-row-6 c = search needs
 
 -- src/lib.rt:59:61
-cast-store-checkpoint : tie.Need-cast-store-checkpoint
-cast-store-checkpoint c = search needs
+cast-store-numbered : tie.Need-cast-store-numbered
+cast-store-numbered c = search needs
 
 -- src/lib.rt:59:31
-store-checkpoint-requires : tie.Need-store-checkpoint-requires
-store-checkpoint-requires c κs = search needs
+store-numbered-requires : tie.Need-store-numbered-requires
+store-numbered-requires c κs = search needs
 
 -- src/lib.rt:60:19
 enum-known-row-7 : tie.Need-enum-known-row-7
@@ -166,7 +166,7 @@ same-length-6 c = search needs
 -- src/lib.rt:49:1
 returns-7 : tie.Need-returns-7
 unfolding stored
-returns-7 c = rw (c .before .before .before .before .before .before .row6 .given .1, c .before .before .store-checkpoint .ensures) refl
+returns-7 c = rw (c .before .before .before .before .before .before .row6 .given .1, c .before .before .store-numbered .ensures) refl
 
 -- src/lib.rt:49:1
 same-length-7 : tie.Need-same-length-7
@@ -206,8 +206,8 @@ store-spec =
     enum-known-row-5
     store-in-part-requires
     enum-known-row-6
-    cast-store-checkpoint
-    store-checkpoint-requires
+    cast-store-numbered
+    store-numbered-requires
     enum-known-row-7
     cast-store-stop
     store-stop-requires

@@ -1,6 +1,6 @@
 -- `mission_progress::MissionProgress::onward` meets its contract. Assumes nothing.
-use Rattle.mission_progress.specs.Progress.{missionRowOf, missionAfterOf}
-use Rattle.mission_progress.proofs.Rest.{no-row}
+use Rattle.mission_progress.specs.Progress.{countedOf, missionAfterOf}
+use Rattle.mission_progress.proofs.Rest.{none-more}
 use borrow.Author.Needs.{needs}
 use Rattle.mission_progress.proofs.MissionProgress.onward.Statement.{statement}
 use Rattle.mission_progress.proofs.MissionProgress.onward.Tie as tie
@@ -21,16 +21,16 @@ add-t7 : tie.Need-add-t7
 add-t7 c = search needs
 
 returns : tie.Need-returns
-unfolding missionAfterOf missionRowOf
+unfolding missionAfterOf countedOf
 returns c = rw (c .before .before .before .file-after .ensures, c .before .enum-told .given .1)
 
 returns-2 : tie.Need-returns-2
-unfolding missionAfterOf missionRowOf
+unfolding missionAfterOf countedOf
 returns-2 c = rw (c .before .before .before .file-after .ensures, c .before .enum-told2 .given .1)
 
 returns-3 : tie.Need-returns-3
-unfolding missionAfterOf missionRowOf
-returns-3 c = rw (c .before .file-after .ensures, no-row (c .before .before .before .args .o) (c .match .keys3))
+unfolding missionAfterOf
+returns-3 c = rw (c .before .file-after .ensures, none-more (c .before .before .before .args .o) _ (c .before .before .before .args .self) (c .match .keys3))
 
 pub onward-spec : {M : Type 1} → statement M
 onward-spec =

@@ -26,8 +26,8 @@ enum-known-s c = search needs
 enum-known-s-2 : tie.Need-enum-known-s-2
 enum-known-s-2 c = search needs
 
-checkpoint-number-requires : tie.Need-checkpoint-number-requires
-checkpoint-number-requires c κs = search needs
+new-requires : tie.Need-new-requires
+new-requires c κs = search needs
 
 point-row-requires : tie.Need-point-row-requires
 point-row-requires c κs = search needs
@@ -71,7 +71,7 @@ returns-5 c =
 
 returns-6 : tie.Need-returns-6
 unfolding rowOf
-returns-6 c = rw (c .before .before .before .s2 .given .1, c .before .checkpoint-number .ensures, c .point-row .ensures) refl
+returns-6 c = rw (c .before .before .before .s2 .given .1, c .before .new .ensures, c .point-row .ensures) refl
 
 returns-7 : tie.Need-returns-7
 unfolding rowOf
@@ -94,7 +94,7 @@ row-spec =
     enum-told-4
     enum-known-s
     enum-known-s-2
-    checkpoint-number-requires
+    new-requires
     point-row-requires
     enum-known-s-3
     point-row-requires-2
