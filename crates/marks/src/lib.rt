@@ -12,6 +12,7 @@
 use read_rows::checkpoint_at;
 use read_rows::goal_at;
 use read_rows::limit_at;
+use units::CheckpointNumber;
 use units::SegmentId;
 ghost use mathlib.Core.Path.{_≡_};
 ghost use Rattle.fill.specs.FirstFaults.{in-parts};
@@ -33,12 +34,12 @@ pub enum BadLimit {
 }
 
 // ## Marks
-// Only the numbers 1 to 32,768 have a mark; that of a number is bit (number - 1) % 8, the lowest bit first, of byte (number - 1) / 8.
+// 01: "32,768 marks, one for each checkpoint number"; identifiers of segments and zones go no farther. Other numbers have none. That of a number is bit (number - 1) % 8, the lowest bit first, of byte (number - 1) / 8.
 pub fn is_marked(marks: &[u8; 4096], number: u16) -> bool
     ensures { λ r. ⌜ r ≡ isMarked (now (marks .entry)) number ⌝ }
 {
     if 1 <= number {
-        if number <= 32768 {
+        if number <= CheckpointNumber::LARGEST {
             let at = (number - 1) as usize;
             let eight = marks[at / 8];
             return (eight >> (at % 8)) % 2 == 1;
@@ -51,7 +52,7 @@ pub fn mark(marks: &mut [u8; 4096], number: u16)
     ensures { λ _. ⌜ now (marks .exit) ≡ withMark (now (marks .entry)) number ⌝ }
 {
     if 1 <= number {
-        if number <= 32768 {
+        if number <= CheckpointNumber::LARGEST {
             let at = (number - 1) as usize;
             let byte = at / 8;
             let eight = marks[byte];

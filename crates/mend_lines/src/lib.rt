@@ -12,6 +12,7 @@ use number::Number;
 use number::integer_of;
 use scan::far_byte_from;
 use statement::kinds;
+use units::LARGEST_INTEGER;
 use word::begins_with_digit;
 ghost use mathlib.Core.Path.{_≡_};
 ghost use lib.ListN.{take, drop};
@@ -197,7 +198,7 @@ fn second_number(s: &[u8]) -> Numbered
     let Number::Is(m) = integer_of(&s[start..stop]) else {
         return Numbered::No;
     };
-    if m <= 32768 {
+    if m <= LARGEST_INTEGER {
         Numbered::At(start, stop, m)
     } else {
         Numbered::No
@@ -226,7 +227,7 @@ fn corrected(number: Numbered, n: usize) -> Becomes
     let Numbered::At(start, stop, m) = number else {
         return Becomes::Stays;
     };
-    if 32768 < n {
+    if (LARGEST_INTEGER as usize) < n {
         return Becomes::Stays;
     }
     if m as usize == n {

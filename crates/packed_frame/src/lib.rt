@@ -10,6 +10,8 @@ use packed_rows::is_record;
 use packed_rows::pair;
 use rows::FileRow;
 use rows::Stretch;
+use units::Feet;
+use units::LARGEST_INTEGER;
 ghost use mathlib.Core.Path.{_≡_};
 ghost use Prim.Native.Nat.{ℕ, _<_, _+_, _≤_};
 ghost use lib.ListN.{take, drop, length};
@@ -122,7 +124,7 @@ pub enum Segments {
 fn run_fits(sum: u64, begin: u32, size: u16) -> bool
     ensures { λ r. ⌜ r ≡ run-fits sum begin size ⌝ }
 {
-    (begin as u64 == sum) & ((1 <= size) & (size <= 32768))
+    (begin as u64 == sum) & ((1 <= size) & (size as u32 <= LARGEST_INTEGER))
 }
 
 // The place behind the segment here; 0 where it is none.
@@ -170,7 +172,8 @@ pub enum Zones {
 fn spots_fit(spot: u64, begin: u32, spots: u16) -> bool
     ensures { λ r. ⌜ r ≡ spots-fit spot begin spots ⌝ }
 {
-    (spots <= 32768) & (((spots == 0) & (begin == 0)) | ((spots != 0) & (begin as u64 == spot)))
+    (spots as u32 <= LARGEST_INTEGER)
+        & (((spots == 0) & (begin == 0)) | ((spots != 0) & (begin as u64 == spot)))
 }
 
 // The place behind the zone here; 0 where it is none.
@@ -216,7 +219,8 @@ pub fn zones_at(bytes: &[u8], from: usize, count: u32, first: u64) -> Zones
 fn spot_fits(point: u64, begin: u32, width: u16) -> bool
     ensures { λ r. ⌜ r ≡ spot-right point begin width ⌝ }
 {
-    (begin as u64 == point) & (((1 <= width) & (width <= 32768)) | (width == 65535))
+    (begin as u64 == point)
+        & (((1 <= width) & (width <= Feet::LARGEST)) | (width == Feet::MISSING.0))
 }
 
 // A record of a spot with this first point stands at this place.

@@ -9,6 +9,7 @@ use marks::is_marked;
 use marks::mark;
 use packed_rows::four_at;
 use packed_rows::is_record;
+use units::CheckpointNumber;
 ghost use mathlib.Core.Path.{_≡_};
 ghost use mathlib.Core.List.{[]};
 ghost use Prim.Native.Nat.{_+_, _-_};
@@ -30,7 +31,7 @@ fn is_new(bytes: &[u8], at: usize, marks: &[u8; 4096]) -> bool
     if is_record(bytes, at, 6) {
         let number = four_at(bytes, at + 2) / 65536;
         if 1 <= number {
-            if number <= 32768 {
+            if number <= CheckpointNumber::LARGEST as u32 {
                 return !is_marked(marks, number as u16);
             }
         }

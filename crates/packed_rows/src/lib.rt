@@ -5,7 +5,11 @@
 // specs/Walk: the walk, executable. proofs/Walked: it says what packed_law/specs/Packed.AreRecords says. proofs/Laws: the laws of the loop.
 // specs/Fixed, Points, Lanes: the other walks, executable; proofs/FixedLaws, PointLaws, LaneLaws: the laws of their loops. What they say: `packed_tables`/proofs/Fixed, Points; of lanes it is owed.
 //
-// Rests on `packed_law`, `output` and what they rest on. Settled: the contract reads `r ≡ f ..`.
+// Rests on `packed_law`, `output`, `units` and what they rest on. Settled: the contract reads `r ≡ f ..`.
+use units::Feet;
+use units::LARGEST_INTEGER;
+use units::LARGEST_LATITUDE;
+use units::LARGEST_LONGITUDE;
 ghost use mathlib.Core.Path.{_≡_};
 ghost use Prim.Native.Nat.{_<_};
 ghost use lib.ListN.{drop};
@@ -105,8 +109,8 @@ fn is_point(bytes: &[u8], at: usize) -> bool
     if is_record(bytes, at, 8) {
         let latitude = four_at(bytes, at + 2);
         let longitude = four_at(bytes, at + 6);
-        if is_degree(90000000, latitude) {
-            is_degree(180000000, longitude)
+        if is_degree(LARGEST_LATITUDE as u32, latitude) {
+            is_degree(LARGEST_LONGITUDE as u32, longitude)
         } else {
             false
         }
@@ -132,11 +136,15 @@ pub fn are_points(bytes: &[u8], from: usize, count: u32) -> bool
     true
 }
 
-// A width that is given, or 65,535.
+// A width that is given, or the missing one.
 fn is_width(w: u32) -> bool
     ensures { λ r. ⌜ r ≡ width-right w ⌝ }
 {
-    if w <= 32768 { true } else { w == 65535 }
+    if w <= Feet::LARGEST as u32 {
+        true
+    } else {
+        w == Feet::MISSING.0 as u32
+    }
 }
 
 // A lane's numbers are in their ranges, and its first point is the sum so far.
@@ -145,7 +153,7 @@ fn lane_fits(sum: u64, begin: u32, counts: u32, sides: u32) -> bool
 {
     if begin as u64 == sum {
         if 1 <= counts / 65536 {
-            if counts / 65536 <= 32768 {
+            if counts / 65536 <= LARGEST_INTEGER {
                 if is_width(counts % 65536) {
                     if sides / 256 % 256 <= 4 {
                         return sides % 256 <= 4;

@@ -15,6 +15,9 @@ returns : tie.Need-returns
 unfolding correctedOf
 returns c = rw (c .enum-told .given .1)
 
+cast-if1 : tie.Need-cast-if1
+cast-if1 c = search needs
+
 returns-2 : tie.Need-returns-2
 unfolding correctedOf
 returns-2 c = rw (c .before .before .number .given .1, lt-leb _ 32768 (c .if1 .taken))
@@ -32,4 +35,4 @@ returns-4 c = rw (c .before .before .before .number .given .1, le-leb _ 32768 (c
 
 pub corrected-spec : {M : Type 1} → statement M
 corrected-spec =
-    tie.close (tie.spec enum-known-number enum-told returns returns-2 cast-if2 returns-3 returns-4)
+    tie.close (tie.spec enum-known-number enum-told returns cast-if1 returns-2 cast-if2 returns-3 returns-4)

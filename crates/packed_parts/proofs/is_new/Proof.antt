@@ -19,6 +19,9 @@ add-four-at c = search (needs, here-inside (c .before .before .before .args .byt
 four-at-requires : tie.Need-four-at-requires
 four-at-requires c κs = tt
 
+cast-if3 : tie.Need-cast-if3
+cast-if3 c = search needs
+
 cast-is-marked : tie.Need-cast-is-marked
 cast-is-marked c = search needs
 
@@ -44,6 +47,7 @@ is-new-spec =
     is-record-requires
     add-four-at
     four-at-requires
+    cast-if3
     cast-is-marked
     is-marked-requires
     returns
