@@ -14,5 +14,5 @@ abbrev pub rules-of : Edition → Rules
 rules-of e = reading (inner e)
 
 -- to C it is a number: 1 is December 6, 2006, any other the present one
-unfoldable pub numbered : ℕ → Edition
-numbered n = pick (eqb n 1) December2006 March2007
+unfoldable pub edition-numbered : ℕ → Edition
+edition-numbered n = pick (eqb n 1) December2006 March2007

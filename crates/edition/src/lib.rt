@@ -4,7 +4,7 @@
 //
 // Rests on `grammar` and what it rests on.
 ghost use mathlib.Core.Path.{_≡_};
-ghost use Rattle.edition.specs.Editions.{numbered};
+ghost use Rattle.edition.specs.Editions.{edition-numbered};
 
 // The present one, of March 14, 2007, and the one as it stood on December 6, 2006.
 pub enum Edition {
@@ -14,7 +14,7 @@ pub enum Edition {
 
 // To C it is a number: 1 is December 6, 2006, any other the present one.
 pub fn edition_of(number: u32) -> Edition
-    ensures { λ r. ⌜ r ≡ numbered number ⌝ }
+    ensures { λ r. ⌜ r ≡ edition-numbered number ⌝ }
 {
     if number == 1 {
         Edition::December2006

@@ -22,7 +22,7 @@ use Rattle.law.specs.Faults.{Sound, waypoint, first}
 use Rattle.law.specs.Tables.{Lent, lent, HasRoom}
 use Rattle.edition.specs.declared.Edition.{Edition}
 use Rattle.edition.specs.Editions.{rules-of}
-use Rattle.replies.specs.Replies.{most, AcceptsRndf}
+use Rattle.replies.specs.Replies.{longest, AcceptsRndf}
 use Rattle.house_text.specs.HouseText.{house-text, house-rndf}
 use Rattle.house_text.proofs.Lawful.{house-rndf-is}
 use Rattle.house_text.proofs.Theorems.{rndf-one-writing}
@@ -64,14 +64,14 @@ module _ (name version date : Field) (width i j : ℕ) where
   sound : Sound net
   sound = record { entries = (waypoint _ _ first first (record { low = omega arith; high = omega arith }), tt); numbers = ((λ a. a), tt) }
 
-  written-so : (edition : Edition) (text : Bytes) → SpellsText (rules-of edition) SpellsNetwork net text → length text ≤ most → GoodNetwork net → length (house-rndf net) ≤ 16777215 → Written edition text
+  written-so : (edition : Edition) (text : Bytes) → SpellsText (rules-of edition) SpellsNetwork net text → length text ≤ longest → GoodNetwork net → length (house-rndf net) ≤ 16777215 → Written edition text
   written-so edition text s small good size = (house-rndf net, is-filed edition text table net (length (house-rndf net)) (house-rndf net) (record { size = small; spelled = s; room = roomy; right = sound }) (house-rndf-is net good) (record { size = size; room = omega arith }))
 
 record Small : Type 0 where
-  pub one : length one ≤ most
-  pub other : length other ≤ most
-  pub wider : length wider ≤ most
-  pub stops-swapped : length stops-swapped ≤ most
+  pub one : length one ≤ longest
+  pub other : length other ≤ longest
+  pub wider : length wider ≤ longest
+  pub stops-swapped : length stops-swapped ≤ longest
 
 small : Small
 unfolding ascii

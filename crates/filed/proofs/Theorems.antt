@@ -18,7 +18,7 @@ use Rattle.house_text.proofs.Lawful.{house-rndf-only, house-mdf-only}
 use Rattle.house_text.proofs.Theorems.{rndf-one-writing, rndf-again, rndf-told, mdf-one-writing, mdf-again, mdf-told}
 use Rattle.edition.specs.declared.Edition.{Edition}
 use Rattle.edition.specs.Editions.{inner, rules-of}
-use Rattle.output.specs.Output.{zeros, Fits, filled}
+use Rattle.output.specs.Output.{zero-bytes, Fits, padded}
 use Rattle.rows.specs.declared.FileRow.{FileRow}
 use Rattle.rows.specs.declared.MissionFileRow.{MissionFileRow}
 use Rattle.counts.specs.declared.Counts.{Counts}
@@ -127,21 +127,21 @@ mdf-long-in (WriteMdf.Written c file d own k) = k
 mdf-long-in (WriteMdf.Refused why) = 0
 
 -- an output holds one writing of a length
-one-held : (lent : ℕ) (x y out : Bytes) → length x ≡ length y → out ≡ filled lent x → out ≡ filled lent y → x ≡ y
-one-held lent x y out e p q = sym (take-at x (zeros (lent - length x)) (length x) refl) ∙ ap (take (length x)) (sym p ∙ q) ∙ take-at y (zeros (lent - length y)) (length x) (sym e)
+one-held : (lent : ℕ) (x y out : Bytes) → length x ≡ length y → out ≡ padded lent x → out ≡ padded lent y → x ≡ y
+one-held lent x y out e p q = sym (take-at x (zero-bytes (lent - length x)) (length x) refl) ∙ ap (take (length x)) (sym p ∙ q) ∙ take-at y (zero-bytes (lent - length y)) (length x) (sym e)
 
 module _ (edition : Edition) (text : Bytes) (t : Lent) (lent : ℕ) where
   fits-written : (reply : WriteReply) (left : Lent) (out writing : Bytes) → WritesRndf (rules-of edition) text t lent reply left out → (n : Network Field) × AcceptsRndf (rules-of edition) text t n × HouseRndf n writing × Fits lent writing
-      → (c : Counts) × (file : FileRow) × (reply ≡ Write.Written c file (length writing)) × (out ≡ filled lent writing)
+      → (c : Counts) × (file : FileRow) × (reply ≡ Write.Written c file (length writing)) × (out ≡ padded lent writing)
   fits-written reply left out writing (W.refused why r e z) (n, a, g, f) = absurd (never-both (sym (spelled-accepted edition text t (Reply.Refused why) left r n a .0)))
   fits-written reply left out writing (W.too-long n′ w c file read r s g′ f′ e p z) (n, a, g, f) =
       let q : writing ≡ w = house-rndf-only n writing g ∙ ap house-rndf (one-spelled edition text n n′ (a .spelled) s) ∙ sym (house-rndf-only n′ w g′) in
       absurd (f′ (subst (Fits lent) q f))
   fits-written reply left out writing (W.written n′ w c file r s g′ f′ e z) (n, a, g, f) =
       let q : w ≡ writing = house-rndf-only n′ w g′ ∙ ap house-rndf (one-spelled edition text n′ n s (a .spelled)) ∙ sym (house-rndf-only n writing g) in
-      (c, file, e ∙ ap (λ (x : Bytes). Write.Written c file (length x)) q, z ∙ ap (filled lent) q)
+      (c, file, e ∙ ap (λ (x : Bytes). Write.Written c file (length x)) q, z ∙ ap (padded lent) q)
 
-  written-fits : (reply : WriteReply) (left : Lent) (out writing : Bytes) → WritesRndf (rules-of edition) text t lent reply left out → (c : Counts) × (file : FileRow) × (reply ≡ Write.Written c file (length writing)) × (out ≡ filled lent writing)
+  written-fits : (reply : WriteReply) (left : Lent) (out writing : Bytes) → WritesRndf (rules-of edition) text t lent reply left out → (c : Counts) × (file : FileRow) × (reply ≡ Write.Written c file (length writing)) × (out ≡ padded lent writing)
       → (n : Network Field) × AcceptsRndf (rules-of edition) text t n × HouseRndf n writing × Fits lent writing
   written-fits reply left out writing (W.refused why r e z) (c, file, p, q) = absurd (wrote-or-not (sym p ∙ e))
   written-fits reply left out writing (W.too-long n w c′ file′ read r s g f e o z) (c, file, p, q) = absurd (wrote-or-not (sym p ∙ e))
@@ -158,9 +158,9 @@ is-filed edition text t n lent writing a g f = record {
   counts = rows-used n;
   file = network-file n;
   left = Tables.filled n t;
-  out = filled lent writing;
+  out = padded lent writing;
   writes = W.written n writing (rows-used n) (network-file n) (accepted n a refl refl) (a .spelled) g f refl refl;
-  is = sym (take-at writing (zeros (lent - length writing)) (length writing) refl);
+  is = sym (take-at writing (zero-bytes (lent - length writing)) (length writing) refl);
 }
 
 pub written-if-fits : (edition : Edition) → WrittenIfFits (rules-of edition)
@@ -169,17 +169,17 @@ written-if-fits edition text t lent reply left out h writing = (fits-written edi
 module _ (edition : Edition) (rndf mdf : Bytes) (t : Lent) (u : MissionLent) (lent : ℕ) where
   mission-fits-written : (reply : WriteMdfReply) (left : Lent) (mission-left : MissionLent) (out writing : Bytes) → WritesMdf (rules-of edition) rndf mdf t u lent reply left mission-left out
       → (n : Network Field) × (m : Mission Field) × AcceptsRndf (rules-of edition) rndf t n × AcceptsMdf (rules-of edition) n mdf u m × HouseMdf m writing × Fits lent writing
-      → (c : Counts) × (file : FileRow) × (d : MissionCounts) × (own : MissionFileRow) × (reply ≡ WriteMdf.Written c file d own (length writing)) × (out ≡ filled lent writing)
+      → (c : Counts) × (file : FileRow) × (d : MissionCounts) × (own : MissionFileRow) × (reply ≡ WriteMdf.Written c file d own (length writing)) × (out ≡ padded lent writing)
   mission-fits-written reply left mission-left out writing (W.refused why r e z) (n, m, a, b, g, f) = absurd (pair-never-both (sym (spelled-pair-accepted edition rndf mdf t u (Pair.Refused why) left mission-left r n m a b .0)))
   mission-fits-written reply left mission-left out writing (W.too-long m′ w c file d own read mission-read r s g′ f′ e p p′ z) (n, m, a, b, g, f) =
       let q : writing ≡ w = house-mdf-only m writing g ∙ ap house-mdf (one-mission edition mdf m m′ (b .spelled) s) ∙ sym (house-mdf-only m′ w g′) in
       absurd (f′ (subst (Fits lent) q f))
   mission-fits-written reply left mission-left out writing (W.written m′ w c file d own r s g′ f′ e z) (n, m, a, b, g, f) =
       let q : w ≡ writing = house-mdf-only m′ w g′ ∙ ap house-mdf (one-mission edition mdf m′ m s (b .spelled)) ∙ sym (house-mdf-only m writing g) in
-      (c, file, d, own, e ∙ ap (λ (x : Bytes). WriteMdf.Written c file d own (length x)) q, z ∙ ap (filled lent) q)
+      (c, file, d, own, e ∙ ap (λ (x : Bytes). WriteMdf.Written c file d own (length x)) q, z ∙ ap (padded lent) q)
 
   mission-written-fits : (reply : WriteMdfReply) (left : Lent) (mission-left : MissionLent) (out writing : Bytes) → WritesMdf (rules-of edition) rndf mdf t u lent reply left mission-left out
-      → (c : Counts) × (file : FileRow) × (d : MissionCounts) × (own : MissionFileRow) × (reply ≡ WriteMdf.Written c file d own (length writing)) × (out ≡ filled lent writing)
+      → (c : Counts) × (file : FileRow) × (d : MissionCounts) × (own : MissionFileRow) × (reply ≡ WriteMdf.Written c file d own (length writing)) × (out ≡ padded lent writing)
       → (n : Network Field) × (m : Mission Field) × AcceptsRndf (rules-of edition) rndf t n × AcceptsMdf (rules-of edition) n mdf u m × HouseMdf m writing × Fits lent writing
   mission-written-fits reply left mission-left out writing (W.refused why r e z) (c, file, d, own, p, q) = absurd (mdf-wrote-or-not (sym p ∙ e))
   mission-written-fits reply left mission-left out writing (W.too-long m w c′ file′ d′ own′ read mission-read r s g f e o o′ z) (c, file, d, own, p, q) = absurd (mdf-wrote-or-not (sym p ∙ e))
@@ -200,16 +200,16 @@ mission-room-for : (m : Mission Field) (u : MissionLent) (d : MissionCounts) →
 mission-room-for m u d e h = let r = mission-room-back m u h in subst (λ (x : MissionCounts). MissionRoomFor x u) (sym e) (record { goals = r .goals; limits = r .limits })
 
 -- the output was long enough, and holds the writing and zeros behind it
-so : (lent k : ℕ) (w out : Bytes) → k ≡ length w → length w ≤ lent → out ≡ filled lent w → (k ≤ lent) × (out ≡ filled lent (take k out))
-so lent k w out e h z = (subst (λ (j : ℕ). j ≤ lent) (sym e) h, z ∙ ap (filled lent) (sym (ap (take k) z ∙ take-at w (zeros (lent - length w)) k (sym e))))
+so : (lent k : ℕ) (w out : Bytes) → k ≡ length w → length w ≤ lent → out ≡ padded lent w → (k ≤ lent) × (out ≡ padded lent (take k out))
+so lent k w out e h z = (subst (λ (j : ℕ). j ≤ lent) (sym e) h, z ∙ ap (padded lent) (sym (ap (take k) z ∙ take-at w (zero-bytes (lent - length w)) k (sym e))))
 
-fits-so : (edition : Edition) (text : Bytes) (t left : Lent) (lent : ℕ) (c : Counts) (file : FileRow) (k : ℕ) (out : Bytes) → WritesRndf (rules-of edition) text t lent (Write.Written c file k) left out → (k ≤ lent) × (out ≡ filled lent (take k out))
+fits-so : (edition : Edition) (text : Bytes) (t left : Lent) (lent : ℕ) (c : Counts) (file : FileRow) (k : ℕ) (out : Bytes) → WritesRndf (rules-of edition) text t lent (Write.Written c file k) left out → (k ≤ lent) × (out ≡ padded lent (take k out))
 fits-so edition text t left lent c file k out (W.refused why h e z) = absurd (wrote-or-not e)
 fits-so edition text t left lent c file k out (W.too-long n w c′ file′ l h s g f e p z) = absurd (wrote-or-not e)
 fits-so edition text t left lent c file k out (W.written n w c′ file′ h s g f e z) = so lent k w out (ap long-in e) (f .room) z
 
 mdf-fits-so : (edition : Edition) (rndf mdf : Bytes) (t left : Lent) (u mission-left : MissionLent) (lent : ℕ) (c : Counts) (file : FileRow) (d : MissionCounts) (own : MissionFileRow) (k : ℕ) (out : Bytes)
-    → WritesMdf (rules-of edition) rndf mdf t u lent (WriteMdf.Written c file d own k) left mission-left out → (k ≤ lent) × (out ≡ filled lent (take k out))
+    → WritesMdf (rules-of edition) rndf mdf t u lent (WriteMdf.Written c file d own k) left mission-left out → (k ≤ lent) × (out ≡ padded lent (take k out))
 mdf-fits-so edition rndf mdf t left u mission-left lent c file d own k out (W.refused why h e z) = absurd (mdf-wrote-or-not e)
 mdf-fits-so edition rndf mdf t left u mission-left lent c file d own k out (W.too-long m w c′ file′ d′ own′ l l′ h s g f e p q z) = absurd (mdf-wrote-or-not e)
 mdf-fits-so edition rndf mdf t left u mission-left lent c file d own k out (W.written m w c′ file′ d′ own′ h s g f e z) = so lent k w out (ap mdf-long-in e) (f .room) z

@@ -48,8 +48,8 @@ counts-of none (Reply.Refused why) = none
 
 -- ## How the writing ended
 -- cleared, put by any puts f from the front on, and finished
-pub whole-so : (f : Pen → Pen) (lent : ℕ) {cleared full : Bytes} {at : ℕ} {left : Bytes} {answer : DF.Finished} → cleared ≡ O.zeros lent → pen full at ≡ f (pen cleared 0) → Finishes full at left answer
-    → Finishes (f (pen (O.zeros lent) 0) .out) (f (pen (O.zeros lent) 0) .at) left answer
+pub whole-so : (f : Pen → Pen) (lent : ℕ) {cleared full : Bytes} {at : ℕ} {left : Bytes} {answer : DF.Finished} → cleared ≡ O.zero-bytes lent → pen full at ≡ f (pen cleared 0) → Finishes full at left answer
+    → Finishes (f (pen (O.zero-bytes lent) 0) .out) (f (pen (O.zero-bytes lent) 0) .at) left answer
 whole-so f lent {cleared} {full} {at} {left} {answer} z p g = subst (λ (q : Pen). Finishes (q .out) (q .at) left answer) (p ∙ ap (λ (l : Bytes). f (pen l 0)) z) g
 
 -- its length fits into the reply
@@ -71,13 +71,13 @@ behind text left lent = whole text (left .segments) (left .lanes) (left .zones) 
 record Drawn (ed : Edition) (text : Bytes) (t left : Lent) (lent : ℕ) (c : Counts) : Type 0 where
   net : Network Field
   accepts : AcceptsRndf (rules-of ed) text t net
-  is : put (pen (O.zeros lent) 0) (geojson net) ≡ behind text left lent c
+  is : put (pen (O.zero-bytes lent) 0) (geojson net) ≡ behind text left lent c
 
 drawn-so : (ed : Edition) (text : Bytes) (t left : Lent) (lent : ℕ) (c : Counts) (file : FileRow) → ReadsRndf (rules-of ed) text t (Reply.Accepted c file) left → Drawn ed text t left lent c
 drawn-so ed text t left lent c file (R.accepted n a e k) = record {
   net = n;
   accepts = a;
-  is = sym (ap (λ (l : Lent). behind text l lent c) k ∙ ap (behind text (filled n t) lent) (ap (counts-of c) e) ∙ map-drawn text t n (accepts-later (inner ed) text t n a) (pen (O.zeros lent) 0));
+  is = sym (ap (λ (l : Lent). behind text l lent c) k ∙ ap (behind text (filled n t) lent) (ap (counts-of c) e) ∙ map-drawn text t n (accepts-later (inner ed) text t n a) (pen (O.zero-bytes lent) 0));
 }
 drawn-so ed text t left lent c file (R.refused line number column a e k) = absurd (never-both e)
 

@@ -10,7 +10,7 @@ use Rattle.refusal.specs.declared.Refusal.{Refusal}
 use Rattle.replies.specs.declared.RndfReply.{RndfReply}
 use Rattle.replies.specs.declared.RndfReply.the-variants as Reply
 use Rattle.replies.specs.Replies.{refusal}
-use Rattle.output.specs.Output.{zeros}
+use Rattle.output.specs.Output.{zero-bytes}
 use Rattle.output.specs.Pen.{Pen, pen, Finishes}
 use Rattle.output.specs.declared.Finished.the-variants.{Written, TooLong}
 use Rattle.features.specs.Drawn.{drawn}
@@ -19,9 +19,9 @@ use Rattle.writings.specs.declared.WriteReply.the-variants as Write
 
 -- the pen behind the map of what these tables hold, over a cleared output
 abbrev pub whole : Bytes → (segments lanes zones spots : List ℕ) → List ℤ → (checkpoints : List ℕ) → (lent : ℕ) → Counts → Pen
-whole text segments lanes zones spots points checkpoints lent c = drawn text segments lanes zones spots points checkpoints c (pen (zeros lent) 0)
+whole text segments lanes zones spots points checkpoints lent c = drawn text segments lanes zones spots points checkpoints c (pen (zero-bytes lent) 0)
 
 pub data Answers (read : RndfReply) (lent : ℕ) (end : Counts → Pen) (out : Bytes) (answer : WriteReply) : Type 0 where
-  as-read : (why : Refusal) → read ≡ Reply.Refused why → answer ≡ Write.Refused why → out ≡ zeros lent → Answers read lent end out answer
+  as-read : (why : Refusal) → read ≡ Reply.Refused why → answer ≡ Write.Refused why → out ≡ zero-bytes lent → Answers read lent end out answer
   over : (c : Counts) (file : FileRow) → read ≡ Reply.Accepted c file → Finishes (end c .out) (end c .at) out TooLong → answer ≡ Write.Refused (refusal 1 0 19 0) → Answers read lent end out answer
   put : (c : Counts) (file : FileRow) (k : ℕ) → read ≡ Reply.Accepted c file → Finishes (end c .out) (end c .at) out (Written k) → answer ≡ Write.Written c file k → Answers read lent end out answer

@@ -17,7 +17,7 @@ use Rattle.rows.specs.Table.{putRows}
 use Rattle.output.specs.declared.Finished as DF
 use Rattle.output.specs.declared.Finished.the-variants.{Written, TooLong}
 use Rattle.output.specs.Ended.{Output}
-use Rattle.output.specs.Output.{zeros}
+use Rattle.output.specs.Output.{zero-bytes}
 use Rattle.output.specs.Output as Out
 use Rattle.output.specs.Pen.{pen, Wrote, Finishes}
 use Rattle.output.proofs.Writing.{same}
@@ -75,7 +75,7 @@ form-short end p g i tables left e o = subst (λ (w : WalkEnd). FormTold w No le
 -- ## What comes out
 module _ (text : Bytes) (list : List ℕ) (lent : ℕ) where
   -- cleared, put and finished
-  pub output-so : {cleared full left : Bytes} {at : ℕ} {answer : DF.Finished} → cleared ≡ zeros lent → Wrote (pen cleared 0) (mendedBytes noneBefore text (linesOf text)) (pen full at) → Finishes full at left answer → Output lent (mended-text text) left answer
+  pub output-so : {cleared full left : Bytes} {at : ℕ} {answer : DF.Finished} → cleared ≡ zero-bytes lent → Wrote (pen cleared 0) (mendedBytes noneBefore text (linesOf text)) (pen full at) → Finishes full at left answer → Output lent (mended-text text) left answer
   output-so z w f = written z (same (bytes-told text) w) f
 
   pub put-good : (n rows : ℕ) (left : List ℕ) (out : Bytes) → Output lent (mended-text text) out (Written n) → length (linesOf text) ≤ length list / 2 → rows ≡ length (changedRows 1 noneBefore (linesOf text))
@@ -86,7 +86,7 @@ module _ (text : Bytes) (list : List ℕ) (lent : ℕ) where
       record { fits = λ f. (ap₂ (λ (x y : ℕ). Mended x y) a (w .1), l ∙ listed-left text list room, w .2); long = λ never. absurd (never (w .0)) }
 
   -- 19
-  pub put-long : (reply : MendReply) (left : List ℕ) (short out : Bytes) → Output lent (mended-text text) short TooLong → reply ≡ Refused (refusal 1 0 19 0) → left ≡ replicate (length list) 0 → out ≡ zeros lent → PutOut text list lent reply left out
+  pub put-long : (reply : MendReply) (left : List ℕ) (short out : Bytes) → Output lent (mended-text text) short TooLong → reply ≡ Refused (refusal 1 0 19 0) → left ≡ replicate (length list) 0 → out ≡ zero-bytes lent → PutOut text list lent reply left out
   put-long reply left short out o r l z = record { fits = λ f. absurd (answered-too-long o .0 f); long = λ never. (r, l, z) }
 
 -- ## 26

@@ -17,7 +17,7 @@ use Rattle.progress.specs.After.{noProgress}
 use Rattle.network.specs.Storing.{Memory}
 use Rattle.network.specs.Reaching.{WalkEnd, stopped, reached}
 use Rattle.law.specs.Tables.{holding}
-use Rattle.output.specs.Output.{zeros, Fits, filled}
+use Rattle.output.specs.Output.{zero-bytes, Fits, padded}
 use Rattle.replies.specs.Replies.{refusal}
 use Rattle.mend_law.specs.Mend.{mended-text, listed-rows}
 use Rattle.mend_law.specs.Mends.{AcceptedWithRoom}
@@ -77,5 +77,5 @@ pub record GoodTold (edition : Asked.Edition) (text : Bytes) (r : Bool) : Type 0
 
 -- ## 19, or what comes out and what is listed. lent: the length of the lent output
 pub record PutOut (text : Bytes) (list : List ℕ) (lent : ℕ) (reply : MendReply) (left : List ℕ) (out : Bytes) : Type 0 where
-  pub fits : Fits lent (mended-text text) → (reply ≡ Mended (length (listed-rows text)) (length (mended-text text))) × (left ≡ holding 0 (listed-rows text) list) × (out ≡ filled lent (mended-text text))
-  pub long : (Fits lent (mended-text text) → ⊥) → (reply ≡ Refused (refusal 1 0 19 0)) × (left ≡ replicate (length list) 0) × (out ≡ zeros lent)
+  pub fits : Fits lent (mended-text text) → (reply ≡ Mended (length (listed-rows text)) (length (mended-text text))) × (left ≡ holding 0 (listed-rows text) list) × (out ≡ padded lent (mended-text text))
+  pub long : (Fits lent (mended-text text) → ⊥) → (reply ≡ Refused (refusal 1 0 19 0)) × (left ≡ replicate (length list) 0) × (out ≡ zero-bytes lent)

@@ -36,7 +36,7 @@ ghost use Rattle.refusal.specs.Size.{most};
 ghost use Rattle.edition.specs.Editions.{inner, rules-of};
 ghost use Rattle.line.specs.Lines.{linesOf};
 ghost use Rattle.replies.specs.Replies.{refusal};
-ghost use Rattle.output.specs.Output.{zeros};
+ghost use Rattle.output.specs.Output.{zero-bytes};
 ghost use Rattle.mend_law.specs.declared.MendReply.the-variants as reply;
 ghost use Rattle.mend_law.specs.Mends.{Mends};
 ghost use Rattle.references.specs.Finding.{lookIn};
@@ -177,7 +177,7 @@ fn is_good(edition: Edition, text: &[u8], list: &mut [u32]) -> bool
 fn refused(list: &mut [u32], out: &mut [u8], file: u8, number: u8) -> MendReply
     ensures { λ r. ⌜ r ≡ reply.Refused (refusal file 0 number 0) ⌝ }
     ensures { λ r. ⌜ now (list .exit) ≡ replicate (length (now (list .entry))) 0 ⌝ }
-    ensures { λ r. ⌜ now (out .exit) ≡ zeros (length (now (out .entry))) ⌝ }
+    ensures { λ r. ⌜ now (out .exit) ≡ zero-bytes (length (now (out .entry))) ⌝ }
 {
     clear(list);
     clear_output(out);

@@ -14,7 +14,7 @@ use Rattle.law.specs.Network.{Network, SpellsNetwork, SpellsText, reading}
 use Rattle.law.specs.Tables.{Lent, HasRoom, segment-rows, lane-rows, zone-rows, spot-rows, point-rows, checkpoint-rows, stop-rows, exit-rows}
 use Rattle.law.specs.Faults.{Sound}
 use Rattle.replies.specs.declared.RndfReply.{RndfReply}
-use Rattle.replies.specs.Replies.{most, AcceptsRndf, RefusesRndf, too-long, bad-line, unended, no-room, bad-reference, ReadsRndf, accepted, refused}
+use Rattle.replies.specs.Replies.{longest, AcceptsRndf, RefusesRndf, too-long, bad-line, unended, no-room, bad-reference, ReadsRndf, accepted, refused}
 use Rattle.replies.proofs.Alone.{rndf-alone}
 use Rattle.replies.proofs.Settled.{rndf-some, rndf-never-both}
 use Rattle.mend_law.specs.Mends.{AcceptedWithRoom}
@@ -49,7 +49,7 @@ has-room n = record {
 }
 
 module _ (d : Edition) (text : Bytes) where
-  pub room-enough : (n : Network Field) → length text ≤ most → SpellsText (reading (law-of d)) SpellsNetwork n text → Sound n → AcceptedWithRoom (reading (law-of d)) text
+  pub room-enough : (n : Network Field) → length text ≤ longest → SpellsText (reading (law-of d)) SpellsNetwork n text → Sound n → AcceptedWithRoom (reading (law-of d)) text
   room-enough n size spelled right = (roomy n, n, record { size = size; spelled = spelled; room = has-room n; right = right })
 
   -- what is refused for its size, its form or its references in some tables is refused in all

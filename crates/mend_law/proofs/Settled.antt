@@ -9,9 +9,9 @@ use Rattle.terms.specs.Words.{List, ℕ, _/_, _≤_, _<_, length, replicate, By
 use Rattle.grammar.specs.Editions.{Edition, law-of}
 use Rattle.law.specs.Network.{Rules, reading}
 use Rattle.law.specs.Tables.{holding}
-use Rattle.output.specs.Output.{zeros, Fits, filled}
+use Rattle.output.specs.Output.{zero-bytes, Fits, padded}
 use native.Mathlib.Omega.{arith}
-use Rattle.replies.specs.Replies.{most, refusal}
+use Rattle.replies.specs.Replies.{longest, refusal}
 use Rattle.mend_law.specs.declared.MendReply.{MendReply}
 use Rattle.mend_law.specs.declared.MendReply.the-variants.{Mended, Refused}
 use Rattle.line.specs.Lines.{linesOf}
@@ -38,7 +38,7 @@ module _ (rules : Rules) (text : Bytes) (list : List ℕ) (lent : ℕ) where
   one-refusal f f′ n n′ (no-output a h k j) (past-mending b c d) = absurd (d k)
   one-refusal f f′ n n′ (no-output a h k j) (no-output b c d e) = (refl, refl)
 
-  never-both : (f n : ℕ) → MendRefuses rules text list lent f n → length text ≤ most → length (linesOf text) ≤ length list / 2 → AcceptedWithRoom rules (mended-text text) → Fits lent (mended-text text) → ⊥
+  never-both : (f n : ℕ) → MendRefuses rules text list lent f n → length text ≤ longest → length (linesOf text) ≤ length list / 2 → AcceptedWithRoom rules (mended-text text) → Fits lent (mended-text text) → ⊥
   never-both f n (too-long a) s r g o = omega (arith, a, s)
   never-both f n (no-room a h) s r g o = h r
   never-both f n (past-mending a h k) s r g o = k g
@@ -68,20 +68,20 @@ module _ (d : Edition) (text : Bytes) (list : List ℕ) (lent : ℕ) where
     pub mends : Mends (reading (law-of d)) text list lent reply left out
 
   refusing : (file number : ℕ) → MendRefuses (reading (law-of d)) text list lent file number → Some
-  refusing file number h = record { reply = Refused (refusal file 0 number 0); left = replicate (length list) 0; out = zeros lent; mends = refused file number h refl refl refl }
+  refusing file number h = record { reply = Refused (refusal file 0 number 0); left = replicate (length list) 0; out = zero-bytes lent; mends = refused file number h refl refl refl }
 
   pub mend-some : Some
-  mend-some = sized (at-most (length text) most)
+  mend-some = sized (at-most (length text) longest)
     where
-      sized : (length text ≤ most) ⊎ (length text ≤ most → ⊥) → Some
-      sized (inr h) = refusing 1 1 (too-long (let x : (length text ≤ most → ⊥) = h in over x))
+      sized : (length text ≤ longest) ⊎ (length text ≤ longest → ⊥) → Some
+      sized (inr h) = refusing 1 1 (too-long (let x : (length text ≤ longest → ⊥) = h in over x))
         where
-          over : (length text ≤ most → ⊥) → most < length text
-          over x = go (ltb most (length text)) refl
+          over : (length text ≤ longest → ⊥) → longest < length text
+          over x = go (ltb longest (length text)) refl
             where
-              go : (b : Bool) → ltb most (length text) ≡ b → most < length text
-              go true e = ltb-true most (length text) e
-              go false e = absurd (x (ltb-false most (length text) e))
+              go : (b : Bool) → ltb longest (length text) ≡ b → longest < length text
+              go true e = ltb-true longest (length text) e
+              go false e = absurd (x (ltb-false longest (length text) e))
       sized (inl size) = roomy (at-most (length (linesOf text)) (length list / 2))
         where
           roomy : (length (linesOf text) ≤ length list / 2) ⊎ (length (linesOf text) ≤ length list / 2 → ⊥) → Some
@@ -98,6 +98,6 @@ module _ (d : Edition) (text : Bytes) (list : List ℕ) (lent : ℕ) where
                   fitting (inl h) (inl y) = record {
                     reply = Mended (length (listed-rows text)) (length (mended-text text));
                     left = holding 0 (listed-rows text) list;
-                    out = filled lent (mended-text text);
+                    out = padded lent (mended-text text);
                     mends = done size room good (record { size = h; room = y }) refl refl refl;
                   }

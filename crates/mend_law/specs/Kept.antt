@@ -2,7 +2,7 @@
 use Rattle.terms.specs.Words.{_≡_, List, ℕ, length, take, replicate, Bytes, Each, Among}
 use Rattle.law.specs.Network.{Edition, reading}
 use Rattle.law.specs.Tables.{gather}
-use Rattle.output.specs.Output.{Fits, filled}
+use Rattle.output.specs.Output.{Fits, padded}
 use Rattle.mend_law.specs.Mend.{piece, changes, listed-rows}
 use Rattle.mend_law.specs.Mends.{AcceptedWithRoom, ListRoom, Mends}
 use Rattle.mend_law.specs.declared.MendReply.{MendReply}
@@ -17,4 +17,4 @@ pub record LinesKept (text : Bytes) : Type 0 where
 -- "An accepted text comes out the same with an empty list; list rows not used are zero.": by the tool's contract, in an edition (L10), where there is room for the list and for the text
 abbrev pub AcceptedStays : Edition → Type 0
 AcceptedStays edition = (text : Bytes) (list : List ℕ) (lent : ℕ) (reply : MendReply) (left : List ℕ) (out : Bytes) → AcceptedWithRoom (reading edition) text → ListRoom text list → Fits lent text
-    → Mends (reading edition) text list lent reply left out → (reply ≡ Mended 0 (length text)) × (left ≡ replicate (length list) 0) × (out ≡ filled lent text)
+    → Mends (reading edition) text list lent reply left out → (reply ≡ Mended 0 (length text)) × (left ≡ replicate (length list) 0) × (out ≡ padded lent text)

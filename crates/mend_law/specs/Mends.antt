@@ -4,8 +4,8 @@ use Rattle.line.specs.Line.{Field}
 use Rattle.line.specs.Cutting.{linesOf}
 use Rattle.law.specs.Network.{Network, Rules}
 use Rattle.law.specs.Tables.{Lent, holding}
-use Rattle.output.specs.Output.{zeros, Fits, filled}
-use Rattle.replies.specs.Replies.{most, refusal, AcceptsRndf}
+use Rattle.output.specs.Output.{zero-bytes, Fits, padded}
+use Rattle.replies.specs.Replies.{longest, refusal, AcceptsRndf}
 use Rattle.mend_law.specs.Mend.{mended-text, listed-rows}
 use Rattle.mend_law.specs.declared.MendReply.{MendReply}
 use Rattle.mend_law.specs.declared.MendReply.the-variants.{Mended, Refused}
@@ -23,15 +23,15 @@ module _ (rules : Rules) (text : Bytes) (list : List ℕ) (lent : ℕ) where
   -- "Refusals: 1, then 11, then 26 exactly if the text with those three changes would still be refused by a reader with room enough, then 19": a later one only where none before it holds
   -- 01: "1, 11 and 19 of a part that takes no MDF give file 1"; L4: "Numbers from 20 on give file 0 and line 0 unless their request says otherwise"; L2: "19, with its zeros, where this or a later request's output is over 16,777,215 bytes or longer than the lent one" (one over that size has got 26 before)
   pub data MendRefuses : (file number : ℕ) → Type 0 where
-    too-long : most < length text → MendRefuses 1 1
-    no-room : length text ≤ most → (ListRoom text list → ⊥) → MendRefuses 1 11
-    past-mending : length text ≤ most → ListRoom text list → (AcceptedWithRoom rules (mended-text text) → ⊥) → MendRefuses 0 26
-    no-output : length text ≤ most → ListRoom text list → AcceptedWithRoom rules (mended-text text) → (Fits lent (mended-text text) → ⊥) → MendRefuses 1 19
+    too-long : longest < length text → MendRefuses 1 1
+    no-room : length text ≤ longest → (ListRoom text list → ⊥) → MendRefuses 1 11
+    past-mending : length text ≤ longest → ListRoom text list → (AcceptedWithRoom rules (mended-text text) → ⊥) → MendRefuses 0 26
+    no-output : length text ≤ longest → ListRoom text list → AcceptedWithRoom rules (mended-text text) → (Fits lent (mended-text text) → ⊥) → MendRefuses 1 19
 
   -- the reply, and what is left in the lent list and the lent output
   pub data Mends (reply : MendReply) (left : List ℕ) (out : Bytes) : Type 0 where
     -- "the output and list are zero". The line and (L7: "Where the line is 0, .. it is 0") the column are 0
-    refused : (file number : ℕ) → MendRefuses file number → reply ≡ Refused (refusal file 0 number 0) → left ≡ replicate (length list) 0 → out ≡ zeros lent → Mends reply left out
+    refused : (file number : ℕ) → MendRefuses file number → reply ≡ Refused (refusal file 0 number 0) → left ≡ replicate (length list) 0 → out ≡ zero-bytes lent → Mends reply left out
     -- how many lines are listed and how many bytes came out. "list rows not used are zero"; 01: "A lent output is zero behind what was written."
-    done : length text ≤ most → ListRoom text list → AcceptedWithRoom rules (mended-text text) → Fits lent (mended-text text)
-        → reply ≡ Mended (length (listed-rows text)) (length (mended-text text)) → left ≡ holding 0 (listed-rows text) list → out ≡ filled lent (mended-text text) → Mends reply left out
+    done : length text ≤ longest → ListRoom text list → AcceptedWithRoom rules (mended-text text) → Fits lent (mended-text text)
+        → reply ≡ Mended (length (listed-rows text)) (length (mended-text text)) → left ≡ holding 0 (listed-rows text) list → out ≡ padded lent (mended-text text) → Mends reply left out

@@ -7,7 +7,7 @@ use Rattle.terms.specs.Words.{List, [], _++_, ℕ, _-_, length, take, replicate
 use Rattle.line.specs.Line.{Field}
 use Rattle.law.specs.Network.{Edition, Network, reading, SpellsNetwork, SpellsText}
 use Rattle.law.specs.Tables.{gather, holding}
-use Rattle.output.specs.Output.{zeros, Fits, filled}
+use Rattle.output.specs.Output.{zero-bytes, Fits, padded}
 use Rattle.replies.specs.Replies.{refusal}
 use Rattle.mend_stays.specs.Again.{MendedOnce, MendedAgain}
 use Rattle.mend_law.specs.Mend.{LineChange, row, changes, mended-text, listed-rows}
@@ -57,7 +57,7 @@ module _ (d : Edition) where
       let z : length list - 0 ≡ length list = omega arith in (
         e ∙ ap₂ Mended (ap length (s .nothing-listed)) (ap length (s .same)),
         l ∙ ap (λ (rows : List (List ℕ)). holding 0 rows list) (s .nothing-listed) ∙ ap (λ (n : ℕ). replicate n 0) z,
-        o ∙ ap (filled lent) (s .same),
+        o ∙ ap (padded lent) (s .same),
       )
 
   -- what came out is accepted by a reader with room enough
@@ -65,7 +65,7 @@ module _ (d : Edition) where
   mended-once text list lent rows bytes left out (refused file number h e l o) = absurd (let z : _≡_ {A = ℕ} 0 1 = cc in omega arith)
   mended-once text list lent rows bytes left out (done a b c g e l o) =
       let n : bytes ≡ length (mended-text text) = cc in
-      let same : take bytes out ≡ mended-text text = ap₂ take n o ∙ take-append-seam (mended-text text) (zeros (lent - length (mended-text text))) in
+      let same : take bytes out ≡ mended-text text = ap₂ take n o ∙ take-append-seam (mended-text text) (zero-bytes (lent - length (mended-text text))) in
       subst (AcceptedWithRoom (reading d)) (sym same) c
 
   -- so mending it again changes nothing

@@ -12,7 +12,7 @@ use lib.IntN.{ℤ}
 use Rattle.terms.specs.Words.{Bytes}
 use Rattle.line.specs.Lines.{linesOf}
 use Rattle.line.proofs.Cuts.{lines-at, next-start, lines-end}
-use Rattle.output.specs.Output.{zeros}
+use Rattle.output.specs.Output.{zero-bytes}
 use Rattle.output.specs.Pen.{pen, Wrote, within}
 use Rattle.output.proofs.Writing.{kept}
 use Rattle.output.proofs.Whole.{finishes-kept, finishes-zero, written, written-reads, answered-too-long}
@@ -43,7 +43,7 @@ pub few-stood : (w : Walked) (sg ln zn ck sp st ex : List ℕ) (pt : List ℤ) �
 few-stood w sg ln zn ck sp st ex pt a b c d h = sym (λ i. stood w (λ p. memory p sg ln zn (no-rows sp a i) (no-rows pt b i) ck (no-rows st c i) (no-rows ex d i))) ∙ h
 
 -- ## The buffer of so many bytes: x was put t(lineAt text from)
-module _ (lent : ℕ) (x l : Bytes) (at : ℕ) (u : Wrote (pen (zeros lent) 0) x (pen l at)) where
+module _ (lent : ℕ) (x l : Bytes) (at : ℕ) (u : Wrote (pen (zero-bytes lent) 0) x (pen l at)) where
   buffer-long : length l ≡ lent
   buffer-long = kept u ∙ length-replicate lent 0
 

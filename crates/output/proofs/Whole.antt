@@ -12,7 +12,7 @@ use lib.Dec.{ltb, leb}
 use Rattle.terms.specs.Ascii.{Bytes}
 use Rattle.terms.specs.Words.{pick}
 use Rattle.output.specs.Ended.{Output}
-use Rattle.output.specs.Output.{zeros, filled, Fits}
+use Rattle.output.specs.Output.{zero-bytes, padded, Fits}
 use Rattle.output.specs.Pen.{Pen, pen, step, put, Wrote, within, finishedOf, Finishes, outputOf, answerOf}
 use Rattle.output.specs.declared.Finished as DF
 use Rattle.output.specs.declared.Finished.the-variants.{Written, TooLong}
@@ -47,21 +47,21 @@ unfolding step
 step-in l at b h = rw (lt-ltb at 16777215 h)
 
 -- behind what was put already, p, with k places left
-lies : (p : Bytes) (k : ℕ) (x : Bytes) → length p + length x ≤ 16777215 → length x ≤ k → put (pen (p ++ zeros k) (length p)) x .out ≡ (p ++ x) ++ zeros (k - length x)
+lies : (p : Bytes) (k : ℕ) (x : Bytes) → length p + length x ≤ 16777215 → length x ≤ k → put (pen (p ++ zero-bytes k) (length p)) x .out ≡ (p ++ x) ++ zero-bytes (k - length x)
 unfolding put
 lies p k [] h g = rw (sub-zero, append-nil)
 lies p zero (b ∷ x) h g = absurd (omega arith)
 lies p (suc k) (b ∷ x) h g =
     let p′ = p ++ (b ∷ []) in
     let e : length p + 1 ≡ length p′ = sym (length-append p (b ∷ [])) in
-    let o : set (p ++ (0 ∷ zeros k)) (length p) b ≡ p′ ++ zeros k = set-append-seam p 0 (zeros k) b ∙ sym (append-assoc p (b ∷ []) (zeros k)) in
+    let o : set (p ++ (0 ∷ zero-bytes k)) (length p) b ≡ p′ ++ zero-bytes k = set-append-seam p 0 (zero-bytes k) b ∙ sym (append-assoc p (b ∷ []) (zero-bytes k)) in
     let s : suc k - suc (length x) ≡ k - length x = omega arith in
     let g′ : length p′ + length x ≤ 16777215 = omega arith in
-    let f : step (pen (p ++ (0 ∷ zeros k)) (length p)) b ≡ pen (p′ ++ zeros k) (length p′) = step-in (p ++ (0 ∷ zeros k)) (length p) b (omega arith) ∙ ap (λ (l : Bytes). pen l (length p + 1)) o ∙ ap (pen (p′ ++ zeros k)) e in
+    let f : step (pen (p ++ (0 ∷ zero-bytes k)) (length p)) b ≡ pen (p′ ++ zero-bytes k) (length p′) = step-in (p ++ (0 ∷ zero-bytes k)) (length p) b (omega arith) ∙ ap (λ (l : Bytes). pen l (length p + 1)) o ∙ ap (pen (p′ ++ zero-bytes k)) e in
     ap (λ (q : Pen). put q x .out) f
     ∙ lies p′ k x g′ (omega arith)
-    ∙ ap (λ (l : Bytes). l ++ zeros (k - length x)) (append-assoc p (b ∷ []) x)
-    ∙ ap (λ (n : ℕ). (p ++ (b ∷ x)) ++ zeros n) (sym s)
+    ∙ ap (λ (l : Bytes). l ++ zero-bytes (k - length x)) (append-assoc p (b ∷ []) x)
+    ∙ ap (λ (n : ℕ). (p ++ (b ∷ x)) ++ zero-bytes n) (sym s)
 
 -- ## What `finish` tests
 within-fits : (lent : ℕ) (x : Bytes) → within lent (length x) ≡ true → Fits lent x
@@ -90,7 +90,7 @@ module _ (l : Bytes) (at : ℕ) where
   unfolding finishedOf
   finishes-kept e = record { bytes = rw e; answers = rw e }
 
-  pub finishes-zero : within (length l) at ≡ false → {left : Bytes} → left ≡ zeros (length l) → Finishes l at left TooLong
+  pub finishes-zero : within (length l) at ≡ false → {left : Bytes} → left ≡ zero-bytes (length l) → Finishes l at left TooLong
   unfolding finishedOf
   finishes-zero e z = record { bytes = rw e z; answers = rw e }
 
@@ -99,10 +99,10 @@ pub finishes-one : {l left left′ : Bytes} {at : ℕ} {answer answer′ : DF.Fi
 finishes-one f g = (f .bytes ∙ sym (g .bytes), f .answers ∙ sym (g .answers))
 
 -- ## From zeros, at the front: the two ends that `finish` tells apart
-module _ (lent : ℕ) (x l : Bytes) (at : ℕ) (u : Wrote (pen (zeros lent) 0) x (pen l at)) where
+module _ (lent : ℕ) (x l : Bytes) (at : ℕ) (u : Wrote (pen (zero-bytes lent) 0) x (pen l at)) where
   -- the place is the count of the bytes
   place-is : at ≡ counted (length x)
-  place-is = ap (λ (p : Pen). p .at) (sym (u .is)) ∙ ends (zeros lent) 0 x (omega arith) ∙ ap counted (zero-add (length x))
+  place-is = ap (λ (p : Pen). p .at) (sym (u .is)) ∙ ends (zero-bytes lent) 0 x (omega arith) ∙ ap counted (zero-add (length x))
 
   lent-is : length l ≡ lent
   lent-is = kept u ∙ length-replicate lent 0
@@ -123,7 +123,7 @@ module _ (lent : ℕ) (x l : Bytes) (at : ℕ) (u : Wrote (pen (zeros lent) 0) x
       go true e = refl
       go false e = absurd (let z : _≡_ {A = ℕ} 0 1 = cc in omega arith)
 
-  stands : within lent (length x) ≡ true → l ≡ filled lent x
+  stands : within lent (length x) ≡ true → l ≡ padded lent x
   stands e =
       let f = within-fits lent x e in
       ap (λ (p : Pen). p .out) (sym (u .is)) ∙ lies [] lent x (omega (arith, f .size)) (f .room)
@@ -133,13 +133,13 @@ module _ (lent : ℕ) (x l : Bytes) (at : ℕ) (u : Wrote (pen (zeros lent) 0) x
   unfolding outputOf finishedOf
   ends-whole {left} {answer} f = go (within lent (length x)) refl
     where
-      go : (t : Bool) → within lent (length x) ≡ t → (left ≡ pick (within lent (length x)) (filled lent x) (zeros lent)) × (answer ≡ pick (within lent (length x)) (Written (length x)) TooLong)
+      go : (t : Bool) → within lent (length x) ≡ t → (left ≡ pick (within lent (length x)) (padded lent x) (zero-bytes lent)) × (answer ≡ pick (within lent (length x)) (Written (length x)) TooLong)
       go true e =
           let w = within-same ∙ e in
           (f .bytes ∙ rw w (rw e (stands e)), f .answers ∙ rw w (rw e (ap Written (place-of e))))
       go false e =
           let w = within-same ∙ e in
-          (f .bytes ∙ rw w (rw e (ap zeros lent-is)), f .answers ∙ rw w (rw e))
+          (f .bytes ∙ rw w (rw e (ap zero-bytes lent-is)), f .answers ∙ rw w (rw e))
 
 -- ## THE LAWS of a whole writer
 -- what it leaves and answers is an output of the writing
@@ -155,7 +155,7 @@ pub output-only : {lent : ℕ} {x out : Bytes} {answer : DF.Finished} → Output
 unfolding outputOf finishedOf
 output-only {lent} {x} {out} {answer} o = go (within lent (length x)) refl
   where
-    go : (t : Bool) → within lent (length x) ≡ t → (out ≡ pick (within lent (length x)) (filled lent x) (zeros lent)) × (answer ≡ pick (within lent (length x)) (Written (length x)) TooLong)
+    go : (t : Bool) → within lent (length x) ≡ t → (out ≡ pick (within lent (length x)) (padded lent x) (zero-bytes lent)) × (answer ≡ pick (within lent (length x)) (Written (length x)) TooLong)
     go true e = rw e (o .good (within-fits lent x e))
     go false e = rw e (o .refused (within-no lent x e))
 
@@ -168,7 +168,7 @@ output-one o o′ =
 
 -- THE THEOREM that a writer's proof ends with. An output of `lent` bytes was cleared, the bytes x were put from its front on by any run of
 -- puts, and `finish` ended it: the outcome is the output of x
-pub written : {lent : ℕ} {cleared x full left : Bytes} {at : ℕ} {answer : DF.Finished} → cleared ≡ zeros lent → Wrote (pen cleared 0) x (pen full at) → Finishes full at left answer → Output lent x left answer
+pub written : {lent : ℕ} {cleared x full left : Bytes} {at : ℕ} {answer : DF.Finished} → cleared ≡ zero-bytes lent → Wrote (pen cleared 0) x (pen full at) → Finishes full at left answer → Output lent x left answer
 written {lent} {cleared} {x} {full} {left} {at} {answer} z u f =
     let w = ends-whole lent x full at (rw z at u) f in
     rw (w .0, w .1) (output-is lent x)
@@ -176,10 +176,10 @@ written {lent} {cleared} {x} {full} {left} {at} {answer} z u f =
 -- ## By what the program answered
 module _ {lent : ℕ} {x out : Bytes} where
   -- `Written n`: it fits, n bytes are its length, and the output holds it
-  pub answered-written : {n : ℕ} → Output lent x out (Written n) → Fits lent x × (n ≡ length x) × (out ≡ filled lent x)
+  pub answered-written : {n : ℕ} → Output lent x out (Written n) → Fits lent x × (n ≡ length x) × (out ≡ padded lent x)
   answered-written {n} o = go (within lent (length x)) refl
     where
-      go : (t : Bool) → within lent (length x) ≡ t → Fits lent x × (n ≡ length x) × (out ≡ filled lent x)
+      go : (t : Bool) → within lent (length x) ≡ t → Fits lent x × (n ≡ length x) × (out ≡ padded lent x)
       go true e = let f = within-fits lent x e in let w = o .good f in (f, (let q = w .1 in cc), w .0)
       go false e = absurd (let w = o .refused (within-no lent x e) .1 in let z : _≡_ {A = ℕ} 0 1 = cc in omega arith)
 
@@ -187,10 +187,10 @@ module _ {lent : ℕ} {x out : Bytes} where
   pub written-reads : {n : ℕ} → Output lent x out (Written n) → take n out ≡ x
   written-reads {n} o =
       let w = answered-written o in
-      rw (w .2) (take-at x (zeros (lent - length x)) n (sym (w .1)))
+      rw (w .2) (take-at x (zero-bytes (lent - length x)) n (sym (w .1)))
 
   -- `TooLong`: it does not fit, and the output is zero
-  pub answered-too-long : Output lent x out TooLong → (Fits lent x → ⊥) × (out ≡ zeros lent)
+  pub answered-too-long : Output lent x out TooLong → (Fits lent x → ⊥) × (out ≡ zero-bytes lent)
   answered-too-long o =
       let no : Fits lent x → ⊥ = λ f. (let w = o .good f .1 in let z : _≡_ {A = ℕ} 0 1 = cc in omega arith) in
       (no, o .refused no .0)

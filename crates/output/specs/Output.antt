@@ -2,8 +2,8 @@
 use Rattle.terms.specs.Words.{_++_, ℕ, _-_, _≤_, length, replicate, Bytes}
 
 -- so many zeros
-abbrev pub zeros : ℕ → Bytes
-zeros n = replicate n 0
+abbrev pub zero-bytes : ℕ → Bytes
+zero-bytes n = replicate n 0
 
 -- 01: refusal 19 is given to a "house writing over 16,777,215 bytes or longer than the lent output". This one is neither
 pub record Fits (lent : ℕ) (writing : Bytes) : Type 0 where
@@ -11,5 +11,5 @@ pub record Fits (lent : ℕ) (writing : Bytes) : Type 0 where
   pub room : length writing ≤ lent
 
 -- 01: "A lent output is zero behind what was written.": these bytes and then zeros, over the whole length of an output of so many bytes
-abbrev pub filled : ℕ → Bytes → Bytes
-filled lent writing = writing ++ zeros (lent - length writing)
+abbrev pub padded : ℕ → Bytes → Bytes
+padded lent writing = writing ++ zero-bytes (lent - length writing)

@@ -7,7 +7,7 @@ use lib.ListN.{length, set}
 use lib.Dec.{ltb, leb}
 use Rattle.terms.specs.Ascii.{Bytes}
 use Rattle.terms.specs.Words.{pick}
-use Rattle.output.specs.Output.{zeros, filled}
+use Rattle.output.specs.Output.{zero-bytes, padded}
 use Rattle.output.specs.declared.Finished as DF
 use Rattle.output.specs.declared.Finished.the-variants.{Written, TooLong}
 
@@ -41,12 +41,12 @@ finishedOf lent at = pick (within lent at) (Written at) TooLong
 
 -- what `finish` leaves of the output l and answers, with the pen at a place
 pub record Finishes (l : Bytes) (at : ℕ) (left : Bytes) (answer : DF.Finished) : Type 0 where
-  pub bytes : left ≡ pick (within (length l) at) l (zeros (length l))
+  pub bytes : left ≡ pick (within (length l) at) l (zero-bytes (length l))
   pub answers : answer ≡ finishedOf (length l) at
 
 -- ## Clear, put and finish in one
 unfoldable pub outputOf : ℕ → Bytes → Bytes
-outputOf lent x = pick (within lent (length x)) (filled lent x) (zeros lent)
+outputOf lent x = pick (within lent (length x)) (padded lent x) (zero-bytes lent)
 
 abbrev pub answerOf : ℕ → Bytes → DF.Finished
 answerOf lent x = finishedOf lent (length x)

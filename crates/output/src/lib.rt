@@ -15,7 +15,7 @@ ghost use Rattle.terms.specs.Ascii.{ascii};
 ghost use Rattle.number.specs.Decimal.{digitOf, padded};
 ghost use Rattle.number.specs.House.{houseInteger, housePair, houseTriple};
 ghost use Rattle.coordinate.specs.House.{houseDegrees, houseCoordinate};
-ghost use Rattle.output.specs.Output.{zeros};
+ghost use Rattle.output.specs.Output.{zero-bytes};
 ghost use Rattle.output.specs.Packed.{bigEndian};
 ghost use Rattle.output.specs.Pen.{pen, Wrote, within, Finishes};
 
@@ -164,7 +164,7 @@ pub enum Finished {
 
 // Every byte is 0.
 pub fn clear_output(out: &mut [u8])
-    ensures { λ _. ⌜ now (out .exit) ≡ zeros (length (now (out .entry))) ⌝ }
+    ensures { λ _. ⌜ now (out .exit) ≡ zero-bytes (length (now (out .entry))) ⌝ }
 {
     for i in 0..out.len() {
         out[i] = 0;

@@ -13,7 +13,7 @@ use Rattle.counts.specs.declared.Counts.{Counts}
 use Rattle.rows.specs.declared.FileRow.{FileRow}
 use Rattle.room.specs.Room.{fitted}
 use Rattle.room.proofs.Fitted.{fitted-kept}
-use Rattle.replies.specs.Replies.{most}
+use Rattle.replies.specs.Replies.{longest}
 use Rattle.packed_tables.proofs.Records.{Small}
 use Rattle.packed_tables.proofs.Whole.{segment-kinds, lane-kinds, rows-told}
 use Rattle.packed_rows.specs.Fixed.{records-here}
@@ -61,10 +61,10 @@ record Kept (p : Places) : Type 0 where
   stops : fitted (p .stops) ≡ p .stops
   exits : fitted (p .exits) ≡ p .exits
 
-keep : (n : ℕ) → n ≤ most → fitted n ≡ n
+keep : (n : ℕ) → n ≤ longest → fitted n ≡ n
 keep n h = fitted-kept n (omega arith)
 
-under : (n m : ℕ) → fitted n + m ≤ most → n ≤ most
+under : (n m : ℕ) → fitted n + m ≤ longest → n ≤ longest
 under n m h = omega arith
 
 -- the tests over links, by the places themselves
@@ -85,7 +85,7 @@ linked-kept b c p point k =
     let e = k .exits in
     λ i. pick (exits-right (c .exits) b (p .exits) (cell-at b (o i) 8 2) (c .spots) (c .points) point) (parts-right b (table (l i) (c .lanes)) (table (z i) (c .zones)) (table (n i) (c .checkpoints)) (table (s i) (c .stops)) (table (e i) (c .exits)) point) false
 
-module _ (b : Bytes) (s : Small b) (short : length b ≤ most) where
+module _ (b : Bytes) (s : Small b) (short : length b ≤ longest) where
   -- ## All that passes is told
   module _ (c : Counts) (r : FileRow) (p : Places) (d : Tests b s c r p) where
     abbrev point : ℕ

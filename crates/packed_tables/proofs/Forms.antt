@@ -19,7 +19,7 @@ use Rattle.house_text.specs.HouseText.{house-rndf}
 use Rattle.house_text.specs.Names.{NetworkNames}
 use Rattle.house_text.proofs.Theorems.{network-back}
 use Rattle.output.specs.Packed.{bigEndian}
-use Rattle.replies.specs.Replies.{most}
+use Rattle.replies.specs.Replies.{longest}
 use Rattle.packed_law.specs.Packed.{Slot, laid, with-length, all-slots, this-version, packed-form, NamesLie}
 use Rattle.packed_law.proofs.Told.{all-told}
 use Rattle.unpackings.specs.Unpacks.{IsNetwork, IsPackedFormOf}
@@ -78,7 +78,7 @@ form-made t bytes x =
     }
 
 -- ## THERE: a network's form is that of the rows read from it
-pub form-only : (n : Network Field) (bytes : Bytes) → length bytes ≤ most → IsPackedFormOf n bytes → (rows-of bytes ≡ tables n) × IsForm (rows-of bytes) bytes
+pub form-only : (n : Network Field) (bytes : Bytes) → length bytes ≤ longest → IsPackedFormOf n bytes → (rows-of bytes ≡ tables n) × IsForm (rows-of bytes) bytes
 form-only n bytes h x =
     let a = told bytes n h x in
     let is : bytes ≡ form-of (tables n) = x .form ∙ packed-is n (a .sound) in

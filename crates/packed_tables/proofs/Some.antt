@@ -24,7 +24,7 @@ use Rattle.packed_rows.specs.Walk.{walk, walked}
 use Rattle.packed_rows.proofs.Walked.{walk-right, walk-all}
 use Rattle.replies.specs.declared.RndfReply.{RndfReply}
 use Rattle.replies.specs.declared.RndfReply.the-variants as Reply
-use Rattle.replies.specs.Replies.{most, refusal, rows-used, network-file}
+use Rattle.replies.specs.Replies.{longest, refusal, rows-used, network-file}
 use Rattle.unpackings.specs.Unpacks.{IsPackedFormOf, UnpackRefuses, Unpacks, too-long, other-version, cut-short, no-network, no-room, refused, unpacked}
 use Rattle.unpackings.proofs.OneNetwork.{items-of}
 use Rattle.row_network.specs.Consistent.{Consistent}
@@ -106,29 +106,29 @@ module _ (bytes : Bytes) (t : Lent) (small : Small bytes) where
   refusing : (file number : ℕ) → UnpackRefuses bytes t file number → Replied
   refusing file k x = (Reply.Refused (refusal file 0 k 0), (zeros t, refused file k x refl refl))
 
-  roomed : (n : Network Field) → length bytes ≤ most → IsPackedFormOf n bytes → Decided (HasRoom n t) → Replied
+  roomed : (n : Network Field) → length bytes ≤ longest → IsPackedFormOf n bytes → Decided (HasRoom n t) → Replied
   roomed n h x (inl r) = (Reply.Accepted (rows-used n) (network-file n), (filled n t, unpacked n h x r refl refl))
   roomed n h x (inr r) = refusing 1 11 (no-room n h x r)
 
-  formed : length bytes ≤ most → OfThisVersion bytes → LengthsRight bytes → Decided (IsForm (rows-of bytes) bytes) → Replied
+  formed : length bytes ≤ longest → OfThisVersion bytes → LengthsRight bytes → Decided (IsForm (rows-of bytes) bytes) → Replied
   formed h v f (inl x) = let n = network-of (rows-of bytes) in roomed n h (form-made (rows-of bytes) bytes x) (roomy n t)
   formed h v f (inr x) = refusing 0 29 (no-network h v f (λ n y. x (form-only n bytes h y .1)))
 
-  framed-or : length bytes ≤ most → OfThisVersion bytes → Decided (LengthsRight bytes) → Replied
+  framed-or : length bytes ≤ longest → OfThisVersion bytes → Decided (LengthsRight bytes) → Replied
   framed-or h v (inl f) = formed h v f (is-form (rows-of bytes) bytes)
   framed-or h v (inr f) = refusing 0 28 (cut-short h v f)
 
-  versioned : length bytes ≤ most → Decided (OfThisVersion bytes) → Replied
+  versioned : length bytes ≤ longest → Decided (OfThisVersion bytes) → Replied
   versioned h (inl v) = framed-or h v (framed-so bytes small)
   versioned h (inr v) = refusing 0 27 (other-version h v)
 
-  sized : Decided (length bytes ≤ most) → Replied
+  sized : Decided (length bytes ≤ longest) → Replied
   sized (inl h) = versioned h (of-version bytes)
-  sized (inr h) = refusing 1 1 (too-long (over (length bytes) most h))
+  sized (inr h) = refusing 1 1 (too-long (over (length bytes) longest h))
     where
       over : (a b : ℕ) → (a ≤ b → ⊥) → b < a
       over a b h = omega (arith, h)
 
   -- one reply there is, for bytes; unpackings/proofs/Settled: no second
   pub unpack-some : (r : RndfReply) × ((l : Lent) × Unpacks bytes t r l)
-  unpack-some = sized (at-most (length bytes) most)
+  unpack-some = sized (at-most (length bytes) longest)

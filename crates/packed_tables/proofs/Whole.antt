@@ -16,7 +16,7 @@ use Rattle.grammar.proofs.Rows.{each-front, each-behind, each-of-map}
 use lib.Seq.{drop-at}
 use Rattle.output.specs.Packed.{bigEndian}
 use Rattle.output.proofs.Packed.{packed-long}
-use Rattle.replies.specs.Replies.{most}
+use Rattle.replies.specs.Replies.{longest}
 use Rattle.packed_law.specs.Packed.{this-version, Slot, figure, angle, title, laid, with-length, NamesLie}
 use Rattle.unpackings.specs.Unpacks.{IsPackedFormOf}
 use Rattle.unpackings.proofs.Framing.{gather-append}
@@ -225,7 +225,7 @@ all-there t b ff fr p dateless is =
           ∙ (λ i. record { file = record { name = t .file .name; version = t .file .version; date = sym dateless i }; segments = r0 i; lanes = r1 i; zones = r2 i; spots = r3 i; points = r4 i; checkpoints = r5 i; stops = r6 i; exits = r7 i }),
     )
 
-pub form-right : (n : Network Field) (bytes : Bytes) → length bytes ≤ most → IsPackedFormOf n bytes → (all-right (drop 5 bytes) ≡ true) × (rows-told (drop 5 bytes) ≡ tables n)
+pub form-right : (n : Network Field) (bytes : Bytes) → length bytes ≤ longest → IsPackedFormOf n bytes → (all-right (drop 5 bytes) ≡ true) × (rows-told (drop 5 bytes) ≡ tables n)
 form-right n bytes h x =
     let a = told bytes n h x in
     all-there (tables n) (drop 5 bytes) (a .file-fits) (a .rest-fits) (a .placed) (table-dateless n (x .dateless)) (ap (drop 5) (a .is) ∙ drop-at (bigEndian 4 (length (laid (items-of (tables n))))) (laid (items-of (tables n))) 4 (packed-long 4 (length (laid (items-of (tables n))))))

@@ -56,8 +56,8 @@ file-of none (Reply.Refused why) = none
 
 -- ## How the writing ended
 -- cleared, put by any puts f from the front on, and finished
-pub whole-so : (f : Pen → Pen) (lent : ℕ) {cleared full : Bytes} {at : ℕ} {left : Bytes} {answer : DF.Finished} → cleared ≡ O.zeros lent → pen full at ≡ f (pen cleared 0) → Finishes full at left answer
-    → Finishes (f (pen (O.zeros lent) 0) .out) (f (pen (O.zeros lent) 0) .at) left answer
+pub whole-so : (f : Pen → Pen) (lent : ℕ) {cleared full : Bytes} {at : ℕ} {left : Bytes} {answer : DF.Finished} → cleared ≡ O.zero-bytes lent → pen full at ≡ f (pen cleared 0) → Finishes full at left answer
+    → Finishes (f (pen (O.zero-bytes lent) 0) .out) (f (pen (O.zero-bytes lent) 0) .at) left answer
 whole-so f lent {cleared} {full} {at} {left} {answer} z p g = subst (λ (q : Pen). Finishes (q .out) (q .at) left answer) (p ∙ ap (λ (l : Bytes). f (pen l 0)) z) g
 
 -- its length fits into the reply
@@ -109,7 +109,7 @@ output-as : (lent : ℕ) (x y out : Bytes) (answer : DF.Finished) → length x �
 output-as lent x y out answer e s o = record {
   good = λ f.
       let g = o .good (record { size = subst (λ (j : ℕ). j ≤ 16777215) (sym e) (f .size); room = subst (λ (j : ℕ). j ≤ lent) (sym e) (f .room) }) in
-      (g .0 ∙ ap (O.filled lent) (s (f .size)), g .1 ∙ ap Written e);
+      (g .0 ∙ ap (O.padded lent) (s (f .size)), g .1 ∙ ap Written e);
   refused = λ no. o .refused (λ f. no (record { size = subst (λ (j : ℕ). j ≤ 16777215) e (f .size); room = subst (λ (j : ℕ). j ≤ lent) e (f .room) }));
 }
 

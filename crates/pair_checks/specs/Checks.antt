@@ -4,7 +4,7 @@ use Prim.Native.Nat.{min}
 use Rattle.line.specs.Line.{Field}
 use Rattle.law.specs.Network.{Network, Mission, Rules}
 use Rattle.law.specs.Tables.{Lent, MissionLent, zeros, mission-zeros}
-use Rattle.route_law.specs.Moves.{Move, points, GoalPoints}
+use Rattle.route_law.specs.Moves.{Move, points-declared, GoalPoints}
 use Rattle.route_law.specs.Routes.{GoodRoute, RouteFault}
 use Rattle.refusal.specs.declared.Refusal.{Refusal}
 use Rattle.replies.specs.declared.PairReply.{PairReply}
@@ -35,10 +35,10 @@ module _ (rules : Rules) (rndf mdf : Bytes) (t : Lent) (u : MissionLent) where
 -- ## L5: "a small checker over an accepted pair, a start point's index and such a list" (of point indexes)
 module _ (start : ℕ) (route : List ℕ) where
   abbrev pub Good : Network Field → (goals : List ℕ) → Type 0
-  Good n = GoodRoute (points n) (Move n) start route
+  Good n = GoodRoute (points-declared n) (Move n) start route
 
   abbrev pub Bad : Network Field → (goals : List ℕ) → (line number : ℕ) → Type 0
-  Bad n = RouteFault (points n) (Move n) start route
+  Bad n = RouteFault (points-declared n) (Move n) start route
 
 abbrev pub ChecksRoute : Rules → (start : ℕ) → (route : List ℕ) → (rndf mdf : Bytes) → Lent → MissionLent → PairReply → (left : Lent) → (mission-left : MissionLent) → Type 0
 ChecksRoute rules start route rndf mdf t u = Judges rules rndf mdf t u (Good start route) (Bad start route)

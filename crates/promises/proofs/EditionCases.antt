@@ -28,7 +28,7 @@ use Rattle.edition.specs.declared.Edition.the-variants.{March2007, December2006
 use Rattle.edition.specs.Editions.{rules-of}
 use Rattle.replies.specs.declared.RndfReply.{RndfReply}
 use Rattle.replies.specs.declared.RndfReply.the-variants as Reply
-use Rattle.replies.specs.Replies.{most, RefusesRndf, bad-line, unended}
+use Rattle.replies.specs.Replies.{longest, RefusesRndf, bad-line, unended}
 use Rattle.promises.specs.Yards.{yellow, no-spots, used}
 use Rattle.promises.specs.Cases.{EditionCases}
 use Rattle.promises.specs.Readers.{Reader, Meets}
@@ -48,15 +48,15 @@ answered : Answered
 unfolding ascii Answers.readText Answers.walk Lines.linesOf Judge.judge Lines.dropCr Forms.formOf Forms.closes Forms.noteOf Forms.outerOf Forms.fieldsAt Content.parted-by Allowed.separates Allowed.all Reach.two Reach.sameBytes Reach.begins Reach.first Reach.upTo Reach.stopsBy Judge.tell Judge.read Judge.numbered Number.integerOf Number.plainOf Number.plain Number.worth Number.numberOf Number.pairOf Number.tripleOf Coordinate.coordinateOf Coordinate.millionthsOf Word.boundary-number Word.indexOf Keywords.rndf-keywords Keywords.boundary-words Machine.step Machine.guard Stands.stands Finding.wrongAt Finding.fieldAt Finding.columnOf Finding.columnFrom Finding.columnIn
 answered = record { older-yellow = refl; older-no-spots = refl; present-yellow = refl; present-no-spots = refl; yellow-at = refl; no-spots-at = refl }
 
-small : (length yellow ≤ most) × (length no-spots ≤ most)
+small : (length yellow ≤ longest) × (length no-spots ≤ longest)
 unfolding ascii
 small = (lit≤ tt, lit≤ tt)
 
 -- a bad line of the older edition, with its column, and an end that the present one misses
-older : (text : Bytes) (t : Lent) (line number column : ℕ) → length text ≤ most → read-rndf-in december text ≡ faulty line number → rndf-column-in december text line number ≡ column → RefusesRndf (rules-of December2006) text t line number column
+older : (text : Bytes) (t : Lent) (line number column : ℕ) → length text ≤ longest → read-rndf-in december text ≡ faulty line number → rndf-column-in december text line number ≡ column → RefusesRndf (rules-of December2006) text t line number column
 older text t line number column size e c = let b = bad December2006 text line number e in bad-line size b (bad-at December2006 text line number column b c)
 
-present : (text : Bytes) (t : Lent) (line : ℕ) → length text ≤ most → read-rndf-in march text ≡ short line → RefusesRndf (rules-of March2007) text t line 10 0
+present : (text : Bytes) (t : Lent) (line : ℕ) → length text ≤ longest → read-rndf-in march text ≡ short line → RefusesRndf (rules-of March2007) text t line 10 0
 present text t line size e = unended size (open-ended March2007 text line e)
 
 -- THE THEOREMS

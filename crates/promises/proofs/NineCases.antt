@@ -10,7 +10,7 @@ use Rattle.law.specs.Tables.{Lent, MissionLent, HasRoom, MissionHasRoom, filled
 use Rattle.law.specs.Faults.{MissionFits}
 use Rattle.replies.specs.declared.PairReply.{PairReply}
 use Rattle.replies.specs.declared.PairReply.the-variants as Pair
-use Rattle.replies.specs.Replies.{most, AcceptsMdf, RefusesRndf, RefusesMdf, bad-line, bad-reference, refusal, mission-file, ReadsPair}
+use Rattle.replies.specs.Replies.{longest, AcceptsMdf, RefusesRndf, RefusesMdf, bad-line, bad-reference, refusal, mission-file, ReadsPair}
 use Rattle.edition.specs.declared.Edition.{Edition}
 use Rattle.edition.specs.Editions.{rules-of}
 use Rattle.promises.specs.Yards.{yard, round, goal-8, limit-10-5, limit-5-0, network, network-twice, mission-with, mission, mission-goal-8, mission-5-0, counts, mission-counts, yard-file, round-file, used, mission-used, yard-words, round-words, words-5-0}
@@ -21,10 +21,10 @@ use Rattle.promises.proofs.MissionTexts.{spelled, faults, goal-at, limi
 
 -- ## Its MDF
 record Small : Type 0 where
-  pub round : length round ≤ most
-  pub goal-8 : length goal-8 ≤ most
-  pub limit-10-5 : length limit-10-5 ≤ most
-  pub limit-5-0 : length limit-5-0 ≤ most
+  pub round : length round ≤ longest
+  pub goal-8 : length goal-8 ≤ longest
+  pub limit-10-5 : length limit-10-5 ≤ longest
+  pub limit-5-0 : length limit-5-0 ≤ longest
 
 small : Small
 unfolding ascii

@@ -12,7 +12,7 @@ use Rattle.refusal.proofs.Apart.{form-or-reference, form-not-size, form-not-end
 use Rattle.law.specs.Network.{Line, Rules}
 use Rattle.law.specs.Faults.{BadLine, Unended}
 use Rattle.law_columns.specs.Columns.{Column}
-use Rattle.replies.specs.Replies.{most, Refuses, too-long, bad-line, unended, no-room, bad-reference}
+use Rattle.replies.specs.Replies.{longest, Refuses, too-long, bad-line, unended, no-room, bad-reference}
 use Rattle.promises.specs.Refusals as Numbers
 use Rattle.promises.specs.Refusals.{OneOfFive, Begin, Hopeless, RefusedLine, NoRoom, WrongReference}
 
@@ -34,7 +34,7 @@ module _ (rules : Rules) {Net : Type 0} (Spells : Rules → Net → List Line �
   number-by line number column (no-room n size h f) = Numbers.room refl
   number-by line number column (bad-reference n size h room f x) = Numbers.reference (reference n (f .front) (f .line) number (f .fault))
 
-  pub size-by : (line number column : ℕ) → Refused line number column → number ≡ 1 → (line ≡ 0) × (most < length text)
+  pub size-by : (line number column : ℕ) → Refused line number column → number ≡ 1 → (line ≡ 0) × (longest < length text)
   size-by line number column (too-long h) e = (refl, h)
   size-by line number column (bad-line size b x) e = absurd (form-not-size (form line number b) e)
   size-by line number column (unended size u) e = absurd (omega arith)

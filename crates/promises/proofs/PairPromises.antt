@@ -19,7 +19,7 @@ use Rattle.counts.specs.declared.MissionCounts.{MissionCounts}
 use Rattle.refusal.specs.declared.Refusal.{Refusal}
 use Rattle.replies.specs.declared.PairReply.{PairReply}
 use Rattle.replies.specs.declared.PairReply.the-variants as Pair
-use Rattle.replies.specs.Replies.{most, AcceptsRndf, AcceptsMdf, unended, refusal, rows-used, network-file, mission-file, ReadsPair, accepted, rndf-refused, mdf-refused}
+use Rattle.replies.specs.Replies.{longest, AcceptsRndf, AcceptsMdf, unended, refusal, rows-used, network-file, mission-file, ReadsPair, accepted, rndf-refused, mdf-refused}
 use Rattle.replies.proofs.Settled.{pair-settled}
 use Rattle.promises.specs.Accepted.{IsPairAccepted, PairAcceptable, mission-rows-used, Meant, NamesAsked, MissionNamesAsked}
 use Rattle.promises.specs.Declared.{declared, mission-declared}
@@ -126,10 +126,10 @@ module _ (edition : Edition) (rndf mdf : Bytes) (t : Lent) (u : MissionLent) whe
   pair-refusal-only r l k h x (inr b) = pair-settled (inner edition) rndf mdf t u r (Pair.Refused x) l (zeros t) k (mission-zeros u) h (mdf-refused (b .1 .0) (x .line) (x .number) (x .column) (b .1 .1) (b .1 .2) (ap (λ (y : ℕ). Pair.Refused (refusal y (x .line) (x .number) (x .column))) (b .0)) refl refl)
 
   -- 10 is replied to every RNDF that is not too long, whose lines begin some well-formed text, and which is none; to every such MDF with an RNDF that is accepted; and to no other pair (pair-refused-end)
-  pub rndf-end-refused : (r : PairReply) (l : Lent) (k : MissionLent) (line : ℕ) → ReadsPair (rules-of edition) rndf mdf t u r l k → length rndf ≤ most → RefusedEnd (rules-of edition) SpellsNetwork rndf line → (r ≡ Pair.Refused (refusal 1 line 10 0)) × (l ≡ zeros t) × (k ≡ mission-zeros u)
+  pub rndf-end-refused : (r : PairReply) (l : Lent) (k : MissionLent) (line : ℕ) → ReadsPair (rules-of edition) rndf mdf t u r l k → length rndf ≤ longest → RefusedEnd (rules-of edition) SpellsNetwork rndf line → (r ≡ Pair.Refused (refusal 1 line 10 0)) × (l ≡ zeros t) × (k ≡ mission-zeros u)
   rndf-end-refused r l k line h size e = pair-refusal-only r l k h (refusal 1 line 10 0) (inl (refl, unended size (rndf-end-unended edition rndf line e)))
 
-  pub mdf-end-refused : (r : PairReply) (l : Lent) (k : MissionLent) (line : ℕ) → ReadsPair (rules-of edition) rndf mdf t u r l k → (n : Network Field) → AcceptsRndf (rules-of edition) rndf t n → length mdf ≤ most → RefusedEnd (rules-of edition) SpellsMission mdf line
+  pub mdf-end-refused : (r : PairReply) (l : Lent) (k : MissionLent) (line : ℕ) → ReadsPair (rules-of edition) rndf mdf t u r l k → (n : Network Field) → AcceptsRndf (rules-of edition) rndf t n → length mdf ≤ longest → RefusedEnd (rules-of edition) SpellsMission mdf line
       → (r ≡ Pair.Refused (refusal 2 line 10 0)) × (l ≡ zeros t) × (k ≡ mission-zeros u)
   mdf-end-refused r l k line h n a size e = pair-refusal-only r l k h (refusal 2 line 10 0) (inr (refl, (n, a, unended size (mdf-end-unended edition mdf line e))))
 
@@ -153,10 +153,10 @@ module _ (edition : Edition) (rndf mdf : Bytes) (t : Lent) (u : MissionLent) whe
         go (inr b) = number-by (rules-of edition) SpellsMission MissionRoomy (MissionFits (b .1 .0)) (Wrong (b .1 .0)) mdf (mdf-form edition mdf) (λ m. mdf-reference (b .1 .0)) (x .line) (x .number) (x .column) (b .1 .2)
 
     -- 1: that text is too long; line 0
-    pub pair-refused-size : x .number ≡ 1 → OfFile x ((x .line ≡ 0) × (most < length rndf)) ((x .line ≡ 0) × (most < length mdf))
+    pub pair-refused-size : x .number ≡ 1 → OfFile x ((x .line ≡ 0) × (longest < length rndf)) ((x .line ≡ 0) × (longest < length mdf))
     pair-refused-size e = go (pair-refusal-right x l k h)
       where
-        go : PairRefuses (rules-of edition) rndf mdf t u x → OfFile x ((x .line ≡ 0) × (most < length rndf)) ((x .line ≡ 0) × (most < length mdf))
+        go : PairRefuses (rules-of edition) rndf mdf t u x → OfFile x ((x .line ≡ 0) × (longest < length rndf)) ((x .line ≡ 0) × (longest < length mdf))
         go (inl b) = inl (b .0, size-by (rules-of edition) SpellsNetwork Roomy Sound RndfFault rndf (rndf-form edition rndf) rndf-reference (x .line) (x .number) (x .column) (b .1) e)
         go (inr b) = inr (b .0, size-by (rules-of edition) SpellsMission MissionRoomy (MissionFits (b .1 .0)) (Wrong (b .1 .0)) mdf (mdf-form edition mdf) (λ m. mdf-reference (b .1 .0)) (x .line) (x .number) (x .column) (b .1 .2) e)
 

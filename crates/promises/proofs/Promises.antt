@@ -15,7 +15,7 @@ use Rattle.counts.specs.declared.Counts.{Counts}
 use Rattle.refusal.specs.declared.Refusal.{Refusal}
 use Rattle.replies.specs.declared.RndfReply.{RndfReply}
 use Rattle.replies.specs.declared.RndfReply.the-variants as Reply
-use Rattle.replies.specs.Replies.{most, AcceptsRndf, RefusesRndf, unended, refusal, rows-used, network-file, ReadsRndf, accepted, refused}
+use Rattle.replies.specs.Replies.{longest, AcceptsRndf, RefusesRndf, unended, refusal, rows-used, network-file, ReadsRndf, accepted, refused}
 use Rattle.replies.proofs.Settled.{rndf-settled}
 use Rattle.promises.specs.Accepted.{IsAccepted, Acceptable, NamesAsked}
 use Rattle.promises.specs.Declared.{declared}
@@ -91,7 +91,7 @@ module _ (edition : Edition) (text : Bytes) (t : Lent) where
   refusal-only r l line number column x a = rndf-settled (inner edition) text t r (Reply.Refused (refusal 1 line number column)) l (zeros t) x (refused line number column a refl refl)
 
   -- 10 is replied to every text that is not too long, whose lines begin some well-formed text, and which is none; and to no other (refused-end)
-  pub end-refused : (r : RndfReply) (l : Lent) (line : ℕ) → ReadsRndf (rules-of edition) text t r l → length text ≤ most → RefusedEnd (rules-of edition) SpellsNetwork text line → (r ≡ Reply.Refused (refusal 1 line 10 0)) × (l ≡ zeros t)
+  pub end-refused : (r : RndfReply) (l : Lent) (line : ℕ) → ReadsRndf (rules-of edition) text t r l → length text ≤ longest → RefusedEnd (rules-of edition) SpellsNetwork text line → (r ≡ Reply.Refused (refusal 1 line 10 0)) × (l ≡ zeros t)
   end-refused r l line x size e = refusal-only r l line 10 0 x (unended size (rndf-end-unended edition text line e))
 
   -- ## What each number tells
@@ -104,7 +104,7 @@ module _ (edition : Edition) (text : Bytes) (t : Lent) where
     refused-number = number-by (rules-of edition) SpellsNetwork Roomy Sound RndfFault text (rndf-form edition text) rndf-reference (x .line) (x .number) (x .column) (refusal-right x l h)
 
     -- 1: the text is too long; line 0
-    pub refused-size : x .number ≡ 1 → (x .line ≡ 0) × (most < length text)
+    pub refused-size : x .number ≡ 1 → (x .line ≡ 0) × (longest < length text)
     refused-size = size-by (rules-of edition) SpellsNetwork Roomy Sound RndfFault text (rndf-form edition text) rndf-reference (x .line) (x .number) (x .column) (refusal-right x l h)
 
     -- a number of form: the lines before the refused line begin some well-formed text, none begins with them and it, and it has that fault

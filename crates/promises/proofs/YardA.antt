@@ -10,7 +10,7 @@ use Rattle.law.specs.Tables.{Lent, HasRoom, filled}
 use Rattle.law.specs.Faults.{Sound, waypoint, first}
 use Rattle.replies.specs.declared.RndfReply.{RndfReply}
 use Rattle.replies.specs.declared.RndfReply.the-variants as Reply
-use Rattle.replies.specs.Replies.{most, AcceptsRndf, RefusesRndf, bad-line, unended, bad-reference, rows-used, network-file, ReadsRndf}
+use Rattle.replies.specs.Replies.{longest, AcceptsRndf, RefusesRndf, bad-line, unended, bad-reference, rows-used, network-file, ReadsRndf}
 use Rattle.edition.specs.declared.Edition.{Edition}
 use Rattle.edition.specs.Editions.{inner, rules-of}
 use Rattle.law_columns.specs.Files.{rndf-column-in}
@@ -22,16 +22,16 @@ use Rattle.promises.proofs.YardTexts.{spelled, faults, columns, bad-at,
 
 -- ## Sizes
 record Small : Type 0 where
-  pub yard : length yard ≤ most
-  pub entry-3 : length entry-3 ≤ most
-  pub line-8-twice : length line-8-twice ≤ most
-  pub exit-from-3 : length exit-from-3 ≤ most
-  pub three-waypoints : length three-waypoints ≤ most
-  pub one-waypoint : length one-waypoint ≤ most
-  pub without-end : length without-end ≤ most
-  pub second-line : length second-line ≤ most
-  pub second-lane : length second-lane ≤ most
-  pub second-segment : length second-segment ≤ most
+  pub yard : length yard ≤ longest
+  pub entry-3 : length entry-3 ≤ longest
+  pub line-8-twice : length line-8-twice ≤ longest
+  pub exit-from-3 : length exit-from-3 ≤ longest
+  pub three-waypoints : length three-waypoints ≤ longest
+  pub one-waypoint : length one-waypoint ≤ longest
+  pub without-end : length without-end ≤ longest
+  pub second-line : length second-line ≤ longest
+  pub second-lane : length second-lane ≤ longest
+  pub second-segment : length second-segment ≤ longest
 
 small : Small
 unfolding ascii

@@ -7,7 +7,7 @@ use Rattle.terms.specs.Ascii.{Bytes}
 use Rattle.grammar.specs.Editions.{Edition, law-of}
 use Rattle.law.specs.Network.{reading}
 use Rattle.law.specs.Tables.{Lent, MissionLent, filled, mission-filled}
-use Rattle.route_law.specs.Moves.{Move, points}
+use Rattle.route_law.specs.Moves.{Move, points-declared}
 use Rattle.route_law.proofs.Goals.{goals-length}
 use Rattle.reach_law.proofs.Agreed as Any
 use Rattle.refusal.specs.declared.Refusal.{Refusal}
@@ -28,7 +28,7 @@ module _ (ed : Edition) (start : ℕ) (rndf mdf : Bytes) (t : Lent) (u : Mission
   some-goals p = subst (λ k. 1 ≤ k) (goals-length (p .net) (p .mission) (p .goals) (p .goals-stand)) (p .mission-accepted .spelled .net .good .some-goals .low)
 
   pub enough : RowForEachPoint (reading (law-of ed)) rndf mdf t u (replicate (length (t .points) / 2) 0)
-  enough p = subst (λ (k : ℕ). points (p .net) ≤ k) (sym (length-replicate (length (t .points) / 2) 0)) (p .network-accepted .room .points)
+  enough p = subst (λ (k : ℕ). points-declared (p .net) ≤ k) (sym (length-replicate (length (t .points) / 2) 0)) (p .network-accepted .room .points)
 
   pub agreed : RouteExactlyIfDriven (reading (law-of ed)) rndf mdf t u start
   agreed work reply left mission-left work-left room checked = (to, back)
@@ -37,7 +37,7 @@ module _ (ed : Edition) (start : ℕ) (rndf mdf : Bytes) (t : Lent) (u : Mission
       to s =
           let w = Route.no-others ed start (s .route) rndf mdf t u (s .reply) (s .left) (s .mission-left) (s .checked) (not-refused (s .reply) (s .accepted)) in
           let p = w .0 in
-          let c = Any.agreed (Move (p .net)) (points (p .net)) (length work) start (p .goals) (room p) (some-goals p) .0 (s .route, w .1) in
+          let c = Any.agreed (Move (p .net)) (points-declared (p .net)) (length work) start (p .goals) (room p) (some-goals p) .0 (s .route, w .1) in
           let e = Mission.all-accepted ed start rndf mdf t u work reply left mission-left work-left checked p c .0 in
           subst IsAcceptance (sym e) tt
 
@@ -45,7 +45,7 @@ module _ (ed : Edition) (start : ℕ) (rndf mdf : Bytes) (t : Lent) (u : Mission
       back a =
           let w = Mission.no-others ed start rndf mdf t u work reply left mission-left work-left checked (not-refused reply a) in
           let p = w .0 in
-          let g = Any.agreed (Move (p .net)) (points (p .net)) (length work) start (p .goals) (w .1 .room) (some-goals p) .1 (w .1) in
+          let g = Any.agreed (Move (p .net)) (points-declared (p .net)) (length work) start (p .goals) (w .1 .room) (some-goals p) .1 (w .1) in
           record {
             route = g .0;
             reply = read-reply ed rndf mdf t u p;

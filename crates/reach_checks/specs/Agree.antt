@@ -3,7 +3,7 @@ use mathlib.Core.Logic.{_↔_}
 use Rattle.terms.specs.Words.{List, ℕ, _≤_, length, Bytes}
 use Rattle.law.specs.Network.{Rules}
 use Rattle.law.specs.Tables.{Lent, MissionLent}
-use Rattle.route_law.specs.Moves.{points}
+use Rattle.route_law.specs.Moves.{points-declared}
 use Rattle.pair_checks.specs.Checks.{AcceptedPair, ChecksRoute}
 use Rattle.replies.specs.declared.PairReply.{PairReply}
 use Rattle.replies.specs.declared.PairReply.the-variants as Pair
@@ -25,7 +25,7 @@ module _ (rules : Rules) (rndf mdf : Bytes) (t : Lent) (u : MissionLent) where
 
   -- "given the room": where the pair is accepted, a row of the work space for each point. Where it is refused, room plays no part
   abbrev pub RowForEachPoint : (work : List ℕ) → Type 0
-  RowForEachPoint work = (pair : AcceptedPair rules rndf mdf t u) → points (pair .net) ≤ length work
+  RowForEachPoint work = (pair : AcceptedPair rules rndf mdf t u) → points-declared (pair .net) ≤ length work
 
   -- whatever is replied
   abbrev pub RouteExactlyIfDriven : (start : ℕ) → Type 0

@@ -8,7 +8,7 @@ use Rattle.terms.specs.Words.{Among}
 use Rattle.line.specs.Line.{Field}
 use Rattle.law.specs.Network.{Network}
 use Rattle.law.specs.Tables.{total, exit-rows}
-use Rattle.route_law.specs.Moves.{Span, lane-spans, zone-spans, Move, next, exit, across, points}
+use Rattle.route_law.specs.Moves.{Span, lane-spans, zone-spans, Move, next, exit, across, points-declared}
 use Rattle.route_law.proofs.Decided.{head, decide}
 use Rattle.reach_law.specs.Reach.{DriveTaken, DriveFault}
 use Rattle.reach_law.proofs.Chains.{told-chain, told-onward}
@@ -31,5 +31,5 @@ below n a b (next s i p q e) = let h = within-total end s (lane-spans n) i in le
 below n a b (exit i) = let h = within-total head (a ∷ b ∷ []) (exit-rows n) i in omega arith
 below n a b (across s i p q e) = let h = within-total end s (zone-spans n) i in let k = p .below in omega arith
 
-pub some-answer : (n : Network Field) (rows start : ℕ) (goals : List ℕ) → DriveTaken (Move n) (points n) rows start goals ⊎ ((line : ℕ) × (number : ℕ) × DriveFault (Move n) (points n) rows start goals line number)
-some-answer n rows start goals = Settled.some-answer (Move n) (points n) rows start goals (told-chain (Move n) (λ a b. decide a b n) (bound n) (below n)) (told-onward (Move n) (λ a b. decide a b n) (bound n) (below n))
+pub some-answer : (n : Network Field) (rows start : ℕ) (goals : List ℕ) → DriveTaken (Move n) (points-declared n) rows start goals ⊎ ((line : ℕ) × (number : ℕ) × DriveFault (Move n) (points-declared n) rows start goals line number)
+some-answer n rows start goals = Settled.some-answer (Move n) (points-declared n) rows start goals (told-chain (Move n) (λ a b. decide a b n) (bound n) (below n)) (told-onward (Move n) (λ a b. decide a b n) (bound n) (below n))

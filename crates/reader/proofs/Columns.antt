@@ -33,7 +33,7 @@ use Rattle.law_columns.proofs.Theorems.{rndf-column-bad-in, rndf-column-fault-i
 use Rattle.columns.specs.RndfColumns.{rndfColumnIn}
 use Rattle.columns.specs.MdfColumns.{mdfColumnIn}
 use Rattle.columns.proofs.Theorems.{rndf-column-is, mdf-column-is}
-use Rattle.replies.specs.Replies.{most, RefusesRndf, RefusesMdf, too-long, bad-line, unended, no-room, bad-reference}
+use Rattle.replies.specs.Replies.{longest, RefusesRndf, RefusesMdf, too-long, bad-line, unended, no-room, bad-reference}
 use Rattle.reader.specs.Columns.{if-there, rndfTold, mdfTold}
 
 -- it is looked for at every line but for 10
@@ -65,7 +65,7 @@ mdf-not-end n front line k (limited-again a b q u w s) z = omega arith
 mdf-not-end n front line k (unlimited id q u w) z = omega arith
 
 -- ## RNDF
-module _ (text : Bytes) (size : length text ≤ most) where
+module _ (text : Bytes) (size : length text ≤ longest) where
   rndf-there : (i k : ℕ) → 0 < i → (k ≡ 10 → ⊥) → rndfTold text i k ≡ rndf-column text i k
   unfolding rndfTold
   rndf-there i k h not = there i k (rndfColumnIn text i k) h not ∙ rndf-column-is text i k size
@@ -98,7 +98,7 @@ module _ (ε : Edition) where
       let r = run-parts (places ε) (at (places ε) name-due) over front (x ∷ o .0) (subst (λ (l : List (Statement Field)). run (places ε) (at (places ε) name-due) l ≡ next over) (o .1) c) in
       column-in-same ε text i k (a .before) (a .this) (a .rest) (a .cut) (a .number) front (r .0) (a .said) (r .1)
 
-  module _ (text : Bytes) (size : length text ≤ most) where
+  module _ (text : Bytes) (size : length text ≤ longest) where
     pub rndf-bad-told-in : (i k : ℕ) (b : RndfBadLineIn ε text i k) → let x = rndf-bad-to-in ε text i k b in Column (reading (law-of ε)) SpellsNetwork (x .front) (x .this) k (rndfTold text i k)
     rndf-bad-told-in i k b =
         let x = rndf-bad-to-in ε text i k b in
@@ -118,7 +118,7 @@ module _ (ε : Edition) where
         subst (Column (reading (law-of ε)) SpellsNetwork (x .front) (x .at .this) k) same (rndf-column-fault-in ε n text i k x)
 
 -- ## MDF. n: the network of the RNDF, which was accepted before
-module _ (text : Bytes) (size : length text ≤ most) where
+module _ (text : Bytes) (size : length text ≤ longest) where
   mdf-there : (i k : ℕ) → 0 < i → (k ≡ 10 → ⊥) → mdfTold text i k ≡ mdf-column text i k
   unfolding mdfTold
   mdf-there i k h not = there i k (mdfColumnIn text i k) h not ∙ mdf-column-is text i k size

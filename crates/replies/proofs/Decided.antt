@@ -33,7 +33,7 @@ use Rattle.law_columns.proofs.Theorems.{rndf-column-bad-in, rndf-column-fault-i
 use Rattle.law_tables.proofs.SameFits.{fits-to}
 use Rattle.law_tables.proofs.RndfFirst.{rndf-first-to-in}
 use Rattle.law_tables.proofs.MdfFirst.{mdf-first-to-in}
-use Rattle.replies.specs.Replies.{most, AcceptsRndf, RefusesRndf, AcceptsMdf, RefusesMdf, too-long, bad-line, unended, no-room, bad-reference}
+use Rattle.replies.specs.Replies.{longest, AcceptsRndf, RefusesRndf, AcceptsMdf, RefusesMdf, too-long, bad-line, unended, no-room, bad-reference}
 
 -- ## Room
 abbrev Decided : Type 0 → Type 0
@@ -80,7 +80,7 @@ module _ (d : Edition) (text : Bytes) (t : Lent) where
   abbrev Answered : Type 0
   Answered = ((n : Network Field) × AcceptsRndf (reading (law-of d)) text t n) ⊎ ((line : ℕ) × (number : ℕ) × (column : ℕ) × RefusesRndf (reading (law-of d)) text t line number column)
 
-  module _ (size : length text ≤ most) (n : Network Field) (s : SpellsRndfIn d n text) (room : HasRoom n t) where
+  module _ (size : length text ≤ longest) (n : Network Field) (s : SpellsRndfIn d n text) (room : HasRoom n t) where
     at-line : (i k : ℕ) → FirstFault (reading (law-of d)) SpellsNetwork (RndfFault n) text i k → Answered
     at-line i k f = inr (i, k, rndf-column-in d text i k, bad-reference n size (rndf-to-in d n text s) room f (rndf-column-fault-in d n text i k f))
 
@@ -98,11 +98,11 @@ module _ (d : Edition) (text : Bytes) (t : Lent) where
     referring none (some g) p q = at-line (checkpoint-line text (g .row)) 13 (rndf-first-to-in d n text s (checkpoint-line text (g .row)) 13 (only-repeated n text (later d n text s) g p q))
     referring (some f) (some g) p q = earlier f g p q (ltb (exit-line text (f .row)) (checkpoint-line text (g .row))) refl
 
-  spelled-so : length text ≤ most → (n : Network Field) → SpellsRndfIn d n text → Decided (HasRoom n t) → Answered
+  spelled-so : length text ≤ longest → (n : Network Field) → SpellsRndfIn d n text → Decided (HasRoom n t) → Answered
   spelled-so size n s (inl room) = referring size n s room (undeclared-in n) (repeated-in n) refl refl
   spelled-so size n s (inr full) = inr (0, 11, 0, no-room n size (rndf-to-in d n text s) full)
 
-  formed : length text ≤ most → ((n : Network Field) × SpellsRndfIn d n text) ⊎ (((i : ℕ) × (k : ℕ) × RndfBadLineIn d text i k) ⊎ ((i : ℕ) × RndfUnendedIn d text i)) → Answered
+  formed : length text ≤ longest → ((n : Network Field) × SpellsRndfIn d n text) ⊎ (((i : ℕ) × (k : ℕ) × RndfBadLineIn d text i k) ⊎ ((i : ℕ) × RndfUnendedIn d text i)) → Answered
   formed size (inl x) = spelled-so size (x .0) (x .1) (roomy (x .0) t)
   formed size (inr (inl x)) = bad (x .0) (x .1) (rndf-bad-to-in d text (x .0) (x .1) (x .2))
     where
@@ -111,18 +111,18 @@ module _ (d : Edition) (text : Bytes) (t : Lent) where
   formed size (inr (inr x)) = inr (x .0, 10, 0, unended size (rndf-unended-to-in d text (x .0) (x .1)))
 
   pub rndf-answered : Answered
-  rndf-answered = go (ltb most (length text)) refl
+  rndf-answered = go (ltb longest (length text)) refl
     where
-      go : (x : Bool) → ltb most (length text) ≡ x → Answered
-      go true e = inr (0, 1, 0, too-long (ltb-true most (length text) e))
-      go false e = formed (ltb-false most (length text) e) (rndf-one-of-three-in d text)
+      go : (x : Bool) → ltb longest (length text) ≡ x → Answered
+      go true e = inr (0, 1, 0, too-long (ltb-true longest (length text) e))
+      go false e = formed (ltb-false longest (length text) e) (rndf-one-of-three-in d text)
 
 -- ## An MDF for a network
 module _ (d : Edition) (n : Network Field) (text : Bytes) (u : MissionLent) where
   abbrev MdfAnswered : Type 0
   MdfAnswered = ((m : Mission Field) × AcceptsMdf (reading (law-of d)) n text u m) ⊎ ((line : ℕ) × (number : ℕ) × (column : ℕ) × RefusesMdf (reading (law-of d)) n text u line number column)
 
-  module _ (size : length text ≤ most) (m : Mission Field) (s : SpellsMdf m text) (room : MissionHasRoom m u) where
+  module _ (size : length text ≤ longest) (m : Mission Field) (s : SpellsMdf m text) (room : MissionHasRoom m u) where
     mdf-at-line : (i k : ℕ) → FirstFault (reading (law-of d)) SpellsMission (MdfFault n) text i k → MdfAnswered
     mdf-at-line i k f = inr (i, k, mdf-column text i k, bad-reference m size (mdf-to-in d m text s) room f (mdf-column-fault-in d n text i k f))
 
@@ -149,11 +149,11 @@ module _ (d : Edition) (n : Network Field) (text : Bytes) (u : MissionLent) wher
     named true e = known (same-equal (m .rndf .bytes) (n .name .bytes) e) (first-foreign-goal (all-numbers n) (m .goals)) refl
     named false e = mdf-at-line (mdfLineOf text 1 0) 14 (mdf-first-to-in n m text s d (mdfLineOf text 1 0) 14 (other-name-line n m text s (false-differ (m .rndf .bytes) (n .name .bytes) e)))
 
-  mdf-spelled-so : length text ≤ most → (m : Mission Field) → SpellsMdf m text → Decided (MissionHasRoom m u) → MdfAnswered
+  mdf-spelled-so : length text ≤ longest → (m : Mission Field) → SpellsMdf m text → Decided (MissionHasRoom m u) → MdfAnswered
   mdf-spelled-so size m s (inl room) = named size m s room (sameBytes (m .rndf .bytes) (n .name .bytes)) refl
   mdf-spelled-so size m s (inr full) = inr (0, 11, 0, no-room m size (mdf-to-in d m text s) full)
 
-  mdf-formed : length text ≤ most → ((m : Mission Field) × SpellsMdf m text) ⊎ (((i : ℕ) × (k : ℕ) × MdfBadLine text i k) ⊎ ((i : ℕ) × MdfUnended text i)) → MdfAnswered
+  mdf-formed : length text ≤ longest → ((m : Mission Field) × SpellsMdf m text) ⊎ (((i : ℕ) × (k : ℕ) × MdfBadLine text i k) ⊎ ((i : ℕ) × MdfUnended text i)) → MdfAnswered
   mdf-formed size (inl x) = mdf-spelled-so size (x .0) (x .1) (mission-roomy (x .0) u)
   mdf-formed size (inr (inl x)) = bad (x .0) (x .1) (mdf-bad-to-in d text (x .0) (x .1) (x .2))
     where
@@ -162,8 +162,8 @@ module _ (d : Edition) (n : Network Field) (text : Bytes) (u : MissionLent) wher
   mdf-formed size (inr (inr x)) = inr (x .0, 10, 0, unended size (mdf-unended-to-in d text (x .0) (x .1)))
 
   pub mdf-answered : MdfAnswered
-  mdf-answered = go (ltb most (length text)) refl
+  mdf-answered = go (ltb longest (length text)) refl
     where
-      go : (x : Bool) → ltb most (length text) ≡ x → MdfAnswered
-      go true e = inr (0, 1, 0, too-long (ltb-true most (length text) e))
-      go false e = mdf-formed (ltb-false most (length text) e) (mdf-one-of-three text)
+      go : (x : Bool) → ltb longest (length text) ≡ x → MdfAnswered
+      go true e = inr (0, 1, 0, too-long (ltb-true longest (length text) e))
+      go false e = mdf-formed (ltb-false longest (length text) e) (mdf-one-of-three text)

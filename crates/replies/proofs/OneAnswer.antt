@@ -8,7 +8,7 @@ use Rattle.terms.specs.Ascii.{Bytes}
 use Rattle.law.specs.Network.{Line, SpellsText, Rules}
 use Rattle.law.specs.Faults.{BadLine, Unended, FirstFault}
 use Rattle.law_columns.specs.Columns.{Column}
-use Rattle.replies.specs.Replies.{most, Accepts, Refuses, too-long, bad-line, unended, no-room, bad-reference}
+use Rattle.replies.specs.Replies.{longest, Accepts, Refuses, too-long, bad-line, unended, no-room, bad-reference}
 
 module _ (rules : Rules) {Net : Type 0} (Spells : Rules → Net → List Line → Type 0) (Roomy Right : Net → Type 0) (Wrong : Net → List Line → Line → ℕ → Type 0) (text : Bytes) where
   pub record Alone : Type 0 where
@@ -32,7 +32,7 @@ module _ (rules : Rules) {Net : Type 0} (Spells : Rules → Net → List Line �
     abbrev Left : (line number column : ℕ) → Type 0
     Left = Refuses rules Spells Roomy Right Wrong text
 
-    sizes-clash : {X : Type 0} → most < length text → length text ≤ most → X
+    sizes-clash : {X : Type 0} → longest < length text → length text ≤ longest → X
     sizes-clash a b = absurd (omega arith)
 
     pub accepts-one : (n n′ : Net) → Taken n → Taken n′ → n ≡ n′

@@ -16,13 +16,13 @@ use Rattle.replies.specs.declared.PairReply.{PairReply}
 use Rattle.replies.specs.declared.PairReply.the-variants as Pair
 
 -- 01: 1 "text over 16,777,215 bytes"
-abbrev pub most : ℕ
-most = 16777215
+abbrev pub longest : ℕ
+longest = 16777215
 
 -- ## One file: how it is spelled; whether there is room for what it spells, and its references are right; which lines have wrong ones
 module _ (rules : Rules) {Net : Type 0} (Spells : Rules → Net → List Line → Type 0) (Roomy Right : Net → Type 0) (Wrong : Net → List Line → Line → ℕ → Type 0) (text : Bytes) where
   pub record Accepts (n : Net) : Type 0 where
-    pub size : length text ≤ most
+    pub size : length text ≤ longest
     pub spelled : SpellsText rules Spells n text
     pub room : Roomy n
     pub right : Right n
@@ -30,11 +30,11 @@ module _ (rules : Rules) {Net : Type 0} (Spells : Rules → Net → List Line �
   -- 01: "Order: for the RNDF 1; then the first line with a fault of 2 to 9, ..; then 10; 11; then the first line with 12 or 13. Then the MDF likewise, 14 to 18 by first line"
   -- L7: "Where the line is 0, for 10, .. it is 0": the column
   pub data Refuses : (line number column : ℕ) → Type 0 where
-    too-long : most < length text → Refuses 0 1 0
-    bad-line : {line number column : ℕ} → length text ≤ most → (bad : BadLine rules Spells text line number) → Column rules Spells (bad .front) (bad .this) number column → Refuses line number column
-    unended : {line : ℕ} → length text ≤ most → Unended rules Spells text line → Refuses line 10 0
-    no-room : (n : Net) → length text ≤ most → SpellsText rules Spells n text → (Roomy n → ⊥) → Refuses 0 11 0
-    bad-reference : (n : Net) {line number column : ℕ} → length text ≤ most → SpellsText rules Spells n text → Roomy n → (bad : FirstFault rules Spells (Wrong n) text line number) → Column rules Spells (bad .front) (bad .at .this) number column → Refuses line number column
+    too-long : longest < length text → Refuses 0 1 0
+    bad-line : {line number column : ℕ} → length text ≤ longest → (bad : BadLine rules Spells text line number) → Column rules Spells (bad .front) (bad .this) number column → Refuses line number column
+    unended : {line : ℕ} → length text ≤ longest → Unended rules Spells text line → Refuses line 10 0
+    no-room : (n : Net) → length text ≤ longest → SpellsText rules Spells n text → (Roomy n → ⊥) → Refuses 0 11 0
+    bad-reference : (n : Net) {line number column : ℕ} → length text ≤ longest → SpellsText rules Spells n text → Roomy n → (bad : FirstFault rules Spells (Wrong n) text line number) → Column rules Spells (bad .front) (bad .at .this) number column → Refuses line number column
 
 -- rules: those of the entry points are `reading` of the edition that the caller says (L10); t: the tables as they were lent; u: those of the MDF; n: the network of the RNDF, which was accepted before
 module _ (rules : Rules) (text : Bytes) (t : Lent) where

@@ -30,7 +30,7 @@ use Rattle.replies.specs.declared.RndfReply.{RndfReply}
 use Rattle.replies.specs.declared.RndfReply.the-variants as Reply
 use Rattle.replies.specs.declared.PairReply.{PairReply}
 use Rattle.replies.specs.declared.PairReply.the-variants as Pair
-use Rattle.replies.specs.Replies.{most, AcceptsRndf, AcceptsMdf, rows-used, network-file, mission-file, ReadsRndf, ReadsPair}
+use Rattle.replies.specs.Replies.{longest, AcceptsRndf, AcceptsMdf, rows-used, network-file, mission-file, ReadsRndf, ReadsPair}
 use Rattle.replies.proofs.Counted.{counts-are}
 use Rattle.promises.specs.Accepted.{mission-rows-used}
 use Rattle.promises.proofs.Keeping.{rndf-later}
@@ -92,7 +92,7 @@ module _ (edition : Edition) where
 
   -- ## Accepted again
   -- in any tables that have room for its rows
-  pub rndf-returns-in : (text : Bytes) (t t′ : Lent) (n : Network Field) → AcceptsRndf (rules-of edition) text t n → (house : Bytes) → HouseRndf n house → length house ≤ most → Law.HasRoom n t′ → RndfReturns (rules-of edition) n house t′
+  pub rndf-returns-in : (text : Bytes) (t t′ : Lent) (n : Network Field) → AcceptsRndf (rules-of edition) text t n → (house : Bytes) → HouseRndf n house → length house ≤ longest → Law.HasRoom n t′ → RndfReturns (rules-of edition) n house t′
   rndf-returns-in text t t′ n a house h size room =
       let e = house-rndf-only n house h in
       let b = rndf-back n text (Texts.rndf-back n text (rndf-later edition n text (a .spelled))) in
@@ -100,7 +100,7 @@ module _ (edition : Edition) where
       (record {
         again = b .0;
         accepts = record {
-          size = subst (λ (w : Bytes). length w ≤ most) e size;
+          size = subst (λ (w : Bytes). length w ≤ longest) e size;
           spelled = rndf-within edition n (b .0) text (house-rndf n) (a .spelled) (rndf-to (b .0) (house-rndf n) (b .1)) (b .2);
           room = room-to (b .0) t′ (subst (λ (c : Counts). HasRoom c t′) (sizes-alike bytes-of (undated n) (b .0) (sym (b .2))) (room-back (undated n) t′ (undated-room n t′ room)));
           right = sound-alike bytes-of (undated n) (b .0) (sym (b .2)) (undated-sound n (a .right));
@@ -109,11 +109,11 @@ module _ (edition : Edition) where
       })
 
   -- so in the same tables: as many rows are needed
-  pub rndf-returns : (text : Bytes) (t : Lent) (n : Network Field) → AcceptsRndf (rules-of edition) text t n → (house : Bytes) → HouseRndf n house → length house ≤ most → RndfReturns (rules-of edition) n house t
+  pub rndf-returns : (text : Bytes) (t : Lent) (n : Network Field) → AcceptsRndf (rules-of edition) text t n → (house : Bytes) → HouseRndf n house → length house ≤ longest → RndfReturns (rules-of edition) n house t
   rndf-returns text t n a house h size = rndf-returns-in text t t n a house h size (a .room)
 
   -- for every network that is the same, apart from its date, as the one that the MDF was accepted for: that one, or what its house writing spells
-  pub mdf-returns-in : (mdf : Bytes) (u u′ : MissionLent) (n n′ : Network Field) (m : Mission Field) → AcceptsMdf (rules-of edition) n mdf u m → SameNetwork (undated n′) (undated n) → (house : Bytes) → HouseMdf m house → length house ≤ most → Law.MissionHasRoom m u′ → MdfReturns (rules-of edition) n′ m house u′
+  pub mdf-returns-in : (mdf : Bytes) (u u′ : MissionLent) (n n′ : Network Field) (m : Mission Field) → AcceptsMdf (rules-of edition) n mdf u m → SameNetwork (undated n′) (undated n) → (house : Bytes) → HouseMdf m house → length house ≤ longest → Law.MissionHasRoom m u′ → MdfReturns (rules-of edition) n′ m house u′
   mdf-returns-in mdf u u′ n n′ m a e house h size room =
       let q = house-mdf-only m house h in
       let b = mdf-back m mdf (Texts.mdf-back-in (inner edition) m mdf (a .spelled)) in
@@ -121,7 +121,7 @@ module _ (edition : Edition) where
       (record {
         again = b .0;
         accepts = record {
-          size = subst (λ (w : Bytes). length w ≤ most) q size;
+          size = subst (λ (w : Bytes). length w ≤ longest) q size;
           spelled = mdf-to-in (inner edition) (b .0) (house-mdf m) (b .1);
           room = mission-room-to (b .0) u′ (subst (λ (c : MissionCounts). MissionHasRoom c u′) (mission-sizes-alike bytes-of (mission-undated m) (b .0) (sym (b .2))) (mission-room-back m u′ room));
           right = fits-to n′ (b .0) (dated-fits (network-named bytes-of n′) (mission-named bytes-of (b .0)) (subst (λ (x : Network Name). MissionFits x (mission-named bytes-of (b .0))) (sym (undated-named n) ∙ sym e ∙ undated-named n′) (subst (λ (x : Mission Name). MissionFits (undated (network-named bytes-of n)) x) (sym (mission-undated-named m) ∙ sym (b .2)) (undated-fits (network-named bytes-of n) (mission-named bytes-of m) (fits-back n m (a .right))))));
@@ -129,18 +129,18 @@ module _ (edition : Edition) where
         same = b .2;
       })
 
-  pub mdf-returns : (mdf : Bytes) (u : MissionLent) (n n′ : Network Field) (m : Mission Field) → AcceptsMdf (rules-of edition) n mdf u m → SameNetwork (undated n′) (undated n) → (house : Bytes) → HouseMdf m house → length house ≤ most → MdfReturns (rules-of edition) n′ m house u
+  pub mdf-returns : (mdf : Bytes) (u : MissionLent) (n n′ : Network Field) (m : Mission Field) → AcceptsMdf (rules-of edition) n mdf u m → SameNetwork (undated n′) (undated n) → (house : Bytes) → HouseMdf m house → length house ≤ longest → MdfReturns (rules-of edition) n′ m house u
   mdf-returns mdf u n n′ m a e house h size = mdf-returns-in mdf u u n n′ m a e house h size (a .room)
 
   -- THE RETURN TRIP
   pub pair-returns : (rndf mdf : Bytes) (t : Lent) (u : MissionLent) (n : Network Field) (m : Mission Field) → AcceptsRndf (rules-of edition) rndf t n → AcceptsMdf (rules-of edition) n mdf u m
-      → (rndf-house mdf-house : Bytes) → HouseRndf n rndf-house → HouseMdf m mdf-house → length rndf-house ≤ most → length mdf-house ≤ most → PairReturns (rules-of edition) n m rndf-house mdf-house t u
+      → (rndf-house mdf-house : Bytes) → HouseRndf n rndf-house → HouseMdf m mdf-house → length rndf-house ≤ longest → length mdf-house ≤ longest → PairReturns (rules-of edition) n m rndf-house mdf-house t u
   pair-returns rndf mdf t u n m a b v w h g size mission-size =
       let x = rndf-returns rndf t n a v h size in
       record { network = x; mission = mdf-returns mdf u n (x .again) m b (undated-same (x .again) (undated n) (x .same)) w g mission-size }
 
   -- ## What a reader replies: the same rows used; the file's own row and the tables are those of what came back
-  pub rndf-read-again : (text : Bytes) (t : Lent) (n : Network Field) → AcceptsRndf (rules-of edition) text t n → (house : Bytes) → HouseRndf n house → length house ≤ most → (reply : RndfReply) (left : Lent) → ReadsRndf (rules-of edition) house t reply left
+  pub rndf-read-again : (text : Bytes) (t : Lent) (n : Network Field) → AcceptsRndf (rules-of edition) text t n → (house : Bytes) → HouseRndf n house → length house ≤ longest → (reply : RndfReply) (left : Lent) → ReadsRndf (rules-of edition) house t reply left
       → (x : RndfReturns (rules-of edition) n house t) × (reply ≡ Reply.Accepted (rows-used n) (network-file (x .again))) × (left ≡ Law.filled (x .again) t)
   rndf-read-again text t n a house g size reply left h =
       let x = rndf-returns text t n a house g size in
@@ -149,7 +149,7 @@ module _ (edition : Edition) where
 
   -- and the goals and limits are the same words
   pub pair-read-again : (rndf mdf : Bytes) (t : Lent) (u : MissionLent) (n : Network Field) (m : Mission Field) → AcceptsRndf (rules-of edition) rndf t n → AcceptsMdf (rules-of edition) n mdf u m
-      → (rndf-house mdf-house : Bytes) → HouseRndf n rndf-house → HouseMdf m mdf-house → length rndf-house ≤ most → length mdf-house ≤ most
+      → (rndf-house mdf-house : Bytes) → HouseRndf n rndf-house → HouseMdf m mdf-house → length rndf-house ≤ longest → length mdf-house ≤ longest
       → (reply : PairReply) (left : Lent) (mission-left : MissionLent) → ReadsPair (rules-of edition) rndf-house mdf-house t u reply left mission-left
       → (x : PairReturns (rules-of edition) n m rndf-house mdf-house t u) × (reply ≡ Pair.Accepted (rows-used n) (network-file (x .network .again)) (mission-rows-used m) (mission-file (x .mission .again)))
       × (left ≡ Law.filled (x .network .again) t) × (mission-left ≡ Law.mission-filled m u)

@@ -20,7 +20,7 @@ use Rattle.replies.specs.declared.PairReply.{PairReply}
 use Rattle.replies.specs.declared.PairReply.the-variants as Pair
 use Rattle.replies.specs.Replies.{stretch, AcceptsRndf, rows-used, network-file, mission-file, ReadsRndf, ReadsPair}
 use Rattle.replies.proofs.Said.{never-both, pair-never-both, counts-of, pair-counts-of, mission-counts-of}
-use Rattle.output.specs.Output.{Fits, filled}
+use Rattle.output.specs.Output.{Fits, padded}
 use Rattle.house_text.specs.House.{undated, mission-undated, HouseRndf, HouseMdf}
 use Rattle.house_text.proofs.Undated.{undated-same, mission-undated-same, no-date, no-mission-date}
 use Rattle.house_text.proofs.Lawful.{house-rndf-only, house-mdf-only}
@@ -91,19 +91,19 @@ module _ (edition : Edition) where
 
     -- and what is written of it again, into any output that is long enough, are the same bytes
     pub rndf-written-again : (t′ left′ : Lent) (lent′ : ℕ) (reply : WriteReply) (out′ : Bytes) → RoomFor c t′ → k ≤ lent′ → WritesRndf (rules-of edition) (take k out) t′ lent′ reply left′ out′
-        → ((row : FileRow) × (reply ≡ Write.Written c row k)) × (out′ ≡ filled lent′ (take k out))
+        → ((row : FileRow) × (reply ≡ Write.Written c row k)) × (out′ ≡ padded lent′ (take k out))
     rndf-written-again t′ left′ lent′ reply out′ room long v = go v
       where
         same : (n′ : Network Field) (writing′ : Bytes) → SpellsText (rules-of edition) SpellsNetwork n′ (take k out) → HouseRndf n′ writing′ → writing′ ≡ What .writing
         same n′ writing′ s g = same-writing (What .net) n′ text (What .writing) writing′ (What .accepts .spelled) (What .house) (subst (SpellsText (rules-of edition) SpellsNetwork n′) (What .first) s) g
 
-        go : WritesRndf (rules-of edition) (take k out) t′ lent′ reply left′ out′ → ((row : FileRow) × (reply ≡ Write.Written c row k)) × (out′ ≡ filled lent′ (take k out))
+        go : WritesRndf (rules-of edition) (take k out) t′ lent′ reply left′ out′ → ((row : FileRow) × (reply ≡ Write.Written c row k)) × (out′ ≡ padded lent′ (take k out))
         go (W.refused why h e z) = absurd (never-both (sym (rndf-comes-back t′ left′ (Reply.Refused why) room h .replied)))
         go (W.too-long n′ writing′ c′ file′ l h s g f e p z) = absurd (f (subst (Fits lent′) (sym (same n′ writing′ s g)) (record { size = What .size; room = subst (λ (y : ℕ). y ≤ lent′) (What .long) long })))
         go (W.written n′ writing′ c′ file′ h s g f e z) =
             let q = same n′ writing′ s g in
             let b = rndf-comes-back t′ left′ (Reply.Accepted c′ file′) room h in
-            ((file′, e ∙ ap₂ (λ (x : Counts) (y : ℕ). Write.Written x file′ y) (ap (counts-of c) (b .replied)) (ap length q ∙ sym (What .long))), z ∙ ap (filled lent′) (q ∙ sym (What .first)))
+            ((file′, e ∙ ap₂ (λ (x : Counts) (y : ℕ). Write.Written x file′ y) (ap (counts-of c) (b .replied)) (ap length q ∙ sym (What .long))), z ∙ ap (padded lent′) (q ∙ sym (What .first)))
 
   -- ## The MDF of a pair
   module _ (rndf mdf : Bytes) (t left : Lent) (u mission-left : MissionLent) (lent : ℕ) (c : Counts) (file : FileRow) (d : MissionCounts) (row : MissionFileRow) (k : ℕ) (out : Bytes)
@@ -150,17 +150,17 @@ module _ (edition : Edition) where
 
     -- what is written of it again, into any output that is long enough, are the same bytes
     pub mdf-written-again : (t′ left′ : Lent) (u′ mission-left′ : MissionLent) (lent′ : ℕ) (reply : WriteMdfReply) (out′ : Bytes) → RoomFor c t′ → MissionRoomFor d u′ → k ≤ lent′ → WritesMdf (rules-of edition) rndf (take k out) t′ u′ lent′ reply left′ mission-left′ out′
-        → ((file′ : FileRow) × (row′ : MissionFileRow) × (reply ≡ WriteMdf.Written c file′ d row′ k)) × (out′ ≡ filled lent′ (take k out))
+        → ((file′ : FileRow) × (row′ : MissionFileRow) × (reply ≡ WriteMdf.Written c file′ d row′ k)) × (out′ ≡ padded lent′ (take k out))
     mdf-written-again t′ left′ u′ mission-left′ lent′ reply out′ room mission-room long v = go v
       where
         same : (m′ : Mission Field) (writing′ : Bytes) → SpellsText (rules-of edition) SpellsMission m′ (take k out) → HouseMdf m′ writing′ → writing′ ≡ Whole .writing
         same m′ writing′ s g = same-mdf-writing (Whole .mission) m′ mdf (Whole .writing) writing′ (Whole .takes .spelled) (Whole .house) (subst (SpellsText (rules-of edition) SpellsMission m′) (Whole .first) s) g
 
-        go : WritesMdf (rules-of edition) rndf (take k out) t′ u′ lent′ reply left′ mission-left′ out′ → ((file′ : FileRow) × (row′ : MissionFileRow) × (reply ≡ WriteMdf.Written c file′ d row′ k)) × (out′ ≡ filled lent′ (take k out))
+        go : WritesMdf (rules-of edition) rndf (take k out) t′ u′ lent′ reply left′ mission-left′ out′ → ((file′ : FileRow) × (row′ : MissionFileRow) × (reply ≡ WriteMdf.Written c file′ d row′ k)) × (out′ ≡ padded lent′ (take k out))
         go (W.refused why h e z) = absurd (pair-never-both (sym (mdf-comes-back t′ left′ u′ mission-left′ (Pair.Refused why) room mission-room h .replied)))
         go (W.too-long m′ writing′ c′ file′ d′ row′ l l′ h s g f e p q z) = absurd (f (subst (Fits lent′) (sym (same m′ writing′ s g)) (record { size = Whole .size; room = subst (λ (y : ℕ). y ≤ lent′) (Whole .long) long })))
         go (W.written m′ writing′ c′ file′ d′ row′ h s g f e z) =
             let q = same m′ writing′ s g in
             let b = mdf-comes-back t′ left′ u′ mission-left′ (Pair.Accepted c′ file′ d′ row′) room mission-room h in
             let y = ap length q ∙ sym (Whole .long) in
-            ((file′, row′, e ∙ (λ i. WriteMdf.Written (pair-counts-of c (b .replied i)) file′ (mission-counts-of d (b .replied i)) row′ (y i))), z ∙ ap (filled lent′) (q ∙ sym (Whole .first)))
+            ((file′, row′, e ∙ (λ i. WriteMdf.Written (pair-counts-of c (b .replied i)) file′ (mission-counts-of d (b .replied i)) row′ (y i))), z ∙ ap (padded lent′) (q ∙ sym (Whole .first)))

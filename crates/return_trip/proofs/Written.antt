@@ -17,7 +17,7 @@ use Rattle.counts.specs.declared.Counts.{Counts}
 use Rattle.counts.specs.declared.MissionCounts.{MissionCounts}
 use Rattle.replies.specs.declared.PairReply.{PairReply}
 use Rattle.replies.specs.declared.PairReply.the-variants as Pair
-use Rattle.replies.specs.Replies.{most, AcceptsRndf, AcceptsMdf, rows-used, network-file, ReadsPair}
+use Rattle.replies.specs.Replies.{longest, AcceptsRndf, AcceptsMdf, rows-used, network-file, ReadsPair}
 use Rattle.writings.specs.declared.WriteReply.{WriteReply}
 use Rattle.writings.specs.declared.WriteReply.the-variants as Write
 use Rattle.writings.specs.declared.WriteMdfReply.{WriteMdfReply}
@@ -31,8 +31,8 @@ use Rattle.promises.proofs.Promises.{accepted-spelled, tables-are}
 use Rattle.promises.proofs.PairPromises.{pair-accepted-spelled, pair-tables-are}
 
 -- the first bytes of an output that was filled
-first-are : (lent : ℕ) (x out : Bytes) (k : ℕ) → out ≡ Output.filled lent x → k ≡ length x → take k out ≡ x
-first-are lent x out k o e = ap (take k) o ∙ take-at x (Output.zeros (lent - length x)) k (sym e)
+first-are : (lent : ℕ) (x out : Bytes) (k : ℕ) → out ≡ Output.padded lent x → k ≡ length x → take k out ≡ x
+first-are lent x out k o e = ap (take k) o ∙ take-at x (Output.zero-bytes (lent - length x)) k (sym e)
 
 module _ (edition : Edition) where
   -- ## An RNDF
@@ -41,7 +41,7 @@ module _ (edition : Edition) where
     pub writing : Bytes
     pub accepts : AcceptsRndf (rules-of edition) text t net
     pub house : HouseRndf net writing
-    pub size : length writing ≤ most
+    pub size : length writing ≤ longest
     pub long : k ≡ length writing
     pub first : take k out ≡ writing
     pub counted : c ≡ rows-used net
@@ -87,7 +87,7 @@ module _ (edition : Edition) where
     pub accepts : AcceptsRndf (rules-of edition) rndf t net
     pub takes : AcceptsMdf (rules-of edition) net mdf u mission
     pub house : HouseMdf mission writing
-    pub size : length writing ≤ most
+    pub size : length writing ≤ longest
     pub long : k ≡ length writing
     pub first : take k out ≡ writing
     pub meant : Meant t u net mission c file d own left mission-left

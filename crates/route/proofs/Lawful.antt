@@ -20,7 +20,7 @@ use Rattle.replies.specs.declared.PairReply.the-variants as Pair
 use Rattle.replies.specs.Replies.{AcceptsRndf, AcceptsMdf, refusal, rows-used, network-file, mission-file, ReadsPair, accepted, rndf-refused, mdf-refused}
 use Rattle.moves.specs.Moves.{is-move}
 use Rattle.move_tables.proofs.Theorem.{moves-are}
-use Rattle.route_law.specs.Moves.{Move, points}
+use Rattle.route_law.specs.Moves.{Move, points-declared}
 use Rattle.pair_checks.specs.Checks.{AcceptedPair, unread, wrong, right, ChecksRoute}
 use Rattle.route.specs.declared.Verdict.{Verdict}
 use Rattle.route.specs.declared.Verdict.the-variants as Verdict
@@ -52,7 +52,7 @@ module _ (ed : Edition) (start : ℕ) (route : List ℕ) (rndf mdf : Bytes) (t :
     abbrev reply : PairReply
     reply = Pair.Accepted (rows-used n) (network-file n) (record { goals = length (m .goals); limits = length (m .limits) }) (mission-file m)
 
-    judged : (v : Verdict) → Says (points n) (Move n) start route (goals rndf t n now mdf u m mission-now) v → Lawful (filled n t) (mission-filled m u) (replied reply v)
+    judged : (v : Verdict) → Says (points-declared n) (Move n) start route (goals rndf t n now mdf u m mission-now) v → Lawful (filled n t) (mission-filled m u) (replied reply v)
     unfolding pair
     judged Verdict.Good s = right pair s (accepted n m a b refl refl refl)
     judged (Verdict.Wrong line number) s = wrong pair (s .0) number (s .2) (ap (λ (l : ℕ). Pair.Refused (refusal 0 l number 0)) (s .1)) refl refl
@@ -62,9 +62,9 @@ module _ (ed : Edition) (start : ℕ) (route : List ℕ) (rndf mdf : Bytes) (t :
     accepted-ruled =
         let move = is-move (filled n t .lanes) (filled n t .zones) (filled n t .exits) (rows-used n) in
         let point = goal-point (filled n t .checkpoints) (mission-filled m u .goals) in
-        judged (verdict move point (points n) (length (m .goals)) start route)
-        (subst (λ (k : ℕ). Says (points n) (Move n) start route (goals rndf t n now mdf u m mission-now) (verdict move point (points n) k start route)) (sym (goals-many rndf t n now mdf u m mission-now))
-        (verdict-says (points n) (Move n) start route (goals rndf t n now mdf u m mission-now) move (moves-are rndf t n now) point (points-are rndf t n now mdf u m mission-now) (goals-some rndf t n now mdf u m mission-now)))
+        judged (verdict move point (points-declared n) (length (m .goals)) start route)
+        (subst (λ (k : ℕ). Says (points-declared n) (Move n) start route (goals rndf t n now mdf u m mission-now) (verdict move point (points-declared n) k start route)) (sym (goals-many rndf t n now mdf u m mission-now))
+        (verdict-says (points-declared n) (Move n) start route (goals rndf t n now mdf u m mission-now) move (moves-are rndf t n now) point (points-are rndf t n now mdf u m mission-now) (goals-some rndf t n now mdf u m mission-now)))
 
   -- THE LAW
   pub lawful : (read : PairReply) (left : Lent) (mission-left : MissionLent) → ReadsPair (rules-of ed) rndf mdf t u read left mission-left → Lawful left mission-left (ruled-of left mission-left read)

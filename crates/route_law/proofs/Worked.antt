@@ -9,7 +9,7 @@ use lib.IntN.{pos}
 use Rattle.terms.specs.Ascii.{ascii}
 use Rattle.line.specs.Line.{Field}
 use Rattle.law.specs.Network.{PointId, Position, Exit, Lane, Zone, Network, Mission}
-use Rattle.route_law.specs.Moves.{Span, Inside, Move, next, exit, across, points, GoalPoints}
+use Rattle.route_law.specs.Moves.{Span, Inside, Move, next, exit, across, points-declared, GoalPoints}
 use Rattle.route_law.specs.Routes.{Earliest, Taken, one, BeginsAtStart, GoodRoute, RouteFault, no-beginning, no-move, not-met, wrong-end}
 use Rattle.route_law.specs.Routes as Routes
 use Rattle.route_law.proofs.Places.{stepwise-moves, not-from-end, not-from-here, not-from-behind, earliest-here, earliest-later, earliest-behind}
@@ -36,7 +36,7 @@ yard-a = network-of (two-points (record { waypoint = 2; entry = to-point 1 1 1 }
 abbrev mission-of : List ℕ → Mission Field
 mission-of goals = record { name = record { start = 9; bytes = ascii "round_1" }; rndf = record { start = 22; bytes = ascii "yard_a" }; version = none; date = none; goals = goals; limits = record { id = 1; minimum = 0; maximum = 15 } ∷ [] }
 
-pub its-points : points yard-a ≡ 2
+pub its-points : points-declared yard-a ≡ 2
 its-points = refl
 
 pub its-goal : GoalPoints yard-a (mission-of (7 ∷ [])) (1 ∷ [])

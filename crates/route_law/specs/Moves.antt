@@ -31,8 +31,8 @@ pub data Move (n : Network Field) (a b : ℕ) : Type 0 where
   across : (zone : Span) → Among zone (zone-spans n) → Inside zone a → Inside zone b → (a ≡ b → ⊥) → Move n a b
 
 -- the points that are "declared": rows 0 to one below this
-abbrev pub points : Network Field → ℕ
-points n = length (point-rows n)
+abbrev pub points-declared : Network Field → ℕ
+points-declared n = length (point-rows n)
 
 -- these are the points of the mission's goals, in order. 01: "Checkpoint: number, point."
 abbrev pub GoalPoints : Network Field → Mission Field → List ℕ → Type 0

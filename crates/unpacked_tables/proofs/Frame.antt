@@ -14,7 +14,7 @@ use Rattle.terms.proofs.Tests.{clash}
 use Rattle.grammar.proofs.Rows.{each-front, each-behind}
 use Rattle.output.specs.Packed.{bigEndian}
 use Rattle.output.proofs.Packed.{packed-long}
-use Rattle.replies.specs.Replies.{most}
+use Rattle.replies.specs.Replies.{longest}
 use Rattle.packed_law.specs.Packed.{OfThisVersion, LengthsRight}
 use Rattle.packed_rows.specs.Walk.{walked}
 use Rattle.packed_rows.specs.Points.{four-at}
@@ -68,7 +68,7 @@ framed-so b s e = made b s (tested b e)
           each = walk-right (length (drop 4 r)) (drop 4 r) (each-behind (λ b. b < 256) (take 4 r) (drop 4 r) whole) (t .each);
         }
 
-pub framed-all : (b : Bytes) → length b ≤ most → LengthsRight b → framed-here b ≡ true
+pub framed-all : (b : Bytes) → length b ≤ longest → LengthsRight b → framed-here b ≡ true
 unfolding framed-here
 framed-all b few f =
     let x = f .behind in

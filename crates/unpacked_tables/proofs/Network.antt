@@ -27,7 +27,7 @@ use Rattle.law_tables.specs.Used as Used
 use Rattle.law_tables.proofs.SameRows.{start-of, length-of}
 use Rattle.law_tables.proofs.SameTables.{counts-same, filled-same, room-to, room-back}
 use Rattle.output.specs.Packed.{bigEndian}
-use Rattle.replies.specs.Replies.{most, rows-used, network-file, stretch}
+use Rattle.replies.specs.Replies.{longest, rows-used, network-file, stretch}
 use Rattle.packed_law.specs.Packed.{Slot}
 use Rattle.row_network.specs.Consistent.{Consistent}
 use Rattle.row_network.specs.Made.{network-of}
@@ -73,7 +73,7 @@ sizes-so b =
 rows-fit : (n stride k : ℕ) → k ≤ n / stride → k * stride ≤ n
 rows-fit n stride k h = let a = mul-le-mul-right stride h in let b = div-mul-le-self n stride in omega arith
 
-tables-so : (bytes : Bytes) (t : Lent) → Small bytes → length bytes ≤ most → all-right (drop 5 bytes) ≡ true → HasRoom (counted (file-items (drop 5 bytes))) t
+tables-so : (bytes : Bytes) (t : Lent) → Small bytes → length bytes ≤ longest → all-right (drop 5 bytes) ≡ true → HasRoom (counted (file-items (drop 5 bytes))) t
     → tables-stored bytes (counts-told bytes) (places-told bytes) (zeros t) ≡ typed start-of length-of (rows-told (drop 5 bytes)) t
 unfolding all-right rows-told tabs-here tabs-read tab-places counts-told places-told tables-stored
 tables-so bytes t s few h room =
@@ -148,7 +148,7 @@ module _ (bytes : Bytes) (right : Right bytes) where
 
   module _ (small : Small bytes) where
     -- the tables
-    pub tables-filled : (t : Lent) → length bytes ≤ most → HasRoom (counted (file-items (drop 5 bytes))) t → tables-stored bytes (counts-told bytes) (places-told bytes) (zeros t) ≡ Law.filled told-network t
+    pub tables-filled : (t : Lent) → length bytes ≤ longest → HasRoom (counted (file-items (drop 5 bytes))) t → tables-stored bytes (counts-told bytes) (places-told bytes) (zeros t) ≡ Law.filled told-network t
     tables-filled t few room =
         tables-so bytes t small few (right .framed) room ∙ tables-shown start-of length-of (rows-told (drop 5 bytes)) t
         ∙ ap (λ (r : Tables Field ℕ). filled start-of length-of r t) (sym rows) ∙ filled-same told-network (sound (rows-told (drop 5 bytes)) (right .consistent)) t
@@ -158,7 +158,7 @@ module _ (bytes : Bytes) (right : Right bytes) where
     is-form is = form-made (rows-told (drop 5 bytes)) bytes (right-form bytes small is (right .framed) (right .consistent) (right .names))
 
 -- only these are a form
-pub form-is-right : (n : Network Field) (bytes : Bytes) → length bytes ≤ most → IsPackedFormOf n bytes → Right bytes
+pub form-is-right : (n : Network Field) (bytes : Bytes) → length bytes ≤ longest → IsPackedFormOf n bytes → Right bytes
 form-is-right n bytes few x =
     let a = form-right n bytes few x in
     let c = form-only n bytes few x in

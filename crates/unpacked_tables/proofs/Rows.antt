@@ -9,7 +9,7 @@ use lib.Seq.{drop-drop}
 use Rattle.terms.specs.Ascii.{Bytes}
 use Rattle.units.specs.Made.{feet, checkpointNumber}
 use Rattle.room.specs.Room.{fitted}
-use Rattle.replies.specs.Replies.{most}
+use Rattle.replies.specs.Replies.{longest}
 use Rattle.table_words.specs.Shown.{shown-segment, shown-lane, shown-zone, shown-spot, shown-point, shown-checkpoint, shown-stop, shown-exit}
 use Rattle.law_tables.proofs.SameRows.{start-of, length-of}
 use Rattle.packed_rows.specs.Points.{four-at}
@@ -148,7 +148,7 @@ module _ (b : Bytes) (small : Small b) where
       let size : lower (four-at b (place + 12)) ≡ value (take 2 (drop 2 (drop 4 (drop 2 (drop 4 (drop 2 l)))))) = ap lower (e .is) ∙ e .parts .back in
       next-so zone-kinds place (16 + lower (four-at b (place + 12))) h (omega arith)
 
-  module _ (few : length b ≤ most) where
+  module _ (few : length b ≤ longest) where
     pub segment-so : (place : ℕ) → here segment-kinds (drop place b) ≡ true → shown-segment start-of length-of (segment-back (read (place + 2) segment-kinds (drop 2 (drop place b)))) ≡ segment-told b place
     unfolding read sizes segment-told
     segment-so place h =

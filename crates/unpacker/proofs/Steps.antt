@@ -20,7 +20,7 @@ use Rattle.room.specs.Room.{partsFit, marksFit}
 use Rattle.table_words.specs.Words.{HasRoom}
 use Rattle.packed_law.specs.Packed.{OfThisVersion, LengthsRight}
 use Rattle.replies.specs.declared.RndfReply.the-variants as Reply
-use Rattle.replies.specs.Replies.{most, refusal}
+use Rattle.replies.specs.Replies.{longest, refusal}
 use Rattle.packed_tables.proofs.Records.{Small}
 use Rattle.unpackings.specs.Unpacks.{IsPackedFormOf, Unpacks, UnpackRefuses, too-long, other-version, cut-short, no-network, no-room, refused, unpacked}
 use Rattle.packed_check.specs.declared.Verdict.{Verdict}
@@ -44,26 +44,26 @@ module _ (b : Bytes) where
   abbrev by-tests : (long version framed : Bool) → Told
   by-tests long version framed = pick long (Tell.Refused (refusal 1 0 1 0)) (pick version (pick framed (told-of (judgement b)) (Tell.Refused (refusal 0 0 28 0))) (Tell.Refused (refusal 0 0 27 0)))
 
-  tests : (long version framed : Bool) → ltb most (length b) ≡ long → version-here b ≡ version → framed-here b ≡ framed → by-tests long version framed ≡ looked b
+  tests : (long version framed : Bool) → ltb longest (length b) ≡ long → version-here b ≡ version → framed-here b ≡ framed → by-tests long version framed ≡ looked b
   unfolding looked
   tests long version framed e v f = sym (λ i. by-tests (e i) (v i) (f i))
 
-  pub look-long : most < length b → Tell.Refused (refusal 1 0 1 0) ≡ looked b
-  look-long h = tests true (version-here b) (framed-here b) (lt-ltb most (length b) h) refl refl
+  pub look-long : longest < length b → Tell.Refused (refusal 1 0 1 0) ≡ looked b
+  look-long h = tests true (version-here b) (framed-here b) (lt-ltb longest (length b) h) refl refl
 
-  pub look-version : length b ≤ most → version-here b ≡ false → Tell.Refused (refusal 0 0 27 0) ≡ looked b
-  look-version h v = tests false false (framed-here b) (le-ltb most (length b) h) v refl
+  pub look-version : length b ≤ longest → version-here b ≡ false → Tell.Refused (refusal 0 0 27 0) ≡ looked b
+  look-version h v = tests false false (framed-here b) (le-ltb longest (length b) h) v refl
 
-  pub look-framed : length b ≤ most → version-here b ≡ true → framed-here b ≡ false → Tell.Refused (refusal 0 0 28 0) ≡ looked b
-  look-framed h v f = tests false true false (le-ltb most (length b) h) v f
+  pub look-framed : length b ≤ longest → version-here b ≡ true → framed-here b ≡ false → Tell.Refused (refusal 0 0 28 0) ≡ looked b
+  look-framed h v f = tests false true false (le-ltb longest (length b) h) v f
 
-  pub look-judged : length b ≤ most → version-here b ≡ true → framed-here b ≡ true → told-of (judgement b) ≡ looked b
-  look-judged h v f = tests false true true (le-ltb most (length b) h) v f
+  pub look-judged : length b ≤ longest → version-here b ≡ true → framed-here b ≡ true → told-of (judgement b) ≡ looked b
+  look-judged h v f = tests false true true (le-ltb longest (length b) h) v f
 
 -- ## The bytes alone
 -- a form that is taken
 record Taken (bytes : Bytes) (c : Counts) (file : FileRow) (places : Places) : Type 0 where
-  few : length bytes ≤ most
+  few : length bytes ≤ longest
   version : OfThisVersion bytes
   framed : LengthsRight bytes
   told : FormTold bytes c file places
@@ -75,25 +75,25 @@ Looks bytes (Tell.Form c file places) = Taken bytes c file places
 refusing : (bytes : Bytes) (file number : ℕ) → ((t : Lent) → UnpackRefuses bytes t file number) → Looks bytes (Tell.Refused (refusal file 0 number 0))
 refusing bytes file number x t left e = refused file number (x t) refl e
 
-judging : (bytes : Bytes) → length bytes ≤ most → OfThisVersion bytes → LengthsRight bytes → (j : Verdict) → Judges bytes j → Looks bytes (told-of j)
+judging : (bytes : Bytes) → length bytes ≤ longest → OfThisVersion bytes → LengthsRight bytes → (j : Verdict) → Judges bytes j → Looks bytes (told-of j)
 judging bytes few v f Ver.No wrong = refusing bytes 0 29 (λ t. no-network few v f (λ n x. wrong (form-is-right n bytes few x)))
 judging bytes few v f (Ver.Form c file places) told = record { few = few; version = v; framed = f; told = told }
 
 looks : (bytes : Bytes) → Small bytes → Looks bytes (looked bytes)
 unfolding looked
-looks bytes s = go (ltb most (length bytes)) refl (version-here bytes) refl (framed-here bytes) refl
+looks bytes s = go (ltb longest (length bytes)) refl (version-here bytes) refl (framed-here bytes) refl
   where
-    go : (long : Bool) → ltb most (length bytes) ≡ long → (version : Bool) → version-here bytes ≡ version → (framed : Bool) → framed-here bytes ≡ framed → Looks bytes (by-tests bytes long version framed)
-    go true e v p f q = refusing bytes 1 1 (λ t. too-long (ltb-true most (length bytes) e))
-    go false e false p f q = refusing bytes 0 27 (λ t. other-version (ltb-false most (length bytes) e) (no-version bytes p))
+    go : (long : Bool) → ltb longest (length bytes) ≡ long → (version : Bool) → version-here bytes ≡ version → (framed : Bool) → framed-here bytes ≡ framed → Looks bytes (by-tests bytes long version framed)
+    go true e v p f q = refusing bytes 1 1 (λ t. too-long (ltb-true longest (length bytes) e))
+    go false e false p f q = refusing bytes 0 27 (λ t. other-version (ltb-false longest (length bytes) e) (no-version bytes p))
     go false e true p false q = refusing bytes 0 28 (λ t. cut-short few (version-so bytes p) (λ x. clash (sym (framed-all bytes few x) ∙ q)))
       where
-        few : length bytes ≤ most
-        few = ltb-false most (length bytes) e
+        few : length bytes ≤ longest
+        few = ltb-false longest (length bytes) e
     go false e true p true q = judging bytes few v g (judgement bytes) (judges bytes s few)
       where
-        few : length bytes ≤ most
-        few = ltb-false most (length bytes) e
+        few : length bytes ≤ longest
+        few = ltb-false longest (length bytes) e
 
         v : OfThisVersion bytes
         v = version-so bytes p

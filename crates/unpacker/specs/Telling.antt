@@ -2,7 +2,7 @@
 use Rattle.terms.specs.Words.{ℕ, ltb, length, Bytes, pick}
 use Rattle.counts.specs.declared.Counts.{Counts}
 use Rattle.room.specs.Room.{partsFit, marksFit}
-use Rattle.replies.specs.Replies.{most, refusal}
+use Rattle.replies.specs.Replies.{longest, refusal}
 use Rattle.packed_check.specs.declared.Verdict.{Verdict}
 use Rattle.packed_check.specs.declared.Verdict.the-variants as Ver
 use Rattle.packed_check.specs.Judgement.{judgement}
@@ -18,7 +18,7 @@ told-of (Ver.Form c file places) = Tell.Form c file places
 
 -- "1 over 16,777,215 bytes; 27 version not 1 or no bytes; 28 the first length is cut short or not the count of bytes behind it, or a record runs past the end"
 unfoldable pub looked : Bytes → Told
-looked b = pick (ltb most (length b)) (Tell.Refused (refusal 1 0 1 0)) (pick (version-here b) (pick (framed-here b) (told-of (judgement b)) (Tell.Refused (refusal 0 0 28 0))) (Tell.Refused (refusal 0 0 27 0)))
+looked b = pick (ltb longest (length b)) (Tell.Refused (refusal 1 0 1 0)) (pick (version-here b) (pick (framed-here b) (told-of (judgement b)) (Tell.Refused (refusal 0 0 28 0))) (Tell.Refused (refusal 0 0 27 0)))
 
 -- ## Room: "then 11"
 -- where tables of so many numbers are lent

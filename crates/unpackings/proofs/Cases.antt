@@ -17,7 +17,7 @@ use Rattle.house_text.proofs.References.{sound-alike}
 use Rattle.output.specs.Packed.{bigEndian}
 use Rattle.output.proofs.Packed.{packed-long}
 use Rattle.replies.specs.declared.RndfReply.the-variants as Reply
-use Rattle.replies.specs.Replies.{most, rows-used, network-file, refusal}
+use Rattle.replies.specs.Replies.{longest, rows-used, network-file, refusal}
 use Rattle.same.specs.Same.{SameNetwork}
 use Rattle.promises.specs.Yards.{yard, network, used, counts}
 use Rattle.promises.proofs.Keeping.{rndf-later}

@@ -16,7 +16,7 @@ use Rattle.grammar.proofs.Rows.{along-each, each-of-map}
 use Rattle.text.specs.Spelling.{bytes-of}
 use Rattle.output.specs.Packed.{bigEndian}
 use Rattle.output.proofs.Packed.{packed-long}
-use Rattle.replies.specs.Replies.{most}
+use Rattle.replies.specs.Replies.{longest}
 use Rattle.packed_law.specs.Packed.{Slot, figure, angle, title, slot-bytes, laid, with-length, all-slots, this-version, packed-form, AreRecords, nothing, more, LengthsRight}
 use Rattle.packed_law.proofs.Told.{file-record, segment-records, lane-records, zone-records-from, zone-records, spot-records, point-records, checkpoint-record, checkpoint-records, stop-records, exit-record, exit-records, records, all-told}
 use Rattle.unpackings.specs.Unpacks.{IsPackedFormOf}
@@ -113,6 +113,6 @@ module _ (n : Network Field) (few : FewNames n) where
       )
 
 -- THE LAW
-pub form-framed : (bytes : Bytes) (n : Network Field) → length bytes ≤ most → IsPackedFormOf n bytes → LengthsRight bytes
+pub form-framed : (bytes : Bytes) (n : Network Field) → length bytes ≤ longest → IsPackedFormOf n bytes → LengthsRight bytes
 unfolding packed-form
 form-framed bytes n h x = record { version = this-version; behind = laid (all-slots n); is = x .form; each = subst AreRecords (sym (laid-all n)) (are-records (records n) (short n (network-few n (x .network)))) }

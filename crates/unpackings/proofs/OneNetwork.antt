@@ -23,7 +23,7 @@ use Rattle.grammar.proofs.Determined.{tables-determine}
 use Rattle.table_words.proofs.Bounds.{WidthBound, LaneBounds, ZoneBounds, SpotBounds, CheckpointBounds, bounded, entries-inside}
 use Rattle.output.specs.Packed.{bigEndian}
 use Rattle.output.proofs.Packed.{packed-long}
-use Rattle.replies.specs.Replies.{most}
+use Rattle.replies.specs.Replies.{longest}
 use Rattle.packed_law.specs.Packed.{Slot, figure, angle, title, slot-bytes, laid, with-length, all-slots, this-version, packed-form, NamesLie}
 use Rattle.packed_law.proofs.Told.{records, all-told}
 use Rattle.unpackings.specs.Unpacks.{IsPackedFormOf}
@@ -230,7 +230,7 @@ pub record Told (bytes : Bytes) (n : Network Field) : Type 0 where
   pub rest-fits : Each Fit (rest-of (tables n))
   pub is : bytes ≡ this-version ∷ bigEndian 4 (length (laid (items-of (tables n)))) ++ laid (items-of (tables n))
 
-pub told : (bytes : Bytes) (n : Network Field) → length bytes ≤ most → IsPackedFormOf n bytes → Told bytes n
+pub told : (bytes : Bytes) (n : Network Field) → length bytes ≤ longest → IsPackedFormOf n bytes → Told bytes n
 unfolding packed-form
 told bytes n h x =
     let good = network-good n (x .network) in

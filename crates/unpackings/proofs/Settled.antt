@@ -8,7 +8,7 @@ use Rattle.law.specs.Tables.{Lent, HasRoom, filled}
 use Rattle.packed_law.specs.Packed.{packed-form, OfThisVersion}
 use Rattle.replies.specs.declared.RndfReply.{RndfReply}
 use Rattle.replies.specs.declared.RndfReply.the-variants as Reply
-use Rattle.replies.specs.Replies.{most, refusal, rows-used, network-file}
+use Rattle.replies.specs.Replies.{longest, refusal, rows-used, network-file}
 use Rattle.unpackings.specs.Unpacks.{IsPackedFormOf, UnpackRefuses, Unpacks, too-long, other-version, cut-short, no-network, no-room, refused, unpacked}
 use Rattle.unpackings.proofs.Framing.{form-framed}
 use Rattle.unpackings.proofs.OneNetwork.{one-network}
@@ -45,7 +45,7 @@ module _ (bytes : Bytes) (t : Lent) where
   one-refusal f f′ k k′ (no-room n b x h) (no-network a c d g) = absurd (g n x)
   one-refusal f f′ k k′ (no-room n b x h) (no-room m a y g) = (refl, refl)
 
-  never-both : (f k : ℕ) (n : Network Field) → UnpackRefuses bytes t f k → length bytes ≤ most → IsPackedFormOf n bytes → HasRoom n t → ⊥
+  never-both : (f k : ℕ) (n : Network Field) → UnpackRefuses bytes t f k → length bytes ≤ longest → IsPackedFormOf n bytes → HasRoom n t → ⊥
   never-both f k n (too-long a) b x r = omega (arith, a, b)
   never-both f k n (other-version a h) b x r = h (of-version bytes n x)
   never-both f k n (cut-short a c h) b x r = h (form-framed bytes n b x)

@@ -34,7 +34,7 @@ use Rattle.refusal.specs.declared.Refusal.{Refusal}
 use Rattle.replies.specs.declared.RndfReply.{RndfReply}
 use Rattle.replies.specs.declared.RndfReply.the-variants as Reply
 use Rattle.rows.specs.Name.{nameOf}
-use Rattle.replies.specs.Replies.{most, stretch, rows-used, network-file, AcceptsRndf, ReadsRndf}
+use Rattle.replies.specs.Replies.{longest, stretch, rows-used, network-file, AcceptsRndf, ReadsRndf}
 use Rattle.promises.specs.Accepted.{NamesAsked}
 use Rattle.promises.specs.Accepted as A
 use Rattle.promises.proofs.Keeping.{rndf-later}
@@ -182,6 +182,6 @@ there-and-back edition text t lent c file k left out (W.written m x c′ file′
     let meant = tables-are edition text t c′ file′ left h n s in
     let is : IsNetwork n = record { text = text; written = n; spelled = rndf-later edition n text s; same = refl; sound = accepts .right } in
     let form : x ≡ packed-form n = g ∙ ap packed-form (one-spelled edition text m n q s) in
-    let first : take k out ≡ x = ap (take k) z ∙ take-at x (Output.zeros (lent - length x)) k (sym (ap long-in e)) in
-    let size : length (packed-form n) ≤ most = subst (λ (b : Bytes). length b ≤ most) form (f .size) in
+    let first : take k out ≡ x = ap (take k) z ∙ take-at x (Output.zero-bytes (lent - length x)) k (sym (ap long-in e)) in
+    let size : length (packed-form n) ≤ longest = subst (λ (b : Bytes). length b ≤ longest) form (f .size) in
     back-as n (packed-form n) (take k out) t′ (rows-used n) c reply left′ (sym (first ∙ form)) (sym (meant .0) ∙ sym (ap (counts-in c) e)) (gives-back n is size t′ room reply left′) u

@@ -10,7 +10,7 @@ use Rattle.rows.specs.declared.FileRow.{FileRow}
 use Rattle.counts.specs.declared.Counts.{Counts}
 use Rattle.replies.specs.declared.RndfReply.{RndfReply}
 use Rattle.replies.specs.declared.RndfReply.the-variants as Reply
-use Rattle.replies.specs.Replies.{most, rows-used, network-file}
+use Rattle.replies.specs.Replies.{longest, rows-used, network-file}
 use Rattle.promises.specs.Accepted.{NamesAsked}
 use Rattle.writings.specs.declared.WriteReply.the-variants as Write
 use Rattle.writings.specs.Writes.{WritesPacked}
@@ -22,7 +22,7 @@ OneForm = (n n′ : Network Field) → SameNetwork (undated n) (undated n′) �
 
 -- and one form is one network's, with one place for each name
 abbrev pub OneNetwork : Type 0
-OneNetwork = (bytes : Bytes) (n n′ : Network Field) → length bytes ≤ most → IsPackedFormOf n bytes → IsPackedFormOf n′ bytes → n ≡ n′
+OneNetwork = (bytes : Bytes) (n n′ : Network Field) → length bytes ≤ longest → IsPackedFormOf n bytes → IsPackedFormOf n′ bytes → n ≡ n′
 
 -- L12: "Unpacking gives the network back but for the date": this network without it, in tables that were lent as t, with so many rows; its names lie in the packed bytes, and asking there for each gives its bytes
 pub record Back (n : Network Field) (form : Bytes) (t : Lent) (c : Counts) (reply : RndfReply) (left : Lent) : Type 0 where
@@ -35,7 +35,7 @@ pub record Back (n : Network Field) (form : Bytes) (t : Lent) (c : Counts) (repl
 
 -- of every network, whatever the size of its texts, into any tables with room
 abbrev pub GivesBack : Type 0
-GivesBack = (n : Network Field) → IsNetwork n → length (packed-form n) ≤ most → (t : Lent) → HasRoom n t → (reply : RndfReply) (left : Lent) → Unpacks (packed-form n) t reply left → Back n (packed-form n) t (rows-used n) reply left
+GivesBack = (n : Network Field) → IsNetwork n → length (packed-form n) ≤ longest → (t : Lent) → HasRoom n t → (reply : RndfReply) (left : Lent) → Unpacks (packed-form n) t reply left → Back n (packed-form n) t (rows-used n) reply left
 
 -- THERE AND BACK, from the contracts alone: what was packed of a text is unpacked as the network that the text spells, but for its date. t′: the receiver's tables, any with room. rules: those of the edition that the text was packed by (L10); unpacking has none
 abbrev pub ThereAndBack : Rules → Type 0

@@ -48,7 +48,7 @@ module _ (ed : Edition) (text : Bytes) (t left : Lent) (read : RndfReply) (lent 
   written-so c file k (A.put c′ file′ e fits a o) =
       let x = accepted-spells text t left (inner ed) c′ file′ (subst (λ (y : RndfReply). ReadsRndf (rules-of ed) text t y left) e h) in
       let w = arranged-rndf (x .0) text (later (inner ed) (x .0) text (x .1)) in
-      rndf-writes-to (inner ed) text t lent (Write.Written c file k) left out (W.written (x .0) c′ file′ (subst (λ (y : RndfReply). ReadsRndf (rules-of ed) text t y left) e h) (x .1) (subst (Fits lent) w fits) (a ∙ ap (λ (y : Bytes). Write.Written c′ file′ (length y)) w) (o ∙ ap (O.filled lent) w))
+      rndf-writes-to (inner ed) text t lent (Write.Written c file k) left out (W.written (x .0) c′ file′ (subst (λ (y : RndfReply). ReadsRndf (rules-of ed) text t y left) e h) (x .1) (subst (Fits lent) w fits) (a ∙ ap (λ (y : Bytes). Write.Written c′ file′ (length y)) w) (o ∙ ap (O.padded lent) w))
 
   -- refused: the tables that the reader left are cleared
   pub refused-so : (why : Refusal) (cleared : Lent) → Answers read lent (arrangedText text) out (Write.Refused why) → cleared ≡ zeros left → zeros left ≡ zeros t → so (Write.Refused why) cleared
@@ -74,7 +74,7 @@ module _ (ed : Edition) (rndf mdf : Bytes) (t left : Lent) (u mission-left : Mis
       let y = pair-told (Pair.Accepted c′ file′ d′ row′) e in
       let x = pair-spells rndf mdf t left u mission-left (inner ed) c′ file′ d′ row′ y in
       let w = arranged-mdf (x .0) mdf (x .1) in
-      mdf-writes-to (inner ed) rndf mdf t u lent (WriteMdf.Written c file d row k) left mission-left out (W.written (x .0) c′ file′ d′ row′ y (x .1) (subst (Fits lent) w fits) (a ∙ ap (λ (y : Bytes). WriteMdf.Written c′ file′ d′ row′ (length y)) w) (o ∙ ap (O.filled lent) w))
+      mdf-writes-to (inner ed) rndf mdf t u lent (WriteMdf.Written c file d row k) left mission-left out (W.written (x .0) c′ file′ d′ row′ y (x .1) (subst (Fits lent) w fits) (a ∙ ap (λ (y : Bytes). WriteMdf.Written c′ file′ d′ row′ (length y)) w) (o ∙ ap (O.padded lent) w))
 
   pub mdf-refused-so : (why : Refusal) (cleared : Lent) (mission-cleared : MissionLent) → AnswersMdf read lent (arrangedText mdf) out (WriteMdf.Refused why) → cleared ≡ zeros left → zeros left ≡ zeros t
       → mission-cleared ≡ mission-zeros mission-left → mission-zeros mission-left ≡ mission-zeros u → WritesMdf (rules-of ed) rndf mdf t u lent (WriteMdf.Refused why) cleared mission-cleared out

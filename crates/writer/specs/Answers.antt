@@ -13,18 +13,18 @@ use Rattle.replies.specs.declared.RndfReply.the-variants as Reply
 use Rattle.replies.specs.declared.PairReply.{PairReply}
 use Rattle.replies.specs.declared.PairReply.the-variants as Pair
 use Rattle.replies.specs.Replies.{refusal}
-use Rattle.output.specs.Output.{zeros, Fits, filled}
+use Rattle.output.specs.Output.{zero-bytes, Fits, padded}
 use Rattle.writings.specs.declared.WriteReply.{WriteReply}
 use Rattle.writings.specs.declared.WriteReply.the-variants as Write
 use Rattle.writings.specs.declared.WriteMdfReply.{WriteMdfReply}
 use Rattle.writings.specs.declared.WriteMdfReply.the-variants as WriteMdf
 
 pub data Answers (read : RndfReply) (lent : ℕ) (x out : Bytes) (answer : WriteReply) : Type 0 where
-  as-read : (why : Refusal) → read ≡ Reply.Refused why → answer ≡ Write.Refused why → out ≡ zeros lent → Answers read lent x out answer
-  over : (c : Counts) (file : FileRow) → read ≡ Reply.Accepted c file → (Fits lent x → ⊥) → answer ≡ Write.Refused (refusal 1 0 19 0) → out ≡ zeros lent → Answers read lent x out answer
-  put : (c : Counts) (file : FileRow) → read ≡ Reply.Accepted c file → Fits lent x → answer ≡ Write.Written c file (length x) → out ≡ filled lent x → Answers read lent x out answer
+  as-read : (why : Refusal) → read ≡ Reply.Refused why → answer ≡ Write.Refused why → out ≡ zero-bytes lent → Answers read lent x out answer
+  over : (c : Counts) (file : FileRow) → read ≡ Reply.Accepted c file → (Fits lent x → ⊥) → answer ≡ Write.Refused (refusal 1 0 19 0) → out ≡ zero-bytes lent → Answers read lent x out answer
+  put : (c : Counts) (file : FileRow) → read ≡ Reply.Accepted c file → Fits lent x → answer ≡ Write.Written c file (length x) → out ≡ padded lent x → Answers read lent x out answer
 
 pub data AnswersMdf (read : PairReply) (lent : ℕ) (x out : Bytes) (answer : WriteMdfReply) : Type 0 where
-  as-read : (why : Refusal) → read ≡ Pair.Refused why → answer ≡ WriteMdf.Refused why → out ≡ zeros lent → AnswersMdf read lent x out answer
-  over : (c : Counts) (file : FileRow) (d : MissionCounts) (row : MissionFileRow) → read ≡ Pair.Accepted c file d row → (Fits lent x → ⊥) → answer ≡ WriteMdf.Refused (refusal 2 0 19 0) → out ≡ zeros lent → AnswersMdf read lent x out answer
-  put : (c : Counts) (file : FileRow) (d : MissionCounts) (row : MissionFileRow) → read ≡ Pair.Accepted c file d row → Fits lent x → answer ≡ WriteMdf.Written c file d row (length x) → out ≡ filled lent x → AnswersMdf read lent x out answer
+  as-read : (why : Refusal) → read ≡ Pair.Refused why → answer ≡ WriteMdf.Refused why → out ≡ zero-bytes lent → AnswersMdf read lent x out answer
+  over : (c : Counts) (file : FileRow) (d : MissionCounts) (row : MissionFileRow) → read ≡ Pair.Accepted c file d row → (Fits lent x → ⊥) → answer ≡ WriteMdf.Refused (refusal 2 0 19 0) → out ≡ zero-bytes lent → AnswersMdf read lent x out answer
+  put : (c : Counts) (file : FileRow) (d : MissionCounts) (row : MissionFileRow) → read ≡ Pair.Accepted c file d row → Fits lent x → answer ≡ WriteMdf.Written c file d row (length x) → out ≡ padded lent x → AnswersMdf read lent x out answer

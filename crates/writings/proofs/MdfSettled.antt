@@ -8,7 +8,7 @@ use Rattle.grammar.specs.Editions.{Edition, law-of}
 use Rattle.law.specs.Network.{reading}
 use Rattle.law.specs.Tables.{Lent, MissionLent, mission-zeros}
 use Rattle.law.specs.Tables as Tables
-use Rattle.output.specs.Output.{zeros, Fits, filled}
+use Rattle.output.specs.Output.{zero-bytes, Fits, padded}
 use Rattle.rows.specs.declared.FileRow.{FileRow}
 use Rattle.rows.specs.declared.MissionFileRow.{MissionFileRow}
 use Rattle.counts.specs.declared.Counts.{Counts}
@@ -49,7 +49,7 @@ module _ (ed : Edition) (rndf mdf : Bytes) (t : Lent) (u : MissionLent) (lent : 
   mdf-write-settled r r′ l l′ k k′ o o′ (W.written m w c file d row h s x f e z) (W.written m′ w′ c′ file′ d′ row′ h′ s′ x′ f′ e′ z′) =
       let q = pair-settled ed rndf mdf t u (Pair.Accepted c file d row) (Pair.Accepted c′ file′ d′ row′) l l′ k k′ h h′ in
       let one : w ≡ w′ = mdf-writing-one ed mdf (record { mission = m; writing = w; spelled = s; house = x }) (record { mission = m′; writing = w′; spelled = s′; house = x′ }) in
-      (e ∙ ap₂ (λ (y : Bytes) (a : PairReply). reply-of (length y) a) one (q .0) ∙ sym e′, q .1, q .2, z ∙ ap (filled lent) one ∙ sym z′)
+      (e ∙ ap₂ (λ (y : Bytes) (a : PairReply). reply-of (length y) a) one (q .0) ∙ sym e′, q .1, q .2, z ∙ ap (padded lent) one ∙ sym z′)
 
   -- one there is
   pub record MdfSome : Type 0 where
@@ -60,12 +60,12 @@ module _ (ed : Edition) (rndf mdf : Bytes) (t : Lent) (u : MissionLent) (lent : 
     pub writes : WritesMdf (reading (law-of ed)) rndf mdf t u lent reply left mission-left out
 
   by-room : (x : MdfWriting ed mdf) (c : Counts) (file : FileRow) (d : MissionCounts) (row : MissionFileRow) (left : Lent) (mission-left : MissionLent) → ReadsPair (reading (law-of ed)) rndf mdf t u (Pair.Accepted c file d row) left mission-left → Fits lent (x .writing) ⊎ (Fits lent (x .writing) → ⊥) → MdfSome
-  by-room x c file d row left mission-left h (inl f) = record { reply = Write.Written c file d row (length (x .writing)); left = left; mission-left = mission-left; out = filled lent (x .writing); writes = W.written (x .mission) (x .writing) c file d row h (x .spelled) (x .house) f refl refl }
-  by-room x c file d row left mission-left h (inr f) = record { reply = Write.Refused (refusal 2 0 19 0); left = Tables.zeros t; mission-left = mission-zeros u; out = zeros lent; writes = W.too-long (x .mission) (x .writing) c file d row left mission-left h (x .spelled) (x .house) f refl refl refl refl }
+  by-room x c file d row left mission-left h (inl f) = record { reply = Write.Written c file d row (length (x .writing)); left = left; mission-left = mission-left; out = padded lent (x .writing); writes = W.written (x .mission) (x .writing) c file d row h (x .spelled) (x .house) f refl refl }
+  by-room x c file d row left mission-left h (inr f) = record { reply = Write.Refused (refusal 2 0 19 0); left = Tables.zeros t; mission-left = mission-zeros u; out = zero-bytes lent; writes = W.too-long (x .mission) (x .writing) c file d row left mission-left h (x .spelled) (x .house) f refl refl refl refl }
 
   by-reply : (r : PairReply) (left : Lent) (mission-left : MissionLent) → ReadsPair (reading (law-of ed)) rndf mdf t u r left mission-left → MdfSome
   by-reply (Pair.Accepted c file d row) left mission-left h = let x = pair-written ed rndf mdf t left u mission-left c file d row h in by-room x c file d row left mission-left h (fits-or-not lent (x .writing))
-  by-reply (Pair.Refused why) left mission-left h = record { reply = Write.Refused why; left = left; mission-left = mission-left; out = zeros lent; writes = W.refused why h refl refl }
+  by-reply (Pair.Refused why) left mission-left h = record { reply = Write.Refused why; left = left; mission-left = mission-left; out = zero-bytes lent; writes = W.refused why h refl refl }
 
   pub mdf-write-some : MdfSome
   mdf-write-some = let x = pair-some ed rndf mdf t u in by-reply (x .reply) (x .left) (x .mission-left) (x .reads)

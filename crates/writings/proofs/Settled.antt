@@ -6,7 +6,7 @@ use lib.ListN.{length}
 use Rattle.terms.specs.Ascii.{Bytes}
 use Rattle.law.specs.Tables.{Lent}
 use Rattle.law.specs.Tables as Tables
-use Rattle.output.specs.Output.{zeros, Fits, filled}
+use Rattle.output.specs.Output.{zero-bytes, Fits, padded}
 use Rattle.rows.specs.declared.FileRow.{FileRow}
 use Rattle.counts.specs.declared.Counts.{Counts}
 use Rattle.replies.specs.declared.RndfReply.{RndfReply}
@@ -49,7 +49,7 @@ module _ (ed : Edition) (Writing : Network Field → Bytes → Type 0) (one : On
   write-settled r r′ l l′ o o′ (W.written n w c file h s x f e z) (W.written n′ w′ c′ file′ h′ s′ x′ f′ e′ z′) =
       let q = rndf-settled ed text t (Reply.Accepted c file) (Reply.Accepted c′ file′) l l′ h h′ in
       let same : w ≡ w′ = one .same text (record { net = n; writing = w; spelled = s; house = x }) (record { net = n′; writing = w′; spelled = s′; house = x′ }) in
-      (e ∙ ap₂ (λ (y : Bytes) (a : RndfReply). reply-of (length y) a) same (q .0) ∙ sym e′, q .1, z ∙ ap (filled lent) same ∙ sym z′)
+      (e ∙ ap₂ (λ (y : Bytes) (a : RndfReply). reply-of (length y) a) same (q .0) ∙ sym e′, q .1, z ∙ ap (padded lent) same ∙ sym z′)
 
   -- one there is
   pub record Some : Type 0 where
@@ -59,12 +59,12 @@ module _ (ed : Edition) (Writing : Network Field → Bytes → Type 0) (one : On
     pub writes : Writes (reading (law-of ed)) Writing text t lent reply left out
 
   by-room : (x : WritingOf ed Writing text) (c : Counts) (file : FileRow) (left : Lent) → ReadsRndf (reading (law-of ed)) text t (Reply.Accepted c file) left → Fits lent (x .writing) ⊎ (Fits lent (x .writing) → ⊥) → Some
-  by-room x c file left h (inl f) = record { reply = Write.Written c file (length (x .writing)); left = left; out = filled lent (x .writing); writes = W.written (x .net) (x .writing) c file h (x .spelled) (x .house) f refl refl }
-  by-room x c file left h (inr f) = record { reply = Write.Refused (refusal 1 0 19 0); left = Tables.zeros t; out = zeros lent; writes = W.too-long (x .net) (x .writing) c file left h (x .spelled) (x .house) f refl refl refl }
+  by-room x c file left h (inl f) = record { reply = Write.Written c file (length (x .writing)); left = left; out = padded lent (x .writing); writes = W.written (x .net) (x .writing) c file h (x .spelled) (x .house) f refl refl }
+  by-room x c file left h (inr f) = record { reply = Write.Refused (refusal 1 0 19 0); left = Tables.zeros t; out = zero-bytes lent; writes = W.too-long (x .net) (x .writing) c file left h (x .spelled) (x .house) f refl refl refl }
 
   by-reply : (r : RndfReply) (left : Lent) → ReadsRndf (reading (law-of ed)) text t r left → Some
   by-reply (Reply.Accepted c file) left h = let x = accepted-written ed one text t left c file h in by-room x c file left h (fits-or-not lent (x .writing))
-  by-reply (Reply.Refused why) left h = record { reply = Write.Refused why; left = left; out = zeros lent; writes = W.refused why h refl refl }
+  by-reply (Reply.Refused why) left h = record { reply = Write.Refused why; left = left; out = zero-bytes lent; writes = W.refused why h refl refl }
 
   pub write-some : Some
   write-some = let x = rndf-some ed text t in by-reply (x .0) (x .1) (x .2)

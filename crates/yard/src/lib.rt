@@ -40,7 +40,7 @@ use writings::WriteReply;
 ghost use mathlib.Core.Path.{_≡_};
 ghost use lib.ListN.{length};
 ghost use Rattle.law.specs.Tables.{lent, mission-lent};
-ghost use Rattle.edition.specs.Editions.{numbered};
+ghost use Rattle.edition.specs.Editions.{edition-numbered};
 ghost use Rattle.look_up.specs.LookUp.{PointOf};
 ghost use Rattle.house_text.specs.House.{HouseRndf};
 ghost use Rattle.writings.specs.Writes.{MapOf, PackedOf};
@@ -250,7 +250,7 @@ pub extern "C" fn kastepuhm_read_rndf(
     stops: &mut [u32],
     exits: &mut [u32],
 ) -> Answer
-    ensures { λ r. ⌜ AnswersRndf (numbered edition) (now (text .entry)) (lent (now (segments .entry)) (now (lanes .entry)) (now (zones .entry)) (now (spots .entry)) (now (points .entry)) (now (checkpoints .entry)) (now (stops .entry)) (now (exits .entry))) r (lent (now (segments .exit)) (now (lanes .exit)) (now (zones .exit)) (now (spots .exit)) (now (points .exit)) (now (checkpoints .exit)) (now (stops .exit)) (now (exits .exit))) ⌝ }
+    ensures { λ r. ⌜ AnswersRndf (edition-numbered edition) (now (text .entry)) (lent (now (segments .entry)) (now (lanes .entry)) (now (zones .entry)) (now (spots .entry)) (now (points .entry)) (now (checkpoints .entry)) (now (stops .entry)) (now (exits .entry))) r (lent (now (segments .exit)) (now (lanes .exit)) (now (zones .exit)) (now (spots .exit)) (now (points .exit)) (now (checkpoints .exit)) (now (stops .exit)) (now (exits .exit))) ⌝ }
 {
     let by = edition_of(edition);
     let reply = read_rndf(
@@ -285,7 +285,7 @@ pub extern "C" fn kastepuhm_read_pair(
     goals: &mut [u32],
     limits: &mut [u32],
 ) -> Answer
-    ensures { λ r. ⌜ AnswersPair (numbered edition) (now (rndf .entry)) (now (mdf .entry)) (lent (now (segments .entry)) (now (lanes .entry)) (now (zones .entry)) (now (spots .entry)) (now (points .entry)) (now (checkpoints .entry)) (now (stops .entry)) (now (exits .entry))) (mission-lent (now (goals .entry)) (now (limits .entry))) r (lent (now (segments .exit)) (now (lanes .exit)) (now (zones .exit)) (now (spots .exit)) (now (points .exit)) (now (checkpoints .exit)) (now (stops .exit)) (now (exits .exit))) (mission-lent (now (goals .exit)) (now (limits .exit))) ⌝ }
+    ensures { λ r. ⌜ AnswersPair (edition-numbered edition) (now (rndf .entry)) (now (mdf .entry)) (lent (now (segments .entry)) (now (lanes .entry)) (now (zones .entry)) (now (spots .entry)) (now (points .entry)) (now (checkpoints .entry)) (now (stops .entry)) (now (exits .entry))) (mission-lent (now (goals .entry)) (now (limits .entry))) r (lent (now (segments .exit)) (now (lanes .exit)) (now (zones .exit)) (now (spots .exit)) (now (points .exit)) (now (checkpoints .exit)) (now (stops .exit)) (now (exits .exit))) (mission-lent (now (goals .exit)) (now (limits .exit))) ⌝ }
 {
     let by = edition_of(edition);
     let reply = read_pair(
@@ -325,7 +325,7 @@ pub extern "C" fn kastepuhm_check_route(
     start: u32,
     route: &[u32],
 ) -> Answer
-    ensures { λ r. ⌜ AnswersRoute (numbered edition) start (now (route .entry)) (now (rndf .entry)) (now (mdf .entry)) (lent (now (segments .entry)) (now (lanes .entry)) (now (zones .entry)) (now (spots .entry)) (now (points .entry)) (now (checkpoints .entry)) (now (stops .entry)) (now (exits .entry))) (mission-lent (now (goals .entry)) (now (limits .entry))) r (lent (now (segments .exit)) (now (lanes .exit)) (now (zones .exit)) (now (spots .exit)) (now (points .exit)) (now (checkpoints .exit)) (now (stops .exit)) (now (exits .exit))) (mission-lent (now (goals .exit)) (now (limits .exit))) ⌝ }
+    ensures { λ r. ⌜ AnswersRoute (edition-numbered edition) start (now (route .entry)) (now (rndf .entry)) (now (mdf .entry)) (lent (now (segments .entry)) (now (lanes .entry)) (now (zones .entry)) (now (spots .entry)) (now (points .entry)) (now (checkpoints .entry)) (now (stops .entry)) (now (exits .entry))) (mission-lent (now (goals .entry)) (now (limits .entry))) r (lent (now (segments .exit)) (now (lanes .exit)) (now (zones .exit)) (now (spots .exit)) (now (points .exit)) (now (checkpoints .exit)) (now (stops .exit)) (now (exits .exit))) (mission-lent (now (goals .exit)) (now (limits .exit))) ⌝ }
 {
     let by = edition_of(edition);
     let reply = check_route(
@@ -367,7 +367,7 @@ pub extern "C" fn kastepuhm_check_mission(
     start: u32,
     work: &mut [u32],
 ) -> Answer
-    ensures { λ r. ⌜ AnswersMission (numbered edition) start (now (rndf .entry)) (now (mdf .entry)) (lent (now (segments .entry)) (now (lanes .entry)) (now (zones .entry)) (now (spots .entry)) (now (points .entry)) (now (checkpoints .entry)) (now (stops .entry)) (now (exits .entry))) (mission-lent (now (goals .entry)) (now (limits .entry))) (now (work .entry)) r (lent (now (segments .exit)) (now (lanes .exit)) (now (zones .exit)) (now (spots .exit)) (now (points .exit)) (now (checkpoints .exit)) (now (stops .exit)) (now (exits .exit))) (mission-lent (now (goals .exit)) (now (limits .exit))) (now (work .exit)) ⌝ }
+    ensures { λ r. ⌜ AnswersMission (edition-numbered edition) start (now (rndf .entry)) (now (mdf .entry)) (lent (now (segments .entry)) (now (lanes .entry)) (now (zones .entry)) (now (spots .entry)) (now (points .entry)) (now (checkpoints .entry)) (now (stops .entry)) (now (exits .entry))) (mission-lent (now (goals .entry)) (now (limits .entry))) (now (work .entry)) r (lent (now (segments .exit)) (now (lanes .exit)) (now (zones .exit)) (now (spots .exit)) (now (points .exit)) (now (checkpoints .exit)) (now (stops .exit)) (now (exits .exit))) (mission-lent (now (goals .exit)) (now (limits .exit))) (now (work .exit)) ⌝ }
 {
     let by = edition_of(edition);
     let reply = check_mission(
@@ -405,7 +405,7 @@ pub extern "C" fn kastepuhm_write_rndf(
     exits: &mut [u32],
     out: &mut [u8],
 ) -> WriteAnswer
-    ensures { λ r. ⌜ AnswersWrite (numbered edition) HouseRndf (now (text .entry)) (lent (now (segments .entry)) (now (lanes .entry)) (now (zones .entry)) (now (spots .entry)) (now (points .entry)) (now (checkpoints .entry)) (now (stops .entry)) (now (exits .entry))) (length (now (out .entry))) r (lent (now (segments .exit)) (now (lanes .exit)) (now (zones .exit)) (now (spots .exit)) (now (points .exit)) (now (checkpoints .exit)) (now (stops .exit)) (now (exits .exit))) (now (out .exit)) ⌝ }
+    ensures { λ r. ⌜ AnswersWrite (edition-numbered edition) HouseRndf (now (text .entry)) (lent (now (segments .entry)) (now (lanes .entry)) (now (zones .entry)) (now (spots .entry)) (now (points .entry)) (now (checkpoints .entry)) (now (stops .entry)) (now (exits .entry))) (length (now (out .entry))) r (lent (now (segments .exit)) (now (lanes .exit)) (now (zones .exit)) (now (spots .exit)) (now (points .exit)) (now (checkpoints .exit)) (now (stops .exit)) (now (exits .exit))) (now (out .exit)) ⌝ }
 {
     let by = edition_of(edition);
     let reply = write_rndf(
@@ -439,7 +439,7 @@ pub extern "C" fn kastepuhm_write_map(
     exits: &mut [u32],
     out: &mut [u8],
 ) -> WriteAnswer
-    ensures { λ r. ⌜ AnswersWrite (numbered edition) MapOf (now (text .entry)) (lent (now (segments .entry)) (now (lanes .entry)) (now (zones .entry)) (now (spots .entry)) (now (points .entry)) (now (checkpoints .entry)) (now (stops .entry)) (now (exits .entry))) (length (now (out .entry))) r (lent (now (segments .exit)) (now (lanes .exit)) (now (zones .exit)) (now (spots .exit)) (now (points .exit)) (now (checkpoints .exit)) (now (stops .exit)) (now (exits .exit))) (now (out .exit)) ⌝ }
+    ensures { λ r. ⌜ AnswersWrite (edition-numbered edition) MapOf (now (text .entry)) (lent (now (segments .entry)) (now (lanes .entry)) (now (zones .entry)) (now (spots .entry)) (now (points .entry)) (now (checkpoints .entry)) (now (stops .entry)) (now (exits .entry))) (length (now (out .entry))) r (lent (now (segments .exit)) (now (lanes .exit)) (now (zones .exit)) (now (spots .exit)) (now (points .exit)) (now (checkpoints .exit)) (now (stops .exit)) (now (exits .exit))) (now (out .exit)) ⌝ }
 {
     let by = edition_of(edition);
     let reply = write_map(
@@ -473,7 +473,7 @@ pub extern "C" fn kastepuhm_write_packed(
     exits: &mut [u32],
     out: &mut [u8],
 ) -> WriteAnswer
-    ensures { λ r. ⌜ AnswersWrite (numbered edition) PackedOf (now (text .entry)) (lent (now (segments .entry)) (now (lanes .entry)) (now (zones .entry)) (now (spots .entry)) (now (points .entry)) (now (checkpoints .entry)) (now (stops .entry)) (now (exits .entry))) (length (now (out .entry))) r (lent (now (segments .exit)) (now (lanes .exit)) (now (zones .exit)) (now (spots .exit)) (now (points .exit)) (now (checkpoints .exit)) (now (stops .exit)) (now (exits .exit))) (now (out .exit)) ⌝ }
+    ensures { λ r. ⌜ AnswersWrite (edition-numbered edition) PackedOf (now (text .entry)) (lent (now (segments .entry)) (now (lanes .entry)) (now (zones .entry)) (now (spots .entry)) (now (points .entry)) (now (checkpoints .entry)) (now (stops .entry)) (now (exits .entry))) (length (now (out .entry))) r (lent (now (segments .exit)) (now (lanes .exit)) (now (zones .exit)) (now (spots .exit)) (now (points .exit)) (now (checkpoints .exit)) (now (stops .exit)) (now (exits .exit))) (now (out .exit)) ⌝ }
 {
     let by = edition_of(edition);
     let reply = write_packed(
@@ -510,7 +510,7 @@ pub extern "C" fn kastepuhm_write_mdf(
     limits: &mut [u32],
     out: &mut [u8],
 ) -> WriteAnswer
-    ensures { λ r. ⌜ AnswersWriteMdf (numbered edition) (now (rndf .entry)) (now (mdf .entry)) (lent (now (segments .entry)) (now (lanes .entry)) (now (zones .entry)) (now (spots .entry)) (now (points .entry)) (now (checkpoints .entry)) (now (stops .entry)) (now (exits .entry))) (mission-lent (now (goals .entry)) (now (limits .entry))) (length (now (out .entry))) r (lent (now (segments .exit)) (now (lanes .exit)) (now (zones .exit)) (now (spots .exit)) (now (points .exit)) (now (checkpoints .exit)) (now (stops .exit)) (now (exits .exit))) (mission-lent (now (goals .exit)) (now (limits .exit))) (now (out .exit)) ⌝ }
+    ensures { λ r. ⌜ AnswersWriteMdf (edition-numbered edition) (now (rndf .entry)) (now (mdf .entry)) (lent (now (segments .entry)) (now (lanes .entry)) (now (zones .entry)) (now (spots .entry)) (now (points .entry)) (now (checkpoints .entry)) (now (stops .entry)) (now (exits .entry))) (mission-lent (now (goals .entry)) (now (limits .entry))) (length (now (out .entry))) r (lent (now (segments .exit)) (now (lanes .exit)) (now (zones .exit)) (now (spots .exit)) (now (points .exit)) (now (checkpoints .exit)) (now (stops .exit)) (now (exits .exit))) (mission-lent (now (goals .exit)) (now (limits .exit))) (now (out .exit)) ⌝ }
 {
     let by = edition_of(edition);
     let reply = write_mdf(
@@ -569,7 +569,7 @@ pub extern "C" fn kastepuhm_mend(
     list: &mut [u32],
     out: &mut [u8],
 ) -> MendAnswer
-    ensures { λ r. ⌜ AnswersMend (numbered edition) (now (text .entry)) (now (list .entry)) (length (now (out .entry))) r (now (list .exit)) (now (out .exit)) ⌝ }
+    ensures { λ r. ⌜ AnswersMend (edition-numbered edition) (now (text .entry)) (now (list .entry)) (length (now (out .entry))) r (now (list .exit)) (now (out .exit)) ⌝ }
 {
     let by = edition_of(edition);
     let reply = mend(by, text, list, out);

@@ -9,7 +9,7 @@ use Rattle.line.specs.Line.{Field}
 use Rattle.law.specs.Network.{Network}
 use Rattle.law.specs.Tables.{Lent, HasRoom, filled, zeros}
 use Rattle.replies.specs.declared.RndfReply.the-variants as Rndf
-use Rattle.replies.specs.Replies.{most, refusal, rows-used, network-file}
+use Rattle.replies.specs.Replies.{longest, refusal, rows-used, network-file}
 use Rattle.unpackings.specs.Unpacks.{IsPackedFormOf, UnpackRefuses, refused, unpacked}
 use Rattle.unpackings.proofs.Settled.{unpack-settled}
 use Rattle.output.specs.Pen.{pen, Wrote}
@@ -23,7 +23,7 @@ module _ (name bytes : Bytes) (t left : Lent) (before after : Bytes) (n : ℕ) (
   refused-told file number h =
       same (ap (rndf-answer name [] []) (unpack-settled bytes t (x .reply) (Rndf.Refused (refusal file 0 number 0)) left (zeros t) (x .read) (refused file number h refl refl) .0)) (x .told)
 
-  pub unpacked-told : (m : Network Field) → length bytes ≤ most → IsPackedFormOf m bytes → HasRoom m t → Wrote (pen before 0) (name ++ ascii ": accepted; " ++ network-counts (rows-used m) ++ ascii "\n") (pen after n)
+  pub unpacked-told : (m : Network Field) → length bytes ≤ longest → IsPackedFormOf m bytes → HasRoom m t → Wrote (pen before 0) (name ++ ascii ": accepted; " ++ network-counts (rows-used m) ++ ascii "\n") (pen after n)
   unfolding rndf-answer rndf-accepted
   unpacked-told m l f h =
       same (ap (rndf-answer name [] []) (unpack-settled bytes t (x .reply) (Rndf.Accepted (rows-used m) (network-file m)) left (filled m t) (x .read) (unpacked m l f h refl refl) .0)) (x .told)

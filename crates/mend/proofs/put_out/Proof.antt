@@ -6,7 +6,7 @@ use lib.ListN.{length, length-replicate}
 use Rattle.terms.specs.Words.{Bytes}
 use Rattle.line.specs.Lines.{linesOf}
 use Rattle.rows.specs.Table.{putRows}
-use Rattle.output.specs.Output.{zeros}
+use Rattle.output.specs.Output.{zero-bytes}
 use Rattle.output.proofs.Whole.{answered-too-long}
 use Rattle.mend_lines.specs.Forward.{noneBefore}
 use Rattle.mend_pieces.specs.Pieces.{changedRows}
@@ -74,7 +74,7 @@ returns-2 c =
     let long = rw (c .before .before .before .before .before .before .before .enum-told .given .1) at o in
     let k = c .before .before .before .before .refused in
     put-long (A .text .now) (A .list .now) (length (A .out .now)) _ _ _ _ long (k .ensures .0) (k .ensures .1 .0)
-    (k .ensures .1 .1 ∙ ap (λ (x : Bytes). zeros (length x)) (answered-too-long long .1) ∙ ap zeros (length-replicate (length (A .out .now)) 0))
+    (k .ensures .1 .1 ∙ ap (λ (x : Bytes). zero-bytes (length x)) (answered-too-long long .1) ∙ ap zero-bytes (length-replicate (length (A .out .now)) 0))
 
 pub put-out-spec : {M : Type 1} → statement M
 put-out-spec =
