@@ -22,7 +22,8 @@ use Rattle.law.specs.Faults.{Sound, waypoint, first}
 use Rattle.law.specs.Tables.{Lent, lent, HasRoom}
 use Rattle.edition.specs.declared.Edition.{Edition}
 use Rattle.edition.specs.Editions.{rules-of}
-use Rattle.replies.specs.Replies.{longest, AcceptsRndf}
+use Rattle.replies.specs.Replies.{longest}
+use Rattle.replies.specs.Short.{AcceptsRndf}
 use Rattle.house_text.specs.HouseText.{house-text, house-rndf}
 use Rattle.house_text.proofs.Lawful.{house-rndf-is}
 use Rattle.house_text.proofs.Theorems.{rndf-one-writing}

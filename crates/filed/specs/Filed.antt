@@ -11,7 +11,7 @@ use Rattle.rows.specs.declared.FileRow.{FileRow}
 use Rattle.rows.specs.declared.MissionFileRow.{MissionFileRow}
 use Rattle.counts.specs.declared.Counts.{Counts}
 use Rattle.counts.specs.declared.MissionCounts.{MissionCounts}
-use Rattle.replies.specs.Replies.{AcceptsRndf, AcceptsMdf}
+use Rattle.replies.specs.Replies.{an-rndf, an-mdf, Accepts}
 use Rattle.writings.specs.declared.WriteReply.{WriteReply}
 use Rattle.writings.specs.declared.WriteReply.the-variants as Write
 use Rattle.writings.specs.declared.WriteMdfReply.{WriteMdfReply}
@@ -51,7 +51,7 @@ SameYard rules rules′ text text′ = (n : Network Field) × (n′ : Network Fi
 -- "Premise: both writings fit the lent output and the size limit": it was written exactly if the text is accepted, and its house writing is this and fits
 abbrev pub WrittenIfFits : Rules → Type 0
 WrittenIfFits rules = (text : Bytes) (t : Lent) (lent : ℕ) (reply : WriteReply) (left : Lent) (out : Bytes) → WritesRndf rules text t lent reply left out → (writing : Bytes)
-    → ((n : Network Field) × AcceptsRndf rules text t n × HouseRndf n writing × Fits lent writing) ↔ ((c : Counts) × (file : FileRow) × (reply ≡ Write.Written c file (length writing)) × (out ≡ padded lent writing))
+    → ((n : Network Field) × Accepts rules (an-rndf t) text n × HouseRndf n writing × Fits lent writing) ↔ ((c : Counts) × (file : FileRow) × (reply ≡ Write.Written c file (length writing)) × (out ≡ padded lent writing))
 
 -- "writing a house writing again", in the same tables and output: it is accepted, with as many rows, and the whole output is the same
 abbrev pub WrittenAgain : Rules → Type 0
@@ -79,7 +79,7 @@ SameOrders rules rules′ mdf mdf′ = (m : Mission Field) × (m′ : Mission Fi
 
 abbrev pub MissionWrittenIfFits : Rules → Type 0
 MissionWrittenIfFits rules = (rndf mdf : Bytes) (t : Lent) (u : MissionLent) (lent : ℕ) (reply : WriteMdfReply) (left : Lent) (mission-left : MissionLent) (out : Bytes) → WritesMdf rules rndf mdf t u lent reply left mission-left out → (writing : Bytes)
-    → ((n : Network Field) × (m : Mission Field) × AcceptsRndf rules rndf t n × AcceptsMdf rules n mdf u m × HouseMdf m writing × Fits lent writing)
+    → ((n : Network Field) × (m : Mission Field) × Accepts rules (an-rndf t) rndf n × Accepts rules (an-mdf n u) mdf m × HouseMdf m writing × Fits lent writing)
     ↔ ((c : Counts) × (file : FileRow) × (d : MissionCounts) × (own : MissionFileRow) × (reply ≡ WriteMdf.Written c file d own (length writing)) × (out ≡ padded lent writing))
 
 abbrev pub MissionWrittenAgain : Rules → Type 0

@@ -5,7 +5,8 @@ use mathlib.Core.Option.{Option, none, some}
 use Prim.Native.Nat.{ℕ, zero, suc}
 use native.Mathlib.Omega.{arith}
 use Rattle.line.specs.Content.{Field}
-use Rattle.law.specs.Tables.{Lent, along, lane-size, zone-size, row-of, all-lanes, first-zone-point, first-point, exit-rows, holding, filled}
+use Rattle.law.specs.Tables.{Lent, lane-size, zone-size, row-of, all-lanes, first-zone-point, first-point, exit-rows, holding, filled}
+use Rattle.law.specs.Along.{along}
 use Rattle.grammar.specs.Network.{Network}
 use Rattle.grammar.specs.Mission.{Mission, GoodMission}
 use Rattle.grammar.specs.HouseOrder.{GoodNetwork}

@@ -13,7 +13,8 @@ use Rattle.rows.specs.Read.{pointAt, laneAt, segmentAt}
 use Rattle.filled_rows.specs.From.{From}
 use Rattle.filled_rows.proofs.From.{from-parts}
 use Rattle.law.specs.Network.{Checkpoint, Lane, Segment}
-use Rattle.law.specs.Tables.{gather, along, total, lane-size}
+use Rattle.law.specs.Tables.{gather, total, lane-size}
+use Rattle.law.specs.Along.{along}
 use Rattle.grammar.specs.Tables.{CheckpointRow, checkpoint-row, lane-row, segment-row}
 use Rattle.grammar.specs.Network.{GoodLane}
 use Rattle.grammar.specs.HouseOrder.{GoodSegment}

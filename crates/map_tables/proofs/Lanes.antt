@@ -18,7 +18,8 @@ use Rattle.rows.specs.Name.{nameOf}
 use Rattle.filled_rows.specs.From.{From}
 use Rattle.filled_rows.proofs.From.{from-parts}
 use Rattle.law.specs.Network.{Lane}
-use Rattle.law.specs.Tables.{gather, along, lane-size}
+use Rattle.law.specs.Tables.{gather, lane-size}
+use Rattle.law.specs.Along.{along}
 use Rattle.grammar.specs.Tables.{lane-row}
 use Rattle.table_words.specs.FileRows.{shown-name}
 use Rattle.table_words.specs.Shown.{shown-lane, shown-point}

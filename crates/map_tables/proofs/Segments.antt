@@ -12,7 +12,8 @@ use Rattle.rows.specs.Read.{pointAt, laneAt, segmentAt}
 use Rattle.filled_rows.specs.From.{From}
 use Rattle.filled_rows.proofs.From.{from-parts}
 use Rattle.law.specs.Network.{Lane, Segment, Position}
-use Rattle.law.specs.Tables.{gather, along, total, lane-size}
+use Rattle.law.specs.Tables.{gather, total, lane-size}
+use Rattle.law.specs.Along.{along}
 use Rattle.grammar.specs.Tables.{lane-row, segment-row, LaneRow}
 use Rattle.table_words.specs.Shown.{shown-segment, shown-lane, shown-point}
 use Rattle.features.specs.Drawn.{each, behind-one, segment-lanes, segment-from}

@@ -14,7 +14,8 @@ use Rattle.rows.specs.Read.{pointAt, zoneAt, spotAt}
 use Rattle.filled_rows.specs.From.{From}
 use Rattle.filled_rows.proofs.From.{from-parts}
 use Rattle.law.specs.Network.{Checkpoint, Spot, Zone, GoodSpot}
-use Rattle.law.specs.Tables.{gather, along, total, spot-points, zone-points, zone-size, first-spot, over-spots}
+use Rattle.law.specs.Tables.{gather, total, spot-points, zone-points, zone-size, first-spot}
+use Rattle.law.specs.Along.{along, over-spots}
 use Rattle.grammar.specs.Tables.{CheckpointRow, SpotRow, checkpoint-row, spot-checkpoint, spot-row, zone-row, zone-rows-from}
 use Rattle.grammar.specs.HouseOrder.{GoodZone}
 use Rattle.table_words.specs.Shown.{shown-zone, shown-spot, shown-point}

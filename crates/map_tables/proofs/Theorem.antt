@@ -23,7 +23,8 @@ use Rattle.table_words.specs.Shown.{shown-point}
 use Rattle.law_spelling.proofs.Texts.{rndf-back}
 use Rattle.law_tables.proofs.SameTables.{counts-same}
 use Rattle.law_tables.proofs.NamesStand.{Given, NamesStand, asked, names-stand}
-use Rattle.replies.specs.Replies.{AcceptsRndf, rows-used}
+use Rattle.replies.specs.Replies.{rows-used}
+use Rattle.replies.specs.Short.{AcceptsRndf}
 use Rattle.output.specs.Pen.{Pen, put}
 use Rattle.features.specs.Drawn.{Walk, walk, steps, segment-walk, zone-walk, all-lanes, all-perimeters, all-walk, drawn}
 use Rattle.map_law.specs.Map as Map

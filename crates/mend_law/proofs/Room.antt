@@ -14,7 +14,8 @@ use Rattle.law.specs.Network.{Network, SpellsNetwork, SpellsText, reading}
 use Rattle.law.specs.Tables.{Lent, HasRoom, segment-rows, lane-rows, zone-rows, spot-rows, point-rows, checkpoint-rows, stop-rows, exit-rows}
 use Rattle.law.specs.Faults.{Sound}
 use Rattle.replies.specs.declared.RndfReply.{RndfReply}
-use Rattle.replies.specs.Replies.{longest, AcceptsRndf, RefusesRndf, too-long, bad-line, unended, no-room, bad-reference, ReadsRndf, accepted, refused}
+use Rattle.replies.specs.Replies.{longest, too-long, bad-line, unended, no-room, bad-reference, ReadsRndf, accepted, refused}
+use Rattle.replies.specs.Short.{AcceptsRndf, RefusesRndf}
 use Rattle.replies.proofs.Alone.{rndf-alone}
 use Rattle.replies.proofs.Settled.{rndf-some, rndf-never-both}
 use Rattle.mend_law.specs.Mends.{AcceptedWithRoom}

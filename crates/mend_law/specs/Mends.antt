@@ -5,14 +5,14 @@ use Rattle.line.specs.Cutting.{linesOf}
 use Rattle.law.specs.Network.{Network, Rules}
 use Rattle.law.specs.Tables.{Lent, holding}
 use Rattle.output.specs.Output.{zero-bytes, Fits, padded}
-use Rattle.replies.specs.Replies.{longest, refusal, AcceptsRndf}
+use Rattle.replies.specs.Replies.{an-rndf, Accepts, longest, refusal}
 use Rattle.mend_law.specs.Mend.{mended-text, listed-rows}
 use Rattle.mend_law.specs.declared.MendReply.{MendReply}
 use Rattle.mend_law.specs.declared.MendReply.the-variants.{Mended, Refused}
 
 -- "a reader with room enough" accepts the text: there are tables with which it does
 abbrev pub AcceptedWithRoom : Rules → Bytes → Type 0
-AcceptedWithRoom rules text = (tables : Lent) × (n : Network Field) × AcceptsRndf rules text tables n
+AcceptedWithRoom rules text = (tables : Lent) × (n : Network Field) × Accepts rules (an-rndf tables) text n
 
 -- "The lent list has a row for each line of the text": a row is two words
 abbrev pub ListRoom : Bytes → List ℕ → Type 0

@@ -8,7 +8,8 @@ use lib.ListN.{length, getD, length-map}
 use Rattle.terms.specs.Words.{Bytes}
 use Rattle.line.specs.Line.{Field}
 use Rattle.law.specs.Network.{Zone, Network, present}
-use Rattle.law.specs.Tables.{Lent, along, lane-size, zone-size, all-lanes, first-zone-point, filled}
+use Rattle.law.specs.Tables.{Lent, lane-size, zone-size, all-lanes, first-zone-point, filled}
+use Rattle.law.specs.Along.{along}
 use Rattle.law.specs.Tables as Law
 use Rattle.grammar.specs.Tables.{lane-row, zone-rows-from, no-lane, no-zone, tables-with, tables, ZoneRow, ExitRow}
 use Rattle.grammar.proofs.RowsInside.{zone-size-is}
@@ -24,7 +25,7 @@ use Rattle.table_words.proofs.Filled.{rows-fit, name-long}
 use Rattle.law_tables.proofs.SameRows.{start-of, length-of}
 use Rattle.law_tables.proofs.SameTables.{filled-same, room-back}
 use Rattle.law_tables.proofs.Entries.{exits-same}
-use Rattle.replies.specs.Replies.{AcceptsRndf}
+use Rattle.replies.specs.Short.{AcceptsRndf}
 use Rattle.moves.specs.declared.Part.{Part}
 use Rattle.moves.specs.Moves.{part, lane-part, zone-part}
 use Rattle.route_law.specs.Moves.{Span, lane-spans, zone-spans}

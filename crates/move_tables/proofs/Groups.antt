@@ -6,7 +6,7 @@ use Prim.Native.Nat.{ℕ, _+_, _≤_, _<_}
 use native.Mathlib.Omega.{arith}
 use Rattle.terms.specs.Words.{Each, Among}
 use Rattle.terms.proofs.Lists.{each-map, each-append}
-use Rattle.law.specs.Tables.{along}
+use Rattle.law.specs.Along.{along}
 use Rattle.grammar.proofs.Rows.{total, Within, Own, along-own}
 use Rattle.route_law.specs.Moves.{Span}
 use Rattle.move_tables.proofs.Spans.{spans}

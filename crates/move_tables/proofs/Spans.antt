@@ -5,7 +5,7 @@ use mathlib.Core.List.{List, [], _∷_, _++_}
 use Prim.Native.Nat.{ℕ, zero, suc, _+_, _≤_}
 use native.Mathlib.Omega.{arith}
 use Rattle.terms.specs.Words.{Each, Among}
-use Rattle.law.specs.Tables.{along}
+use Rattle.law.specs.Along.{along}
 use Rattle.grammar.proofs.Rows.{total}
 use Rattle.route_law.specs.Moves.{Span}
 

@@ -13,7 +13,8 @@ use Rattle.terms.proofs.Lists.{each-map, each-append}
 use Rattle.terms.proofs.Tests.{clash}
 use Rattle.line.specs.Line.{Field}
 use Rattle.law.specs.Network.{Network, Lane, Zone, Exit, present}
-use Rattle.law.specs.Tables.{Lent, along, lane-size, zone-size, all-lanes, first-zone-point, exit-row, exit-rows, filled}
+use Rattle.law.specs.Tables.{Lent, lane-size, zone-size, all-lanes, first-zone-point, exit-row, exit-rows, filled}
+use Rattle.law.specs.Along.{along}
 use Rattle.grammar.proofs.Rows.{total, length-gather, Within, Own, along-own, Names, names-own}
 use Rattle.grammar.proofs.RowsInside.{NamesOwn, names-own-points}
 use Rattle.grammar.proofs.Theorems.{network-ranges}
@@ -21,7 +22,8 @@ use Rattle.law_spelling.proofs.Texts.{rndf-back}
 use Rattle.rows.specs.Lay.{rowsOf}
 use Rattle.rows.specs.Strides.{laneStride, zoneStride, exitStride}
 use Rattle.counts.specs.declared.Counts.{Counts}
-use Rattle.replies.specs.Replies.{AcceptsRndf, rows-used}
+use Rattle.replies.specs.Replies.{rows-used}
+use Rattle.replies.specs.Short.{AcceptsRndf}
 use Rattle.moves.specs.declared.Part.{Part}
 use Rattle.moves.specs.Halving.{first-word}
 use Rattle.moves.specs.Moves.{inside, lane-part, zone-part, lane-of, zone-of, leads, next-in, across, lane-move, zone-move, is-move}

@@ -7,7 +7,8 @@ use lib.ListN.{length, length-map}
 use Rattle.terms.specs.Words.{perhaps}
 use Rattle.line.specs.Line.{Field}
 use Rattle.law.specs.Network.{Position, Checkpoint, Exit, Segment, Zone, Network}
-use Rattle.law.specs.Tables.{feet, side, gather, along, lane-size, row-of, first-spot, all-lanes, zone-points, zone-size, lane-points, first-zone-point, over-spots, first-point, name-words, segment-rows, lane-rows, zone-rows-from, zone-rows, spot-rows, point-rows, checkpoint-rows, stop-rows, exit-row, exit-rows}
+use Rattle.law.specs.Tables.{feet, side, gather, lane-size, row-of, first-spot, all-lanes, zone-points, zone-size, lane-points, first-zone-point, first-point, name-words, segment-rows, lane-rows, zone-rows, spot-rows, point-rows, checkpoint-rows, stop-rows, exit-row, exit-rows}
+use Rattle.law.specs.Along.{along, over-spots, zone-rows-from}
 use Rattle.packed_law.specs.Packed.{Slot, figure, angle, title, by-table, file-slots, with-length, all-slots}
 
 -- ## The records

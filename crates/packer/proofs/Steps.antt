@@ -19,7 +19,8 @@ use Rattle.counts.specs.declared.Counts.{Counts}
 use Rattle.refusal.specs.declared.Refusal.{Refusal}
 use Rattle.replies.specs.declared.RndfReply.{RndfReply}
 use Rattle.replies.specs.declared.RndfReply.the-variants as Reply
-use Rattle.replies.specs.Replies.{refusal, rows-used, AcceptsRndf, ReadsRndf}
+use Rattle.replies.specs.Replies.{refusal, rows-used, ReadsRndf}
+use Rattle.replies.specs.Short.{AcceptsRndf}
 use Rattle.replies.specs.Replies as R
 use Rattle.replies.proofs.Later.{accepts-later}
 use Rattle.replies.proofs.Said.{never-both, refused-zero}

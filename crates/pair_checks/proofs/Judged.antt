@@ -16,7 +16,8 @@ use Rattle.room.specs.Room.{fitted}
 use Rattle.refusal.specs.declared.Refusal.{Refusal}
 use Rattle.replies.specs.declared.PairReply.{PairReply}
 use Rattle.replies.specs.declared.PairReply.the-variants as Pair
-use Rattle.replies.specs.Replies.{AcceptsRndf, AcceptsMdf, refusal, rows-used, network-file, mission-file, ReadsPair, accepted, rndf-refused, mdf-refused}
+use Rattle.replies.specs.Replies.{refusal, rows-used, network-file, mission-file, ReadsPair, accepted, rndf-refused, mdf-refused}
+use Rattle.replies.specs.Short.{AcceptsRndf, AcceptsMdf}
 use Rattle.replies.proofs.Settled.{rndf-accepts-one, mdf-accepts-one, pair-settled, pair-some}
 use Rattle.replies.proofs.Said.{pair-never-both}
 use Rattle.pair_checks.specs.Checks.{AcceptedPair, Judges, unread, wrong, right}

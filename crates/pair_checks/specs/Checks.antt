@@ -9,7 +9,7 @@ use Rattle.route_law.specs.Routes.{GoodRoute, RouteFault}
 use Rattle.refusal.specs.declared.Refusal.{Refusal}
 use Rattle.replies.specs.declared.PairReply.{PairReply}
 use Rattle.replies.specs.declared.PairReply.the-variants as Pair
-use Rattle.replies.specs.Replies.{AcceptsRndf, AcceptsMdf, refusal, ReadsPair}
+use Rattle.replies.specs.Replies.{an-rndf, an-mdf, Accepts, refusal, ReadsPair}
 
 -- t: the tables as they were lent; u: those of the MDF
 module _ (rules : Rules) (rndf mdf : Bytes) (t : Lent) (u : MissionLent) where
@@ -18,8 +18,8 @@ module _ (rules : Rules) (rndf mdf : Bytes) (t : Lent) (u : MissionLent) where
     pub net : Network Field
     pub mission : Mission Field
     pub goals : List ℕ
-    pub network-accepted : AcceptsRndf rules rndf t net
-    pub mission-accepted : AcceptsMdf rules net mdf u mission
+    pub network-accepted : Accepts rules (an-rndf t) rndf net
+    pub mission-accepted : Accepts rules (an-mdf net u) mdf mission
     pub goals-stand : GoalPoints net mission goals
 
   -- ## A part that judges an accepted pair. Right, Wrong: what is right and what is wrong of its network and the points of its goals

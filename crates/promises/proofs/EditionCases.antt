@@ -28,7 +28,8 @@ use Rattle.edition.specs.declared.Edition.the-variants.{March2007, December2006
 use Rattle.edition.specs.Editions.{rules-of}
 use Rattle.replies.specs.declared.RndfReply.{RndfReply}
 use Rattle.replies.specs.declared.RndfReply.the-variants as Reply
-use Rattle.replies.specs.Replies.{longest, RefusesRndf, bad-line, unended}
+use Rattle.replies.specs.Replies.{longest, bad-line, unended}
+use Rattle.replies.specs.Short.{RefusesRndf}
 use Rattle.promises.specs.Yards.{yellow, no-spots, used}
 use Rattle.promises.specs.Cases.{EditionCases}
 use Rattle.promises.specs.Readers.{Reader, Meets}

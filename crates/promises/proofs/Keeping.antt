@@ -19,7 +19,8 @@ use Rattle.counts.specs.declared.Counts.{Counts}
 use Rattle.counts.specs.declared.MissionCounts.{MissionCounts}
 use Rattle.replies.specs.declared.RndfReply.the-variants as Reply
 use Rattle.replies.specs.declared.PairReply.the-variants as Pair
-use Rattle.replies.specs.Replies.{AcceptsRndf, AcceptsMdf, ReadsRndf, ReadsPair}
+use Rattle.replies.specs.Replies.{ReadsRndf, ReadsPair}
+use Rattle.replies.specs.Short.{AcceptsRndf, AcceptsMdf}
 use Rattle.edition.specs.declared.Edition as Asked
 use Rattle.edition.specs.declared.Edition.the-variants.{March2007, December2006}
 use Rattle.edition.specs.Editions.{rules-of}

@@ -10,7 +10,8 @@ use Rattle.law.specs.Tables.{Lent, MissionLent, HasRoom, MissionHasRoom, filled
 use Rattle.law.specs.Faults.{MissionFits}
 use Rattle.replies.specs.declared.PairReply.{PairReply}
 use Rattle.replies.specs.declared.PairReply.the-variants as Pair
-use Rattle.replies.specs.Replies.{longest, AcceptsMdf, RefusesRndf, RefusesMdf, bad-line, bad-reference, refusal, mission-file, ReadsPair}
+use Rattle.replies.specs.Replies.{longest, bad-line, bad-reference, refusal, mission-file, ReadsPair}
+use Rattle.replies.specs.Short.{AcceptsMdf, RefusesRndf, RefusesMdf}
 use Rattle.edition.specs.declared.Edition.{Edition}
 use Rattle.edition.specs.Editions.{rules-of}
 use Rattle.promises.specs.Yards.{yard, round, goal-8, limit-10-5, limit-5-0, network, network-twice, mission-with, mission, mission-goal-8, mission-5-0, counts, mission-counts, yard-file, round-file, used, mission-used, yard-words, round-words, words-5-0}

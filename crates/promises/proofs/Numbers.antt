@@ -24,7 +24,7 @@ BadAt rules Spells text line number column = (b : BadLine rules Spells text line
 module _ (rules : Rules) {Net : Type 0} (Spells : Rules → Net → List Line → Type 0) (Roomy Right : Net → Type 0) (Wrong : Net → List Line → Line → ℕ → Type 0) (text : Bytes)
     (form : (line number : ℕ) → BadLine rules Spells text line number → OfForm number) (reference : (n : Net) (front : List Line) (line : Line) (number : ℕ) → Wrong n front line number → OfReference number) where
   abbrev Refused : (line number column : ℕ) → Type 0
-  Refused = Refuses rules Spells Roomy Right Wrong text
+  Refused = Refuses rules (record { Spells = Spells; Roomy = Roomy; Right = Right; Wrong = Wrong }) text
 
   -- no other numbers are given
   pub number-by : (line number column : ℕ) → Refused line number column → OneOfFive number

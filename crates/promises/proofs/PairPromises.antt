@@ -19,7 +19,8 @@ use Rattle.counts.specs.declared.MissionCounts.{MissionCounts}
 use Rattle.refusal.specs.declared.Refusal.{Refusal}
 use Rattle.replies.specs.declared.PairReply.{PairReply}
 use Rattle.replies.specs.declared.PairReply.the-variants as Pair
-use Rattle.replies.specs.Replies.{longest, AcceptsRndf, AcceptsMdf, unended, refusal, rows-used, network-file, mission-file, ReadsPair, accepted, rndf-refused, mdf-refused}
+use Rattle.replies.specs.Replies.{longest, unended, refusal, rows-used, network-file, mission-file, ReadsPair, accepted, rndf-refused, mdf-refused}
+use Rattle.replies.specs.Short.{AcceptsRndf, AcceptsMdf}
 use Rattle.replies.proofs.Settled.{pair-settled}
 use Rattle.promises.specs.Accepted.{IsPairAccepted, PairAcceptable, mission-rows-used, Meant, NamesAsked, MissionNamesAsked}
 use Rattle.promises.specs.Declared.{declared, mission-declared}

@@ -15,7 +15,8 @@ use Rattle.counts.specs.declared.Counts.{Counts}
 use Rattle.refusal.specs.declared.Refusal.{Refusal}
 use Rattle.replies.specs.declared.RndfReply.{RndfReply}
 use Rattle.replies.specs.declared.RndfReply.the-variants as Reply
-use Rattle.replies.specs.Replies.{longest, AcceptsRndf, RefusesRndf, unended, refusal, rows-used, network-file, ReadsRndf, accepted, refused}
+use Rattle.replies.specs.Replies.{longest, unended, refusal, rows-used, network-file, ReadsRndf, accepted, refused}
+use Rattle.replies.specs.Short.{AcceptsRndf, RefusesRndf}
 use Rattle.replies.proofs.Settled.{rndf-settled}
 use Rattle.promises.specs.Accepted.{IsAccepted, Acceptable, NamesAsked}
 use Rattle.promises.specs.Declared.{declared}

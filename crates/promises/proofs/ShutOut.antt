@@ -12,7 +12,8 @@ use Rattle.counts.specs.declared.Counts.{Counts}
 use Rattle.refusal.specs.declared.Refusal.{Refusal}
 use Rattle.replies.specs.declared.RndfReply.{RndfReply}
 use Rattle.replies.specs.declared.RndfReply.the-variants as Reply
-use Rattle.replies.specs.Replies.{RefusesRndf, rows-used, ReadsRndf}
+use Rattle.replies.specs.Replies.{rows-used, ReadsRndf}
+use Rattle.replies.specs.Short.{RefusesRndf}
 use Rattle.replies.proofs.Settled.{rndf-some}
 use Rattle.edition.specs.declared.Edition.{Edition}
 use Rattle.edition.specs.Editions.{inner, rules-of}

@@ -10,7 +10,8 @@ use Rattle.law.specs.Tables.{Lent, HasRoom, filled}
 use Rattle.law.specs.Faults.{Sound, waypoint, first}
 use Rattle.replies.specs.declared.RndfReply.{RndfReply}
 use Rattle.replies.specs.declared.RndfReply.the-variants as Reply
-use Rattle.replies.specs.Replies.{longest, AcceptsRndf, RefusesRndf, bad-line, unended, bad-reference, rows-used, network-file, ReadsRndf}
+use Rattle.replies.specs.Replies.{longest, bad-line, unended, bad-reference, rows-used, network-file, ReadsRndf}
+use Rattle.replies.specs.Short.{AcceptsRndf, RefusesRndf}
 use Rattle.edition.specs.declared.Edition.{Edition}
 use Rattle.edition.specs.Editions.{inner, rules-of}
 use Rattle.law_columns.specs.Files.{rndf-column-in}

@@ -12,7 +12,7 @@ use Rattle.replies.specs.declared.RndfReply.{RndfReply}
 use Rattle.replies.specs.declared.RndfReply.the-variants as Reply
 use Rattle.replies.specs.declared.PairReply.{PairReply}
 use Rattle.replies.specs.declared.PairReply.the-variants as Pair
-use Rattle.replies.specs.Replies.{AcceptsRndf, AcceptsMdf, rows-used, stretch, network-file, mission-file}
+use Rattle.replies.specs.Replies.{an-rndf, an-mdf, Accepts, rows-used, stretch, network-file, mission-file}
 
 -- ## Replies that accept
 abbrev pub IsAccepted : RndfReply → Type 0
@@ -26,14 +26,14 @@ IsPairAccepted (Pair.Refused x) = ⊥
 -- ## Texts to be accepted. 01: "every pair that spells a network and mission is accepted"
 -- the text spells a network whose references are right; it is not too long, and there is room
 abbrev pub Acceptable : Rules → Bytes → Lent → Type 0
-Acceptable rules text t = (n : Network Field) × AcceptsRndf rules text t n
+Acceptable rules text t = (n : Network Field) × Accepts rules (an-rndf t) text n
 
 -- likewise the MDF, with a mission that fits the network
 pub record PairAcceptable (rules : Rules) (rndf mdf : Bytes) (t : Lent) (u : MissionLent) : Type 0 where
   pub net : Network Field
   pub mission : Mission Field
-  pub network-accepted : AcceptsRndf rules rndf t net
-  pub mission-accepted : AcceptsMdf rules net mdf u mission
+  pub network-accepted : Accepts rules (an-rndf t) rndf net
+  pub mission-accepted : Accepts rules (an-mdf net u) mdf mission
 
 -- ## Meaning
 abbrev pub mission-rows-used : Mission Field → MissionCounts

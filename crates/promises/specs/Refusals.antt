@@ -7,7 +7,7 @@ use Rattle.law.specs.Tables.{Lent, MissionLent}
 use Rattle.law.specs.Faults.{LineAt, Fault, BadLine, Unended, FirstFault}
 use Rattle.law_columns.specs.Columns.{Column}
 use Rattle.refusal.specs.declared.Refusal.{Refusal}
-use Rattle.replies.specs.Replies.{AcceptsRndf, RefusesRndf, RefusesMdf}
+use Rattle.replies.specs.Replies.{an-rndf, an-mdf, Accepts, Refuses}
 
 -- the numbers that a reader gives: each tells one of five things (RefusedLine, RefusedEnd, NoRoom, WrongReference; 1: the text is too long)
 pub data OneOfFive (number : ℕ) : Type 0 where
@@ -77,4 +77,4 @@ OfFile x Rndf Mdf = ((x .file ≡ 1) × Rndf) ⊎ ((x .file ≡ 2) × Mdf)
 
 -- 01: "Order: for the RNDF ..; Then the MDF likewise": why a pair is refused so: the RNDF's first refusal, else the MDF's for the network that the RNDF spells
 abbrev pub PairRefuses : Rules → (rndf mdf : Bytes) → Lent → MissionLent → Refusal → Type 0
-PairRefuses rules rndf mdf t u x = OfFile x (RefusesRndf rules rndf t (x .line) (x .number) (x .column)) ((n : Network Field) × AcceptsRndf rules rndf t n × RefusesMdf rules n mdf u (x .line) (x .number) (x .column))
+PairRefuses rules rndf mdf t u x = OfFile x (Refuses rules (an-rndf t) rndf (x .line) (x .number) (x .column)) ((n : Network Field) × Accepts rules (an-rndf t) rndf n × Refuses rules (an-mdf n u) mdf (x .line) (x .number) (x .column))

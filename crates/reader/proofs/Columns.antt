@@ -33,7 +33,8 @@ use Rattle.law_columns.proofs.Theorems.{rndf-column-bad-in, rndf-column-fault-i
 use Rattle.columns.specs.RndfColumns.{rndfColumnIn}
 use Rattle.columns.specs.MdfColumns.{mdfColumnIn}
 use Rattle.columns.proofs.Theorems.{rndf-column-is, mdf-column-is}
-use Rattle.replies.specs.Replies.{longest, RefusesRndf, RefusesMdf, too-long, bad-line, unended, no-room, bad-reference}
+use Rattle.replies.specs.Replies.{longest, too-long, bad-line, unended, no-room, bad-reference}
+use Rattle.replies.specs.Short.{RefusesRndf, RefusesMdf}
 use Rattle.reader.specs.Columns.{if-there, rndfTold, mdfTold}
 
 -- it is looked for at every line but for 10

@@ -31,6 +31,7 @@ use Rattle.replies.specs.declared.PairReply.{PairReply}
 use Rattle.replies.specs.declared.PairReply.the-variants as Pair
 use Rattle.reader.specs.ByStatements as Old
 use Rattle.replies.specs.Replies as New
+use Rattle.replies.specs.Short as Short
 use Rattle.replies.proofs.Counted.{counts-are}
 use Rattle.reader.specs.Columns.{rndfTold, mdfTold}
 use Rattle.reader.proofs.Columns.{rndf-bad-told-in, rndf-fault-told-in, rndf-told-so, mdf-bad-told-in, mdf-fault-told-in, mdf-told-so}
@@ -48,10 +49,10 @@ mission-file-is m = λ i. record { name = New.stretch (some (m .name)); rndf = N
 
 -- ## An RNDF, in each edition
 module _ (ε : Edition) (text : Bytes) (t : Lent) where
-  pub accepts-to-in : (n : Network Field) → N.AcceptsRndfIn ε text t n → New.AcceptsRndf (reading (law-of ε)) text t n
+  pub accepts-to-in : (n : Network Field) → N.AcceptsRndfIn ε text t n → Short.AcceptsRndf (reading (law-of ε)) text t n
   accepts-to-in n a = record { size = a .size; spelled = rndf-to-in ε n text (a .spelled); room = room-to n t (a .room); right = a .sound }
 
-  pub refuses-to-in : (line number : ℕ) → N.RefusesRndfIn ε text t line number → New.RefusesRndf (reading (law-of ε)) text t line number (rndfTold text line number)
+  pub refuses-to-in : (line number : ℕ) → N.RefusesRndfIn ε text t line number → Short.RefusesRndf (reading (law-of ε)) text t line number (rndfTold text line number)
   unfolding rndfTold
   refuses-to-in line number (N.too-long h) = New.too-long h
   refuses-to-in line number (N.bad-line size b) = New.bad-line size (rndf-bad-to-in ε text line number b) (rndf-bad-told-in ε text size line number b)
@@ -65,10 +66,10 @@ module _ (ε : Edition) (text : Bytes) (t : Lent) where
 
 -- ## In the present one, both ways
 module _ (text : Bytes) (t : Lent) where
-  pub accepts-back : (n : Network Field) → New.AcceptsRndf present text t n → N.AcceptsRndf text t n
+  pub accepts-back : (n : Network Field) → Short.AcceptsRndf present text t n → N.AcceptsRndf text t n
   accepts-back n a = record { size = a .size; spelled = rndf-back n text (a .spelled); room = room-back n t (a .room); sound = a .right }
 
-  pub refuses-back : (line number column : ℕ) → New.RefusesRndf present text t line number column → N.RefusesRndf text t line number
+  pub refuses-back : (line number column : ℕ) → Short.RefusesRndf present text t line number column → N.RefusesRndf text t line number
   refuses-back line number column (New.too-long h) = N.too-long h
   refuses-back line number column (New.bad-line size b x) = N.bad-line size (rndf-bad-back text line number b)
   refuses-back line number column (New.unended size u) = N.unended size (rndf-unended-back text line u)
@@ -85,13 +86,13 @@ module _ (text : Bytes) (t : Lent) where
 
 -- ## An MDF for a network
 module _ (n : Network Field) (mdf : Bytes) (u : MissionLent) where
-  pub mdf-accepts-to-in : (ε : Edition) (m : Mission Field) → M.AcceptsMdf n mdf u m → New.AcceptsMdf (reading (law-of ε)) n mdf u m
+  pub mdf-accepts-to-in : (ε : Edition) (m : Mission Field) → M.AcceptsMdf n mdf u m → Short.AcceptsMdf (reading (law-of ε)) n mdf u m
   mdf-accepts-to-in ε m a = record { size = a .size; spelled = mdf-to-in ε m mdf (a .spelled); room = mission-room-to m u (a .room); right = fits-to n m (a .fits) }
 
-  pub mdf-accepts-back : (m : Mission Field) → New.AcceptsMdf present n mdf u m → M.AcceptsMdf n mdf u m
+  pub mdf-accepts-back : (m : Mission Field) → Short.AcceptsMdf present n mdf u m → M.AcceptsMdf n mdf u m
   mdf-accepts-back m a = record { size = a .size; spelled = mdf-back m mdf (a .spelled); room = mission-room-back m u (a .room); fits = fits-back n m (a .right) }
 
-  pub mdf-refuses-to-in : (ε : Edition) (line number : ℕ) → M.RefusesMdf n mdf u line number → New.RefusesMdf (reading (law-of ε)) n mdf u line number (mdfTold mdf line number)
+  pub mdf-refuses-to-in : (ε : Edition) (line number : ℕ) → M.RefusesMdf n mdf u line number → Short.RefusesMdf (reading (law-of ε)) n mdf u line number (mdfTold mdf line number)
   unfolding mdfTold
   mdf-refuses-to-in ε line number (M.too-long h) = New.too-long h
   mdf-refuses-to-in ε line number (M.bad-line size b) = New.bad-line size (mdf-bad-to-in ε mdf line number b) (mdf-bad-told-in mdf size ε line number b)
@@ -101,7 +102,7 @@ module _ (n : Network Field) (mdf : Bytes) (u : MissionLent) where
       let x = mdf-first-to-in n m mdf h ε line number f in
       New.bad-reference m size (mdf-to-in ε m mdf h) (mission-room-to m u room) x (mdf-fault-told-in mdf size ε n line number x)
 
-  pub mdf-refuses-back : (line number column : ℕ) → New.RefusesMdf present n mdf u line number column → M.RefusesMdf n mdf u line number
+  pub mdf-refuses-back : (line number column : ℕ) → Short.RefusesMdf present n mdf u line number column → M.RefusesMdf n mdf u line number
   mdf-refuses-back line number column (New.too-long h) = M.too-long h
   mdf-refuses-back line number column (New.bad-line size b x) = M.bad-line size (mdf-bad-back mdf line number b)
   mdf-refuses-back line number column (New.unended size x) = M.unended size (mdf-unended-back mdf line x)

@@ -15,7 +15,8 @@ use Rattle.rows.specs.Read.{stretchOf, segmentAt, laneAt, zoneAt, spotAt, point
 use Rattle.rows.specs.Name.{nameOf}
 use Rattle.filled_rows.specs.From.{From}
 use Rattle.law.specs.Network.{Network, Lane, Segment, Spot, Zone, Checkpoint, Exit, Position, present}
-use Rattle.law.specs.Tables.{Lent, filled, gather, along, lane-size, zone-size, zone-points, lane-points, first-zone-point, all-lanes, over-spots, row-of, first-point}
+use Rattle.law.specs.Tables.{Lent, filled, gather, lane-size, zone-size, zone-points, lane-points, first-zone-point, all-lanes, row-of, first-point}
+use Rattle.law.specs.Along.{along, over-spots}
 use Rattle.law.specs.Tables as Law
 use Rattle.law.specs.Faults.{Declared, Sound}
 use Rattle.grammar.specs.Tables.{tables, tables-with, point-row, segment-row, lane-row, zone-row, zone-rows-from, spot-row, checkpoint-row, spot-checkpoint, exit-row}
@@ -29,7 +30,8 @@ use Rattle.law_tables.proofs.SameTables.{counts-same}
 use Rattle.law_tables.proofs.NamesStand.{Given, NamesStand, asked, names-stand}
 use Rattle.house_text.specs.Names.{IsName, NetworkNames}
 use Rattle.house_text.proofs.Named.{rndf-names}
-use Rattle.replies.specs.Replies.{AcceptsRndf, rows-used, network-file}
+use Rattle.replies.specs.Replies.{rows-used, network-file}
+use Rattle.replies.specs.Short.{AcceptsRndf}
 use Rattle.output.specs.Packed.{bigEndian}
 use Rattle.packed_law.specs.Packed.{Slot, figure, angle, title, slot-bytes, laid, with-length, all-slots}
 use Rattle.packed_law.proofs.Told.{file-record, segment-records, lane-records, zone-records-from, zone-records, spot-records, point-records, checkpoint-record, checkpoint-records, stop-records, exit-record, exit-records, records, all-told}

@@ -4,8 +4,8 @@ use Prim.Native.Nat.{ℕ}
 use Rattle.terms.specs.Ascii.{Bytes}
 use Rattle.line.specs.Content.{Field}
 use Rattle.law.specs.Network.{Network, Mission, SpellsNetwork, SpellsMission, SpellsText, reading}
-use Rattle.law.specs.Tables.{Lent, MissionLent, HasRoom, MissionHasRoom}
-use Rattle.law.specs.Faults.{RndfFault, MdfFault, Sound, MissionFits, FirstFault}
+use Rattle.law.specs.Tables.{Lent, MissionLent}
+use Rattle.law.specs.Faults.{RndfFault, MdfFault, Sound, FirstFault}
 use Rattle.grammar.specs.Editions.{Edition, law-of}
 use Rattle.editions.proofs.Later.{later}
 use Rattle.text.proofs.Theorems.{one-rndf-in, one-mdf}
@@ -20,9 +20,10 @@ use Rattle.law_columns.proofs.Theorems.{rndf-column-bad-in, rndf-column-fault-i
 use Rattle.law_tables.proofs.SameFits.{fits-back}
 use Rattle.law_tables.proofs.RndfFirst.{rndf-first-back-in}
 use Rattle.law_tables.proofs.MdfFirst.{mdf-first-back-in}
+use Rattle.replies.specs.Replies.{an-rndf, an-mdf}
 use Rattle.replies.proofs.OneAnswer.{Alone}
 
-pub rndf-alone : (d : Edition) (text : Bytes) (t : Lent) → Alone (reading (law-of d)) SpellsNetwork (λ n. HasRoom n t) Sound RndfFault text
+pub rndf-alone : (d : Edition) (text : Bytes) (t : Lent) → Alone (reading (law-of d)) (an-rndf t) text
 rndf-alone d text t = record {
   one = same;
   bad-one = λ i k i′ k′ b b′. F.rndf-one-bad-line-in d text i k i′ k′ (rndf-bad-back-in d text i k b) (rndf-bad-back-in d text i′ k′ b′);
@@ -47,7 +48,7 @@ rndf-alone d text t = record {
     of-one n n′ s s′ i k = subst (λ (m : Network Field). FirstFault (reading (law-of d)) SpellsNetwork (RndfFault m) text i k) (sym (same n n′ s s′))
 
 -- n: the network of the RNDF, which was accepted before
-pub mdf-alone : (d : Edition) (n : Network Field) (text : Bytes) (u : MissionLent) → Alone (reading (law-of d)) SpellsMission (λ m. MissionHasRoom m u) (MissionFits n) (λ m. MdfFault n) text
+pub mdf-alone : (d : Edition) (n : Network Field) (text : Bytes) (u : MissionLent) → Alone (reading (law-of d)) (an-mdf n u) text
 mdf-alone d n text u = record {
   one = same;
   bad-one = λ i k i′ k′ b b′. F.mdf-one-bad-line text i k i′ k′ (mdf-bad-back-in d text i k b) (mdf-bad-back-in d text i′ k′ b′);

@@ -33,7 +33,8 @@ use Rattle.law_columns.proofs.Theorems.{rndf-column-bad-in, rndf-column-fault-i
 use Rattle.law_tables.proofs.SameFits.{fits-to}
 use Rattle.law_tables.proofs.RndfFirst.{rndf-first-to-in}
 use Rattle.law_tables.proofs.MdfFirst.{mdf-first-to-in}
-use Rattle.replies.specs.Replies.{longest, AcceptsRndf, RefusesRndf, AcceptsMdf, RefusesMdf, too-long, bad-line, unended, no-room, bad-reference}
+use Rattle.replies.specs.Replies.{longest, too-long, bad-line, unended, no-room, bad-reference}
+use Rattle.replies.specs.Short.{AcceptsRndf, RefusesRndf, AcceptsMdf, RefusesMdf}
 
 -- ## Room
 abbrev Decided : Type 0 → Type 0

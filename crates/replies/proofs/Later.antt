@@ -6,7 +6,7 @@ use Rattle.law.specs.Tables.{Lent, MissionLent}
 use Rattle.grammar.specs.Editions.{Edition, law-of}
 use Rattle.law_spelling.proofs.Texts.{rndf-to, rndf-back-in, mdf-to, mdf-back-in}
 use Rattle.editions.proofs.Later.{later}
-use Rattle.replies.specs.Replies.{AcceptsRndf, AcceptsMdf}
+use Rattle.replies.specs.Short.{AcceptsRndf, AcceptsMdf}
 
 pub accepts-later : (d : Edition) (text : Bytes) (t : Lent) (n : Network Field) → AcceptsRndf (reading (law-of d)) text t n → AcceptsRndf present text t n
 accepts-later d text t n a = record { size = a .size; spelled = rndf-to n text (later d n text (rndf-back-in d n text (a .spelled))); room = a .room; right = a .right }

@@ -1,36 +1,35 @@
 -- One file, RNDF or MDF: where each fault alone is settled, no text is accepted as two things, accepted and refused, or refused with two lines, numbers or columns. Assumes nothing.
 use mathlib.Core.Path.{_≡_, refl, sym, ap₂, subst, _∙_}
-use mathlib.Core.List.{List}
 use Prim.Native.Nat.{ℕ, _≤_, _<_}
 use native.Mathlib.Omega.{arith}
 use lib.ListN.{length}
 use Rattle.terms.specs.Ascii.{Bytes}
-use Rattle.law.specs.Network.{Line, SpellsText, Rules}
+use Rattle.law.specs.Network.{SpellsText, Rules}
 use Rattle.law.specs.Faults.{BadLine, Unended, FirstFault}
 use Rattle.law_columns.specs.Columns.{Column}
-use Rattle.replies.specs.Replies.{longest, Accepts, Refuses, too-long, bad-line, unended, no-room, bad-reference}
+use Rattle.replies.specs.Replies.{longest, File, Accepts, Refuses, too-long, bad-line, unended, no-room, bad-reference}
 
-module _ (rules : Rules) {Net : Type 0} (Spells : Rules → Net → List Line → Type 0) (Roomy Right : Net → Type 0) (Wrong : Net → List Line → Line → ℕ → Type 0) (text : Bytes) where
+module _ (rules : Rules) {Net : Type 0} (file : File Net) (text : Bytes) where
   pub record Alone : Type 0 where
-    pub one : (n n′ : Net) → SpellsText rules Spells n text → SpellsText rules Spells n′ text → n ≡ n′
-    pub bad-one : (i k i′ k′ : ℕ) → BadLine rules Spells text i k → BadLine rules Spells text i′ k′ → (i ≡ i′) × (k ≡ k′)
-    pub unended-one : (i i′ : ℕ) → Unended rules Spells text i → Unended rules Spells text i′ → i ≡ i′
-    pub bad-or-unended : (i k j : ℕ) → BadLine rules Spells text i k → Unended rules Spells text j → ⊥
-    pub bad-or-spelled : (i k : ℕ) (n : Net) → BadLine rules Spells text i k → SpellsText rules Spells n text → ⊥
-    pub unended-or-spelled : (i : ℕ) (n : Net) → Unended rules Spells text i → SpellsText rules Spells n text → ⊥
-    pub wrong-one : (n n′ : Net) → SpellsText rules Spells n text → SpellsText rules Spells n′ text → (i k i′ k′ : ℕ) → FirstFault rules Spells (Wrong n) text i k → FirstFault rules Spells (Wrong n′) text i′ k′ → (i ≡ i′) × (k ≡ k′)
+    pub one : (n n′ : Net) → SpellsText rules (file .Spells) n text → SpellsText rules (file .Spells) n′ text → n ≡ n′
+    pub bad-one : (i k i′ k′ : ℕ) → BadLine rules (file .Spells) text i k → BadLine rules (file .Spells) text i′ k′ → (i ≡ i′) × (k ≡ k′)
+    pub unended-one : (i i′ : ℕ) → Unended rules (file .Spells) text i → Unended rules (file .Spells) text i′ → i ≡ i′
+    pub bad-or-unended : (i k j : ℕ) → BadLine rules (file .Spells) text i k → Unended rules (file .Spells) text j → ⊥
+    pub bad-or-spelled : (i k : ℕ) (n : Net) → BadLine rules (file .Spells) text i k → SpellsText rules (file .Spells) n text → ⊥
+    pub unended-or-spelled : (i : ℕ) (n : Net) → Unended rules (file .Spells) text i → SpellsText rules (file .Spells) n text → ⊥
+    pub wrong-one : (n n′ : Net) → SpellsText rules (file .Spells) n text → SpellsText rules (file .Spells) n′ text → (i k i′ k′ : ℕ) → FirstFault rules (file .Spells) (file .Wrong n) text i k → FirstFault rules (file .Spells) (file .Wrong n′) text i′ k′ → (i ≡ i′) × (k ≡ k′)
     -- the column hangs on line and number alone
     pub column : (i k : ℕ) → ℕ
-    pub bad-column : (i k c : ℕ) (b : BadLine rules Spells text i k) → Column rules Spells (b .front) (b .this) k c → c ≡ column i k
-    pub wrong-column : (n : Net) (i k c : ℕ) (f : FirstFault rules Spells (Wrong n) text i k) → Column rules Spells (f .front) (f .at .this) k c → c ≡ column i k
-    pub wrong-or-right : (n n′ : Net) → SpellsText rules Spells n text → SpellsText rules Spells n′ text → (i k : ℕ) → FirstFault rules Spells (Wrong n) text i k → Right n′ → ⊥
+    pub bad-column : (i k c : ℕ) (b : BadLine rules (file .Spells) text i k) → Column rules (file .Spells) (b .front) (b .this) k c → c ≡ column i k
+    pub wrong-column : (n : Net) (i k c : ℕ) (f : FirstFault rules (file .Spells) (file .Wrong n) text i k) → Column rules (file .Spells) (f .front) (f .at .this) k c → c ≡ column i k
+    pub wrong-or-right : (n n′ : Net) → SpellsText rules (file .Spells) n text → SpellsText rules (file .Spells) n′ text → (i k : ℕ) → FirstFault rules (file .Spells) (file .Wrong n) text i k → file .Right n′ → ⊥
 
   module _ (s : Alone) where
     abbrev Taken : Net → Type 0
-    Taken = Accepts rules Spells Roomy Right Wrong text
+    Taken = Accepts rules file text
 
     abbrev Left : (line number column : ℕ) → Type 0
-    Left = Refuses rules Spells Roomy Right Wrong text
+    Left = Refuses rules file text
 
     sizes-clash : {X : Type 0} → longest < length text → length text ≤ longest → X
     sizes-clash a b = absurd (omega arith)
@@ -42,7 +41,7 @@ module _ (rules : Rules) {Net : Type 0} (Spells : Rules → Net → List Line �
     never-both n i k c a (too-long h) = sizes-clash h (a .size)
     never-both n i k c a (bad-line h b x) = s .bad-or-spelled i k n b (a .spelled)
     never-both n i k c a (unended h b) = s .unended-or-spelled i n b (a .spelled)
-    never-both n i k c a (no-room n′ h p r) = r (subst Roomy (s .one n n′ (a .spelled) p) (a .room))
+    never-both n i k c a (no-room n′ h p r) = r (subst (file .Roomy) (s .one n n′ (a .spelled) p) (a .room))
     never-both n i k c a (bad-reference n′ h p r f x) = s .wrong-or-right n′ n p (a .spelled) i k f (a .right)
 
     abbrev Equal : (i k c i′ k′ c′ : ℕ) → Type 0
@@ -72,9 +71,9 @@ module _ (rules : Rules) {Net : Type 0} (Spells : Rules → Net → List Line �
     refuses-one i k c i′ k′ c′ (no-room n h p r) (bad-line h′ b x′) = absurd (s .bad-or-spelled i′ k′ n b p)
     refuses-one i k c i′ k′ c′ (no-room n h p r) (unended h′ b) = absurd (s .unended-or-spelled i′ n b p)
     refuses-one i k c i′ k′ c′ (no-room n h p r) (no-room n′ h′ p′ r′) = (refl, refl, refl)
-    refuses-one i k c i′ k′ c′ (no-room n h p r) (bad-reference n′ h′ p′ r′ f x′) = absurd (r (subst Roomy (s .one n′ n p′ p) r′))
+    refuses-one i k c i′ k′ c′ (no-room n h p r) (bad-reference n′ h′ p′ r′ f x′) = absurd (r (subst (file .Roomy) (s .one n′ n p′ p) r′))
     refuses-one i k c i′ k′ c′ (bad-reference n h p r f x) (too-long h′) = sizes-clash h′ h
     refuses-one i k c i′ k′ c′ (bad-reference n h p r f x) (bad-line h′ b x′) = absurd (s .bad-or-spelled i′ k′ n b p)
     refuses-one i k c i′ k′ c′ (bad-reference n h p r f x) (unended h′ b) = absurd (s .unended-or-spelled i′ n b p)
-    refuses-one i k c i′ k′ c′ (bad-reference n h p r f x) (no-room n′ h′ p′ r′) = absurd (r′ (subst Roomy (s .one n n′ p p′) r))
+    refuses-one i k c i′ k′ c′ (bad-reference n h p r f x) (no-room n′ h′ p′ r′) = absurd (r′ (subst (file .Roomy) (s .one n n′ p p′) r))
     refuses-one i k c i′ k′ c′ (bad-reference n h p r f x) (bad-reference n′ h′ p′ r′ f′ x′) = by-column i k c i′ k′ c′ (s .wrong-column n i k c f x) (s .wrong-column n′ i′ k′ c′ f′ x′) (s .wrong-one n n′ p p′ i k i′ k′ f f′)

@@ -16,7 +16,8 @@ use Rattle.replies.specs.declared.RndfReply.{RndfReply}
 use Rattle.replies.specs.declared.RndfReply.the-variants as Reply
 use Rattle.replies.specs.declared.PairReply.{PairReply}
 use Rattle.replies.specs.declared.PairReply.the-variants as Pair
-use Rattle.replies.specs.Replies.{AcceptsRndf, AcceptsMdf, ReadsRndf, accepted, refused, ReadsPair, rndf-refused, mdf-refused}
+use Rattle.replies.specs.Replies.{ReadsRndf, accepted, refused, ReadsPair, rndf-refused, mdf-refused}
+use Rattle.replies.specs.Short.{AcceptsRndf, AcceptsMdf}
 
 pub never-both : {c : Counts} {file : FileRow} {why : Refusal} → Reply.Accepted c file ≡ Reply.Refused why → ⊥
 never-both e = let z : _≡_ {A = ℕ} 0 1 = cc in omega arith

@@ -5,15 +5,15 @@ use Prim.Native.Nat.{ℕ}
 use lib.ListN.{length}
 use Rattle.terms.specs.Ascii.{Bytes}
 use Rattle.line.specs.Content.{Field}
-use Rattle.law.specs.Network.{Network, Mission, SpellsNetwork, SpellsMission, reading}
+use Rattle.law.specs.Network.{Network, Mission, reading}
 use Rattle.grammar.specs.Editions.{Edition, law-of}
-use Rattle.law.specs.Tables.{Lent, MissionLent, HasRoom, MissionHasRoom, filled, mission-filled, zeros, mission-zeros}
-use Rattle.law.specs.Faults.{RndfFault, MdfFault, Sound, MissionFits}
+use Rattle.law.specs.Tables.{Lent, MissionLent, filled, mission-filled, zeros, mission-zeros}
 use Rattle.replies.specs.declared.RndfReply.{RndfReply}
 use Rattle.replies.specs.declared.RndfReply.the-variants as Reply
 use Rattle.replies.specs.declared.PairReply.{PairReply}
 use Rattle.replies.specs.declared.PairReply.the-variants as Pair
-use Rattle.replies.specs.Replies.{AcceptsRndf, RefusesRndf, AcceptsMdf, RefusesMdf, refusal, rows-used, network-file, mission-file, ReadsRndf, accepted, refused, ReadsPair, rndf-refused, mdf-refused}
+use Rattle.replies.specs.Replies.{an-rndf, an-mdf, refusal, rows-used, network-file, mission-file, ReadsRndf, accepted, refused, ReadsPair, rndf-refused, mdf-refused}
+use Rattle.replies.specs.Short.{AcceptsRndf, RefusesRndf, AcceptsMdf, RefusesMdf}
 use Rattle.replies.proofs.OneAnswer as One
 use Rattle.replies.proofs.Alone.{rndf-alone, mdf-alone}
 use Rattle.replies.proofs.Decided.{rndf-answered, mdf-answered}
@@ -21,23 +21,23 @@ use Rattle.replies.proofs.Decided.{rndf-answered, mdf-answered}
 -- ## One file
 module _ (d : Edition) (text : Bytes) (t : Lent) where
   pub rndf-accepts-one : (n n′ : Network Field) → AcceptsRndf (reading (law-of d)) text t n → AcceptsRndf (reading (law-of d)) text t n′ → n ≡ n′
-  rndf-accepts-one = One.accepts-one (reading (law-of d)) SpellsNetwork (λ n. HasRoom n t) Sound RndfFault text (rndf-alone d text t)
+  rndf-accepts-one = One.accepts-one (reading (law-of d)) (an-rndf t) text (rndf-alone d text t)
 
   pub rndf-never-both : (n : Network Field) (line number column : ℕ) → AcceptsRndf (reading (law-of d)) text t n → RefusesRndf (reading (law-of d)) text t line number column → ⊥
-  rndf-never-both = One.never-both (reading (law-of d)) SpellsNetwork (λ n. HasRoom n t) Sound RndfFault text (rndf-alone d text t)
+  rndf-never-both = One.never-both (reading (law-of d)) (an-rndf t) text (rndf-alone d text t)
 
   pub rndf-refuses-one : (line number column line′ number′ column′ : ℕ) → RefusesRndf (reading (law-of d)) text t line number column → RefusesRndf (reading (law-of d)) text t line′ number′ column′ → (line ≡ line′) × (number ≡ number′) × (column ≡ column′)
-  rndf-refuses-one = One.refuses-one (reading (law-of d)) SpellsNetwork (λ n. HasRoom n t) Sound RndfFault text (rndf-alone d text t)
+  rndf-refuses-one = One.refuses-one (reading (law-of d)) (an-rndf t) text (rndf-alone d text t)
 
 module _ (d : Edition) (n : Network Field) (text : Bytes) (u : MissionLent) where
   pub mdf-accepts-one : (m m′ : Mission Field) → AcceptsMdf (reading (law-of d)) n text u m → AcceptsMdf (reading (law-of d)) n text u m′ → m ≡ m′
-  mdf-accepts-one = One.accepts-one (reading (law-of d)) SpellsMission (λ m. MissionHasRoom m u) (MissionFits n) (λ m. MdfFault n) text (mdf-alone d n text u)
+  mdf-accepts-one = One.accepts-one (reading (law-of d)) (an-mdf n u) text (mdf-alone d n text u)
 
   pub mdf-never-both : (m : Mission Field) (line number column : ℕ) → AcceptsMdf (reading (law-of d)) n text u m → RefusesMdf (reading (law-of d)) n text u line number column → ⊥
-  mdf-never-both = One.never-both (reading (law-of d)) SpellsMission (λ m. MissionHasRoom m u) (MissionFits n) (λ m. MdfFault n) text (mdf-alone d n text u)
+  mdf-never-both = One.never-both (reading (law-of d)) (an-mdf n u) text (mdf-alone d n text u)
 
   pub mdf-refuses-one : (line number column line′ number′ column′ : ℕ) → RefusesMdf (reading (law-of d)) n text u line number column → RefusesMdf (reading (law-of d)) n text u line′ number′ column′ → (line ≡ line′) × (number ≡ number′) × (column ≡ column′)
-  mdf-refuses-one = One.refuses-one (reading (law-of d)) SpellsMission (λ m. MissionHasRoom m u) (MissionFits n) (λ m. MdfFault n) text (mdf-alone d n text u)
+  mdf-refuses-one = One.refuses-one (reading (law-of d)) (an-mdf n u) text (mdf-alone d n text u)
 
 -- ## An RNDF: no second reply, and no second memory
 pub rndf-settled : (d : Edition) (text : Bytes) (t : Lent) (r r′ : RndfReply) (l l′ : Lent) → ReadsRndf (reading (law-of d)) text t r l → ReadsRndf (reading (law-of d)) text t r′ l′ → (r ≡ r′) × (l ≡ l′)

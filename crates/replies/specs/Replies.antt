@@ -19,40 +19,37 @@ use Rattle.replies.specs.declared.PairReply.the-variants as Pair
 abbrev pub longest : ℕ
 longest = 16777215
 
--- ## One file: how it is spelled; whether there is room for what it spells, and its references are right; which lines have wrong ones
-module _ (rules : Rules) {Net : Type 0} (Spells : Rules → Net → List Line → Type 0) (Roomy Right : Net → Type 0) (Wrong : Net → List Line → Line → ℕ → Type 0) (text : Bytes) where
-  pub record Accepts (n : Net) : Type 0 where
-    pub size : length text ≤ longest
-    pub spelled : SpellsText rules Spells n text
-    pub room : Roomy n
-    pub right : Right n
+-- ## What a file is: how what it means is spelled; whether the lent tables have room for that; whether its references are right, and which lines have wrong ones
+pub record File (Meaning : Type 0) : Type 1 where
+  pub Spells : Rules → Meaning → List Line → Type 0
+  pub Roomy : Meaning → Type 0
+  pub Right : Meaning → Type 0
+  pub Wrong : Meaning → List Line → Line → ℕ → Type 0
 
-  -- 01: "Order: for the RNDF 1; then the first line with a fault of 2 to 9, ..; then 10; 11; then the first line with 12 or 13. Then the MDF likewise, 14 to 18 by first line"
-  -- L7: "Where the line is 0, for 10, .. it is 0": the column
+-- t: the tables as they were lent; u: those of the MDF; n: the network of the RNDF, which was accepted before; rules: those of the entry points are `reading` of the edition that the caller says (L10)
+abbrev pub an-rndf : Lent → File (Network Field)
+an-rndf t = record { Spells = SpellsNetwork; Roomy = λ n. HasRoom n t; Right = Sound; Wrong = RndfFault }
+
+abbrev pub an-mdf : Network Field → MissionLent → File (Mission Field)
+an-mdf n u = record { Spells = SpellsMission; Roomy = λ m. MissionHasRoom m u; Right = MissionFits n; Wrong = λ m. MdfFault n }
+
+module _ (rules : Rules) {Meaning : Type 0} (file : File Meaning) (text : Bytes) where
+  pub record Accepts (n : Meaning) : Type 0 where
+    pub size : length text ≤ longest
+    pub spelled : SpellsText rules (file .Spells) n text
+    pub room : file .Roomy n
+    pub right : file .Right n
+
+  -- 01: "Order: for the RNDF 1; then the first line with a fault of 2 to 9, ..; then 10; 11; then the first line with 12 or 13. Then the MDF likewise, 14 to 18 by first line"; L7: "Where the line is 0, for 10, .. it is 0": the column
+  -- Yard A with `exit>1.1.2>1.1.3` as its line 9 spells a network, there is room, and that line is the first with a wrong reference, the entry: Refuses 9 12 12
   pub data Refuses : (line number column : ℕ) → Type 0 where
     too-long : longest < length text → Refuses 0 1 0
-    bad-line : {line number column : ℕ} → length text ≤ longest → (bad : BadLine rules Spells text line number) → Column rules Spells (bad .front) (bad .this) number column → Refuses line number column
-    unended : {line : ℕ} → length text ≤ longest → Unended rules Spells text line → Refuses line 10 0
-    no-room : (n : Net) → length text ≤ longest → SpellsText rules Spells n text → (Roomy n → ⊥) → Refuses 0 11 0
-    bad-reference : (n : Net) {line number column : ℕ} → length text ≤ longest → SpellsText rules Spells n text → Roomy n → (bad : FirstFault rules Spells (Wrong n) text line number) → Column rules Spells (bad .front) (bad .at .this) number column → Refuses line number column
+    bad-line : {line number column : ℕ} → length text ≤ longest → (bad : BadLine rules (file .Spells) text line number) → Column rules (file .Spells) (bad .front) (bad .this) number column → Refuses line number column
+    unended : {line : ℕ} → length text ≤ longest → Unended rules (file .Spells) text line → Refuses line 10 0
+    no-room : (n : Meaning) → length text ≤ longest → SpellsText rules (file .Spells) n text → (file .Roomy n → ⊥) → Refuses 0 11 0
+    bad-reference : (n : Meaning) {line number column : ℕ} → length text ≤ longest → SpellsText rules (file .Spells) n text → file .Roomy n → (bad : FirstFault rules (file .Spells) (file .Wrong n) text line number) → Column rules (file .Spells) (bad .front) (bad .at .this) number column → Refuses line number column
 
--- rules: those of the entry points are `reading` of the edition that the caller says (L10); t: the tables as they were lent; u: those of the MDF; n: the network of the RNDF, which was accepted before
-module _ (rules : Rules) (text : Bytes) (t : Lent) where
-  abbrev pub AcceptsRndf : Network Field → Type 0
-  AcceptsRndf = Accepts rules SpellsNetwork (λ n. HasRoom n t) Sound RndfFault text
-
-  abbrev pub RefusesRndf : (line number column : ℕ) → Type 0
-  RefusesRndf = Refuses rules SpellsNetwork (λ n. HasRoom n t) Sound RndfFault text
-
-module _ (rules : Rules) (n : Network Field) (text : Bytes) (u : MissionLent) where
-  abbrev pub AcceptsMdf : Mission Field → Type 0
-  AcceptsMdf = Accepts rules SpellsMission (λ m. MissionHasRoom m u) (MissionFits n) (λ m. MdfFault n) text
-
-  abbrev pub RefusesMdf : (line number column : ℕ) → Type 0
-  RefusesMdf = Refuses rules SpellsMission (λ m. MissionHasRoom m u) (MissionFits n) (λ m. MdfFault n) text
-
--- ## What is replied
--- 01: "Each gives file (1 RNDF, 2 MDF), line, number."; L7: "Add a column to the refusal record"
+-- ## What is replied. 01: "Each gives file (1 RNDF, 2 MDF), line, number."; L7: "Add a column to the refusal record"
 abbrev pub refusal : (file line number column : ℕ) → Refusal
 refusal file line number column = record { file = file; line = line; number = number; column = column }
 
@@ -75,16 +72,16 @@ mission-file m = record { name = stretch (some (m .name)); rndf = stretch (some 
 -- ## An RNDF alone: the reply, and what is left in the lent tables
 pub data ReadsRndf (rules : Rules) (text : Bytes) (t : Lent) (reply : RndfReply) (left : Lent) : Type 0 where
   -- 01: "rows beyond are zero"
-  accepted : (n : Network Field) → AcceptsRndf rules text t n → reply ≡ Reply.Accepted (rows-used n) (network-file n) → left ≡ filled n t → ReadsRndf rules text t reply left
+  accepted : (n : Network Field) → Accepts rules (an-rndf t) text n → reply ≡ Reply.Accepted (rows-used n) (network-file n) → left ≡ filled n t → ReadsRndf rules text t reply left
   -- 01: "All lent tables .. are then zero over their whole length"
-  refused : (line number column : ℕ) → RefusesRndf rules text t line number column → reply ≡ Reply.Refused (refusal 1 line number column) → left ≡ zeros t → ReadsRndf rules text t reply left
+  refused : (line number column : ℕ) → Refuses rules (an-rndf t) text line number column → reply ≡ Reply.Refused (refusal 1 line number column) → left ≡ zeros t → ReadsRndf rules text t reply left
 
 -- ## An RNDF with its MDF
 pub data ReadsPair (rules : Rules) (rndf mdf : Bytes) (t : Lent) (u : MissionLent) (reply : PairReply) (left : Lent) (mission-left : MissionLent) : Type 0 where
-  accepted : (n : Network Field) (m : Mission Field) → AcceptsRndf rules rndf t n → AcceptsMdf rules n mdf u m → reply ≡ Pair.Accepted (rows-used n) (network-file n) (record { goals = length (m .goals); limits = length (m .limits) }) (mission-file m)
+  accepted : (n : Network Field) (m : Mission Field) → Accepts rules (an-rndf t) rndf n → Accepts rules (an-mdf n u) mdf m → reply ≡ Pair.Accepted (rows-used n) (network-file n) (record { goals = length (m .goals); limits = length (m .limits) }) (mission-file m)
       → left ≡ filled n t → mission-left ≡ mission-filled m u → ReadsPair rules rndf mdf t u reply left mission-left
   -- 01: "for the RNDF 1; ..": everything about the RNDF comes first
-  rndf-refused : (line number column : ℕ) → RefusesRndf rules rndf t line number column → reply ≡ Pair.Refused (refusal 1 line number column) → left ≡ zeros t → mission-left ≡ mission-zeros u → ReadsPair rules rndf mdf t u reply left mission-left
+  rndf-refused : (line number column : ℕ) → Refuses rules (an-rndf t) rndf line number column → reply ≡ Pair.Refused (refusal 1 line number column) → left ≡ zeros t → mission-left ≡ mission-zeros u → ReadsPair rules rndf mdf t u reply left mission-left
   -- 01: "Then the MDF likewise"
-  mdf-refused : (n : Network Field) (line number column : ℕ) → AcceptsRndf rules rndf t n → RefusesMdf rules n mdf u line number column → reply ≡ Pair.Refused (refusal 2 line number column)
+  mdf-refused : (n : Network Field) (line number column : ℕ) → Accepts rules (an-rndf t) rndf n → Refuses rules (an-mdf n u) mdf line number column → reply ≡ Pair.Refused (refusal 2 line number column)
       → left ≡ zeros t → mission-left ≡ mission-zeros u → ReadsPair rules rndf mdf t u reply left mission-left

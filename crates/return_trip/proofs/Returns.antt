@@ -30,7 +30,8 @@ use Rattle.replies.specs.declared.RndfReply.{RndfReply}
 use Rattle.replies.specs.declared.RndfReply.the-variants as Reply
 use Rattle.replies.specs.declared.PairReply.{PairReply}
 use Rattle.replies.specs.declared.PairReply.the-variants as Pair
-use Rattle.replies.specs.Replies.{longest, AcceptsRndf, AcceptsMdf, rows-used, network-file, mission-file, ReadsRndf, ReadsPair}
+use Rattle.replies.specs.Replies.{longest, rows-used, network-file, mission-file, ReadsRndf, ReadsPair}
+use Rattle.replies.specs.Short.{AcceptsRndf, AcceptsMdf}
 use Rattle.replies.proofs.Counted.{counts-are}
 use Rattle.promises.specs.Accepted.{mission-rows-used}
 use Rattle.promises.proofs.Keeping.{rndf-later}

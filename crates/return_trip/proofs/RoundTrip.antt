@@ -9,7 +9,8 @@ use Rattle.terms.specs.Ascii.{Bytes}
 use Rattle.terms.specs.Words.{Each}
 use Rattle.line.specs.Content.{Field}
 use Rattle.law.specs.Network.{Network, Mission, Lane, Segment, Perimeter, Spot, Zone, SpellsNetwork, SpellsMission, SpellsText}
-use Rattle.law.specs.Tables.{Lent, MissionLent, gather, along, name-words, first-spot, spot-points, first-zone-point, zone-size, zone-rows-from, zone-rows, holding, filled}
+use Rattle.law.specs.Tables.{Lent, MissionLent, gather, name-words, first-spot, spot-points, first-zone-point, zone-size, zone-rows, holding, filled}
+use Rattle.law.specs.Along.{along, zone-rows-from}
 use Rattle.law.specs.Faults.{Sound}
 use Rattle.edition.specs.declared.Edition.{Edition}
 use Rattle.edition.specs.Editions.{rules-of}

@@ -18,7 +18,8 @@ use Rattle.replies.specs.declared.RndfReply.{RndfReply}
 use Rattle.replies.specs.declared.RndfReply.the-variants as Reply
 use Rattle.replies.specs.declared.PairReply.{PairReply}
 use Rattle.replies.specs.declared.PairReply.the-variants as Pair
-use Rattle.replies.specs.Replies.{stretch, AcceptsRndf, rows-used, network-file, mission-file, ReadsRndf, ReadsPair}
+use Rattle.replies.specs.Replies.{stretch, rows-used, network-file, mission-file, ReadsRndf, ReadsPair}
+use Rattle.replies.specs.Short.{AcceptsRndf}
 use Rattle.replies.proofs.Said.{never-both, pair-never-both, counts-of, pair-counts-of, mission-counts-of}
 use Rattle.output.specs.Output.{Fits, padded}
 use Rattle.house_text.specs.House.{undated, mission-undated, HouseRndf, HouseMdf}

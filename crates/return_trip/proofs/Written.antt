@@ -17,7 +17,8 @@ use Rattle.counts.specs.declared.Counts.{Counts}
 use Rattle.counts.specs.declared.MissionCounts.{MissionCounts}
 use Rattle.replies.specs.declared.PairReply.{PairReply}
 use Rattle.replies.specs.declared.PairReply.the-variants as Pair
-use Rattle.replies.specs.Replies.{longest, AcceptsRndf, AcceptsMdf, rows-used, network-file, ReadsPair}
+use Rattle.replies.specs.Replies.{longest, rows-used, network-file, ReadsPair}
+use Rattle.replies.specs.Short.{AcceptsRndf, AcceptsMdf}
 use Rattle.writings.specs.declared.WriteReply.{WriteReply}
 use Rattle.writings.specs.declared.WriteReply.the-variants as Write
 use Rattle.writings.specs.declared.WriteMdfReply.{WriteMdfReply}

@@ -5,19 +5,19 @@ use Rattle.law.specs.Network.{Network, Mission, Rules}
 use Rattle.law.specs.Tables.{Lent, MissionLent}
 use Rattle.same.specs.Same.{SameNetwork, SameMission}
 use Rattle.house_text.specs.House.{undated, mission-undated}
-use Rattle.replies.specs.Replies.{AcceptsRndf, AcceptsMdf}
+use Rattle.replies.specs.Replies.{an-rndf, an-mdf, Accepts}
 
 -- rules: those by which it was accepted, so that the trip stays within its edition (L10)
 -- an RNDF alone: these bytes are accepted in these tables, and spell the same network again
 pub record RndfReturns (rules : Rules) (n : Network Field) (house : Bytes) (t : Lent) : Type 0 where
   pub again : Network Field
-  pub accepts : AcceptsRndf rules house t again
+  pub accepts : Accepts rules (an-rndf t) house again
   pub same : SameNetwork again (undated n)
 
 -- an MDF for a network
 pub record MdfReturns (rules : Rules) (n : Network Field) (m : Mission Field) (house : Bytes) (u : MissionLent) : Type 0 where
   pub again : Mission Field
-  pub accepts : AcceptsMdf rules n house u again
+  pub accepts : Accepts rules (an-mdf n u) house again
   pub same : SameMission again (mission-undated m)
 
 -- an RNDF with its MDF

@@ -17,7 +17,8 @@ use Rattle.counts.specs.declared.MissionCounts.{MissionCounts}
 use Rattle.refusal.specs.declared.Refusal.{Refusal}
 use Rattle.replies.specs.declared.PairReply.{PairReply}
 use Rattle.replies.specs.declared.PairReply.the-variants as Pair
-use Rattle.replies.specs.Replies.{AcceptsRndf, AcceptsMdf, refusal, rows-used, network-file, mission-file, ReadsPair, accepted, rndf-refused, mdf-refused}
+use Rattle.replies.specs.Replies.{refusal, rows-used, network-file, mission-file, ReadsPair, accepted, rndf-refused, mdf-refused}
+use Rattle.replies.specs.Short.{AcceptsRndf, AcceptsMdf}
 use Rattle.moves.specs.Moves.{is-move}
 use Rattle.move_tables.proofs.Theorem.{moves-are}
 use Rattle.route_law.specs.Moves.{Move, points-declared}

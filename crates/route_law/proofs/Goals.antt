@@ -7,7 +7,8 @@ use lib.ListN.{length}
 use Rattle.terms.specs.Words.{Among, Each, perhaps}
 use Rattle.line.specs.Line.{Field}
 use Rattle.law.specs.Network.{Checkpoint, Network, Mission}
-use Rattle.law.specs.Tables.{gather, along, over-spots, lane-size, zone-size, row-of, all-lanes, first-zone-point, checkpoint-rows}
+use Rattle.law.specs.Tables.{gather, lane-size, zone-size, row-of, all-lanes, first-zone-point, checkpoint-rows}
+use Rattle.law.specs.Along.{along, over-spots}
 use Rattle.law.specs.Faults.{Different, all-numbers}
 use Rattle.look_up.specs.Listed.{Paired}
 use Rattle.route_law.specs.Moves.{GoalPoints}

@@ -2,7 +2,8 @@
 use Rattle.terms.specs.Words.{_≡_, List, [], _∷_, ℕ, suc, _+_, _≤_, _<_, length, Among}
 use Rattle.line.specs.Line.{Field}
 use Rattle.law.specs.Network.{Network, Mission}
-use Rattle.law.specs.Tables.{along, all-lanes, lane-size, zone-size, first-zone-point, point-rows, checkpoint-rows, exit-rows}
+use Rattle.law.specs.Tables.{all-lanes, lane-size, zone-size, first-zone-point, point-rows, checkpoint-rows, exit-rows}
+use Rattle.law.specs.Along.{along}
 use Rattle.look_up.specs.Listed.{Paired}
 
 -- the points of one part, a lane or a zone: so many rows, from the first on

@@ -10,7 +10,8 @@ use Rattle.terms.specs.Words.{Each, perhaps}
 use Rattle.terms.proofs.Lists.{each-map, each-any, each-append}
 use Rattle.line.specs.Content.{Field}
 use Rattle.law.specs.Network.{Network, Zone, Spot, Checkpoint, Exit, Position}
-use Rattle.law.specs.Tables.{gather, along, total, lane-size, zone-size, all-lanes, zone-points, lane-points, first-zone-point, over-spots}
+use Rattle.law.specs.Tables.{gather, total, lane-size, zone-size, all-lanes, zone-points, lane-points, first-zone-point}
+use Rattle.law.specs.Along.{along, over-spots}
 use Rattle.grammar.specs.Names.{perhaps-name}
 use Rattle.grammar.proofs.Rows.{along-each, each-of-map}
 use Rattle.text.specs.Spelling.{bytes-of}

@@ -8,7 +8,8 @@ use Rattle.terms.specs.Ascii.{Bytes}
 use Rattle.terms.specs.Words.{perhaps}
 use Rattle.line.specs.Content.{Field}
 use Rattle.law.specs.Network.{Network, Lane, Segment, Zone, Position, Exit}
-use Rattle.law.specs.Tables.{segment-rows, lane-rows, zone-rows, spot-rows, point-rows, checkpoint-rows, stop-rows, feet, side, gather, along, total, lane-size, zone-size, row-of, first-spot, all-lanes, zone-points, lane-points, first-zone-point, over-spots, first-point}
+use Rattle.law.specs.Tables.{segment-rows, lane-rows, zone-rows, spot-rows, point-rows, checkpoint-rows, stop-rows, feet, side, gather, total, lane-size, zone-size, row-of, first-spot, all-lanes, zone-points, lane-points, first-zone-point, first-point}
+use Rattle.law.specs.Along.{along, over-spots}
 use Rattle.grammar.specs.Names.{perhaps-name, segment-named, zone-named, network-named}
 use Rattle.text.specs.Spelling.{Name, bytes, bytes-of}
 use Rattle.fill.specs.Counts.{Counts}

@@ -12,7 +12,8 @@ use Rattle.terms.specs.Words.{Each}
 use Rattle.terms.proofs.Lists.{each-map, each-append}
 use Rattle.line.specs.Content.{Field}
 use Rattle.law.specs.Network.{Network, Zone, OnEarth}
-use Rattle.law.specs.Tables.{gather, along, total, lane-size, zone-size, all-lanes, first-zone-point, first-spot}
+use Rattle.law.specs.Tables.{gather, total, lane-size, zone-size, all-lanes, first-zone-point, first-spot}
+use Rattle.law.specs.Along.{along}
 use Rattle.law.specs.Faults.{Sound}
 use Rattle.grammar.specs.HouseOrder.{GoodNetwork, GoodSegment, GoodZone}
 use Rattle.grammar.specs.Network.{GoodLane}

@@ -15,7 +15,8 @@ use Rattle.terms.proofs.Lists.{each-map, each-any, each-append}
 use Rattle.line.specs.Content.{Field}
 use Rattle.rows.specs.Name.{nameOf}
 use Rattle.law.specs.Network.{Network, Segment, Zone}
-use Rattle.law.specs.Tables.{gather, along, total, lane-size, zone-size, all-lanes, zone-points, lane-points, first-zone-point, first-spot, over-spots}
+use Rattle.law.specs.Tables.{gather, total, lane-size, zone-size, all-lanes, zone-points, lane-points, first-zone-point, first-spot}
+use Rattle.law.specs.Along.{along, over-spots}
 use Rattle.grammar.specs.Names.{perhaps-name, segment-named, zone-named, network-named}
 use Rattle.grammar.proofs.Rows.{along-each, each-of-map}
 use Rattle.text.specs.Spelling.{Name, bytes-of}

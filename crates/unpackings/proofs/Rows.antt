@@ -10,7 +10,8 @@ use Rattle.terms.specs.Words.{Each, perhaps}
 use Rattle.terms.proofs.Lists.{each-any}
 use Rattle.line.specs.Content.{Field}
 use Rattle.law.specs.Network.{Network, Zone, Spot, Checkpoint, Exit, Position}
-use Rattle.law.specs.Tables.{feet, side, gather, along, lane-size, zone-size, row-of, first-spot, all-lanes, zone-points, lane-points, first-zone-point, over-spots, first-point}
+use Rattle.law.specs.Tables.{feet, side, gather, lane-size, zone-size, row-of, first-spot, all-lanes, zone-points, lane-points, first-zone-point, first-point}
+use Rattle.law.specs.Along.{along, over-spots}
 use Rattle.law.specs.Faults.{Declared, Sound}
 use Rattle.grammar.specs.Tables.{FileRow, SegmentRow, LaneRow, ZoneRow, SpotRow, CheckpointRow, ExitRow, Tables, tables, tables-with, point-row, segment-row, lane-row, zone-row, zone-rows-from, spot-row, checkpoint-row, spot-checkpoint, exit-row}
 use Rattle.grammar.proofs.Rows.{cut-at, each-front, each-behind, each-gather}

@@ -11,7 +11,8 @@ use Rattle.terms.specs.Words.{Each}
 use Rattle.terms.proofs.Lists.{each-map}
 use Rattle.line.specs.Content.{Field}
 use Rattle.law.specs.Network.{Network, Segment, Zone, SpellsNetwork, SpellsText}
-use Rattle.law.specs.Tables.{Lent, HasRoom, filled, gather, along, lane-size, zone-size, first-zone-point, first-spot}
+use Rattle.law.specs.Tables.{Lent, HasRoom, filled, gather, lane-size, zone-size, first-zone-point, first-spot}
+use Rattle.law.specs.Along.{along}
 use Rattle.law.specs.Faults.{Declared, waypoint, border, Sound}
 use Rattle.law.specs.Network.{PointId}
 use Rattle.law.specs.Tables.{all-lanes}
@@ -34,7 +35,8 @@ use Rattle.refusal.specs.declared.Refusal.{Refusal}
 use Rattle.replies.specs.declared.RndfReply.{RndfReply}
 use Rattle.replies.specs.declared.RndfReply.the-variants as Reply
 use Rattle.rows.specs.Name.{nameOf}
-use Rattle.replies.specs.Replies.{longest, stretch, rows-used, network-file, AcceptsRndf, ReadsRndf}
+use Rattle.replies.specs.Replies.{longest, stretch, rows-used, network-file, ReadsRndf}
+use Rattle.replies.specs.Short.{AcceptsRndf}
 use Rattle.promises.specs.Accepted.{NamesAsked}
 use Rattle.promises.specs.Accepted as A
 use Rattle.promises.proofs.Keeping.{rndf-later}

@@ -12,7 +12,8 @@ use Rattle.edition.specs.Editions.{inner, rules-of}
 use Rattle.law.specs.Tables.{Lent, MissionLent, zeros, mission-zeros, filled}
 use Rattle.replies.specs.declared.RndfReply.the-variants as Rndf
 use Rattle.replies.specs.declared.PairReply.the-variants as Pair
-use Rattle.replies.specs.Replies.{AcceptsRndf, RefusesRndf, RefusesMdf, refusal, rows-used, network-file, accepted, refused, rndf-refused, mdf-refused}
+use Rattle.replies.specs.Replies.{refusal, rows-used, network-file, accepted, refused, rndf-refused, mdf-refused}
+use Rattle.replies.specs.Short.{AcceptsRndf, RefusesRndf, RefusesMdf}
 use Rattle.replies.proofs.Settled.{rndf-settled, pair-settled}
 use Rattle.output.specs.Pen.{pen, Wrote}
 use Rattle.output.proofs.Writing.{same}
