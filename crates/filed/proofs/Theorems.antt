@@ -25,7 +25,7 @@ use Rattle.counts.specs.declared.Counts.{Counts}
 use Rattle.counts.specs.declared.MissionCounts.{MissionCounts}
 use Rattle.replies.specs.declared.RndfReply.the-variants as Reply
 use Rattle.replies.specs.declared.PairReply.the-variants as Pair
-use Rattle.replies.specs.Replies.{rows-used, network-file, accepted}
+use Rattle.replies.specs.Replies.{rows-used, network-file, mission-file}
 use Rattle.replies.specs.Short.{AcceptsRndf, AcceptsMdf}
 use Rattle.replies.proofs.Said.{never-both, pair-never-both}
 use Rattle.writings.specs.declared.WriteReply.{WriteReply}
@@ -38,8 +38,8 @@ use Rattle.writings.proofs.Said.{wrote-or-not, mdf-wrote-or-not}
 use Rattle.promises.specs.Accepted.{mission-rows-used}
 use Rattle.promises.proofs.Forms.{one-spelled, one-mission}
 use Rattle.promises.proofs.Keeping.{rndf-later}
-use Rattle.promises.proofs.Promises.{accepted-spelled, spelled-accepted}
-use Rattle.promises.proofs.PairPromises.{pair-accepted-spelled, spelled-pair-accepted}
+use Rattle.promises.proofs.Promises.{spelled-accepted}
+use Rattle.promises.proofs.PairPromises.{spelled-pair-accepted}
 use Rattle.return_trip.specs.ReadBack.{RoomFor, MissionRoomFor}
 use Rattle.return_trip.proofs.Written.{RndfWritten, rndf-written, MdfWritten, mdf-written}
 use Rattle.return_trip.proofs.Writings.{rndf-written-again, mdf-written-again}
@@ -135,21 +135,18 @@ module _ (edition : Edition) (text : Bytes) (t : Lent) (lent : ℕ) where
   fits-written : (reply : WriteReply) (left : Lent) (out writing : Bytes) → WritesRndf (rules-of edition) text t lent reply left out → (n : Network Field) × AcceptsRndf (rules-of edition) text t n × HouseRndf n writing × Fits lent writing
       → (c : Counts) × (file : FileRow) × (reply ≡ Write.Written c file (length writing)) × (out ≡ padded lent writing)
   fits-written reply left out writing (W.refused why r e z) (n, a, g, f) = absurd (never-both (sym (spelled-accepted edition text t (Reply.Refused why) left r n a .0)))
-  fits-written reply left out writing (W.too-long n′ w c file read r s g′ f′ e p z) (n, a, g, f) =
-      let q : writing ≡ w = house-rndf-only n writing g ∙ ap house-rndf (one-spelled edition text n n′ (a .spelled) s) ∙ sym (house-rndf-only n′ w g′) in
+  fits-written reply left out writing (W.too-long y f′ e p z) (n, a, g, f) =
+      let q : writing ≡ y .writing = house-rndf-only n writing g ∙ ap house-rndf (one-spelled edition text n (y .meant) (a .spelled) (y .accepted .spelled)) ∙ sym (house-rndf-only (y .meant) (y .writing) (y .wrote)) in
       absurd (f′ (subst (Fits lent) q f))
-  fits-written reply left out writing (W.written n′ w c file r s g′ f′ e z) (n, a, g, f) =
-      let q : w ≡ writing = house-rndf-only n′ w g′ ∙ ap house-rndf (one-spelled edition text n′ n s (a .spelled)) ∙ sym (house-rndf-only n writing g) in
-      (c, file, e ∙ ap (λ (x : Bytes). Write.Written c file (length x)) q, z ∙ ap (padded lent) q)
+  fits-written reply left out writing (W.written y f′ e p z) (n, a, g, f) =
+      let q : y .writing ≡ writing = house-rndf-only (y .meant) (y .writing) (y .wrote) ∙ ap house-rndf (one-spelled edition text (y .meant) n (y .accepted .spelled) (a .spelled)) ∙ sym (house-rndf-only n writing g) in
+      (rows-used (y .meant), network-file (y .meant), e ∙ ap (λ (x : Bytes). Write.Written (rows-used (y .meant)) (network-file (y .meant)) (length x)) q, z ∙ ap (padded lent) q)
 
   written-fits : (reply : WriteReply) (left : Lent) (out writing : Bytes) → WritesRndf (rules-of edition) text t lent reply left out → (c : Counts) × (file : FileRow) × (reply ≡ Write.Written c file (length writing)) × (out ≡ padded lent writing)
       → (n : Network Field) × AcceptsRndf (rules-of edition) text t n × HouseRndf n writing × Fits lent writing
   written-fits reply left out writing (W.refused why r e z) (c, file, p, q) = absurd (wrote-or-not (sym p ∙ e))
-  written-fits reply left out writing (W.too-long n w c′ file′ read r s g f e o z) (c, file, p, q) = absurd (wrote-or-not (sym p ∙ e))
-  written-fits reply left out writing (W.written n w c′ file′ r s g f e z) (c, file, p, q) =
-      let k = one-held lent w writing out (ap long-in (sym e ∙ p)) z q in
-      let a = accepted-spelled edition text t c′ file′ left r in
-      (n, subst (AcceptsRndf (rules-of edition) text t) (one-spelled edition text (a .0) n (a .1 .spelled) s) (a .1), subst (HouseRndf n) k g, subst (Fits lent) k f)
+  written-fits reply left out writing (W.too-long y f e o z) (c, file, p, q) = absurd (wrote-or-not (sym p ∙ e))
+  written-fits reply left out writing (W.written y f e o z) (c, file, p, q) = let k = one-held lent (y .writing) writing out (ap long-in (sym e ∙ p)) z q in (y .meant, y .accepted, subst (HouseRndf (y .meant)) k (y .wrote), subst (Fits lent) k f)
 
 -- so that such a text is filed
 pub is-filed : (edition : Edition) (text : Bytes) (t : Lent) (n : Network Field) (lent : ℕ) (writing : Bytes) → AcceptsRndf (rules-of edition) text t n → HouseRndf n writing → Fits lent writing → Filed (rules-of edition) text writing
@@ -160,7 +157,7 @@ is-filed edition text t n lent writing a g f = record {
   file = network-file n;
   left = Tables.filled n t;
   out = padded lent writing;
-  writes = W.written n writing (rows-used n) (network-file n) (accepted n a refl refl) (a .spelled) g f refl refl;
+  writes = W.written (record { meant = n; accepted = a; writing = writing; wrote = g }) f refl refl refl;
   is = sym (take-at writing (zero-bytes (lent - length writing)) (length writing) refl);
 }
 
@@ -172,22 +169,22 @@ module _ (edition : Edition) (rndf mdf : Bytes) (t : Lent) (u : MissionLent) (le
       → (n : Network Field) × (m : Mission Field) × AcceptsRndf (rules-of edition) rndf t n × AcceptsMdf (rules-of edition) n mdf u m × HouseMdf m writing × Fits lent writing
       → (c : Counts) × (file : FileRow) × (d : MissionCounts) × (own : MissionFileRow) × (reply ≡ WriteMdf.Written c file d own (length writing)) × (out ≡ padded lent writing)
   mission-fits-written reply left mission-left out writing (W.refused why r e z) (n, m, a, b, g, f) = absurd (pair-never-both (sym (spelled-pair-accepted edition rndf mdf t u (Pair.Refused why) left mission-left r n m a b .0)))
-  mission-fits-written reply left mission-left out writing (W.too-long m′ w c file d own read mission-read r s g′ f′ e p p′ z) (n, m, a, b, g, f) =
-      let q : writing ≡ w = house-mdf-only m writing g ∙ ap house-mdf (one-mission edition mdf m m′ (b .spelled) s) ∙ sym (house-mdf-only m′ w g′) in
+  mission-fits-written reply left mission-left out writing (W.too-long n′ a′ y f′ e p p′ z) (n, m, a, b, g, f) =
+      let q : writing ≡ y .writing = house-mdf-only m writing g ∙ ap house-mdf (one-mission edition mdf m (y .meant) (b .spelled) (y .accepted .spelled)) ∙ sym (house-mdf-only (y .meant) (y .writing) (y .wrote)) in
       absurd (f′ (subst (Fits lent) q f))
-  mission-fits-written reply left mission-left out writing (W.written m′ w c file d own r s g′ f′ e z) (n, m, a, b, g, f) =
-      let q : w ≡ writing = house-mdf-only m′ w g′ ∙ ap house-mdf (one-mission edition mdf m′ m s (b .spelled)) ∙ sym (house-mdf-only m writing g) in
-      (c, file, d, own, e ∙ ap (λ (x : Bytes). WriteMdf.Written c file d own (length x)) q, z ∙ ap (padded lent) q)
+  mission-fits-written reply left mission-left out writing (W.written n′ a′ y f′ e p p′ z) (n, m, a, b, g, f) =
+      let m′ = y .meant in
+      let q : y .writing ≡ writing = house-mdf-only m′ (y .writing) (y .wrote) ∙ ap house-mdf (one-mission edition mdf m′ m (y .accepted .spelled) (b .spelled)) ∙ sym (house-mdf-only m writing g) in
+      (rows-used n′, network-file n′, mission-rows-used m′, mission-file m′, e ∙ ap (λ (x : Bytes). WriteMdf.Written (rows-used n′) (network-file n′) (mission-rows-used m′) (mission-file m′) (length x)) q, z ∙ ap (padded lent) q)
 
   mission-written-fits : (reply : WriteMdfReply) (left : Lent) (mission-left : MissionLent) (out writing : Bytes) → WritesMdf (rules-of edition) rndf mdf t u lent reply left mission-left out
       → (c : Counts) × (file : FileRow) × (d : MissionCounts) × (own : MissionFileRow) × (reply ≡ WriteMdf.Written c file d own (length writing)) × (out ≡ padded lent writing)
       → (n : Network Field) × (m : Mission Field) × AcceptsRndf (rules-of edition) rndf t n × AcceptsMdf (rules-of edition) n mdf u m × HouseMdf m writing × Fits lent writing
   mission-written-fits reply left mission-left out writing (W.refused why r e z) (c, file, d, own, p, q) = absurd (mdf-wrote-or-not (sym p ∙ e))
-  mission-written-fits reply left mission-left out writing (W.too-long m w c′ file′ d′ own′ read mission-read r s g f e o o′ z) (c, file, d, own, p, q) = absurd (mdf-wrote-or-not (sym p ∙ e))
-  mission-written-fits reply left mission-left out writing (W.written m w c′ file′ d′ own′ r s g f e z) (c, file, d, own, p, q) =
-      let k = one-held lent w writing out (ap mdf-long-in (sym e ∙ p)) z q in
-      let a = pair-accepted-spelled edition rndf mdf t u c′ file′ d′ own′ left mission-left r in
-      (a .net, m, a .network-accepted, subst (AcceptsMdf (rules-of edition) (a .net) mdf u) (one-mission edition mdf (a .mission) m (a .mission-accepted .spelled) s) (a .mission-accepted), subst (HouseMdf m) k g, subst (Fits lent) k f)
+  mission-written-fits reply left mission-left out writing (W.too-long n a y f e o o′ z) (c, file, d, own, p, q) = absurd (mdf-wrote-or-not (sym p ∙ e))
+  mission-written-fits reply left mission-left out writing (W.written n a y f e o o′ z) (c, file, d, own, p, q) =
+      let k = one-held lent (y .writing) writing out (ap mdf-long-in (sym e ∙ p)) z q in
+      (n, y .meant, a, y .accepted, subst (HouseMdf (y .meant)) k (y .wrote), subst (Fits lent) k f)
 
 pub mission-written-if-fits : (edition : Edition) → MissionWrittenIfFits (rules-of edition)
 mission-written-if-fits edition rndf mdf t u lent reply left mission-left out h writing = (mission-fits-written edition rndf mdf t u lent reply left mission-left out writing h, mission-written-fits edition rndf mdf t u lent reply left mission-left out writing h)
@@ -206,14 +203,14 @@ so lent k w out e h z = (subst (λ (j : ℕ). j ≤ lent) (sym e) h, z ∙ ap (p
 
 fits-so : (edition : Edition) (text : Bytes) (t left : Lent) (lent : ℕ) (c : Counts) (file : FileRow) (k : ℕ) (out : Bytes) → WritesRndf (rules-of edition) text t lent (Write.Written c file k) left out → (k ≤ lent) × (out ≡ padded lent (take k out))
 fits-so edition text t left lent c file k out (W.refused why h e z) = absurd (wrote-or-not e)
-fits-so edition text t left lent c file k out (W.too-long n w c′ file′ l h s g f e p z) = absurd (wrote-or-not e)
-fits-so edition text t left lent c file k out (W.written n w c′ file′ h s g f e z) = so lent k w out (ap long-in e) (f .room) z
+fits-so edition text t left lent c file k out (W.too-long y f e p z) = absurd (wrote-or-not e)
+fits-so edition text t left lent c file k out (W.written y f e p z) = so lent k (y .writing) out (ap long-in e) (f .room) z
 
 mdf-fits-so : (edition : Edition) (rndf mdf : Bytes) (t left : Lent) (u mission-left : MissionLent) (lent : ℕ) (c : Counts) (file : FileRow) (d : MissionCounts) (own : MissionFileRow) (k : ℕ) (out : Bytes)
     → WritesMdf (rules-of edition) rndf mdf t u lent (WriteMdf.Written c file d own k) left mission-left out → (k ≤ lent) × (out ≡ padded lent (take k out))
 mdf-fits-so edition rndf mdf t left u mission-left lent c file d own k out (W.refused why h e z) = absurd (mdf-wrote-or-not e)
-mdf-fits-so edition rndf mdf t left u mission-left lent c file d own k out (W.too-long m w c′ file′ d′ own′ l l′ h s g f e p q z) = absurd (mdf-wrote-or-not e)
-mdf-fits-so edition rndf mdf t left u mission-left lent c file d own k out (W.written m w c′ file′ d′ own′ h s g f e z) = so lent k w out (ap mdf-long-in e) (f .room) z
+mdf-fits-so edition rndf mdf t left u mission-left lent c file d own k out (W.too-long n a y f e p q z) = absurd (mdf-wrote-or-not e)
+mdf-fits-so edition rndf mdf t left u mission-left lent c file d own k out (W.written n a y f e p q z) = so lent k (y .writing) out (ap mdf-long-in e) (f .room) z
 
 pub written-again : (edition : Edition) → WrittenAgain (rules-of edition)
 written-again edition text writing w reply left′ out′ v =

@@ -19,7 +19,7 @@ use Rattle.counts.specs.declared.Counts.{Counts}
 use Rattle.refusal.specs.declared.Refusal.{Refusal}
 use Rattle.replies.specs.declared.RndfReply.{RndfReply}
 use Rattle.replies.specs.declared.RndfReply.the-variants as Reply
-use Rattle.replies.specs.Replies.{refusal, rows-used, ReadsRndf}
+use Rattle.replies.specs.Replies.{an-rndf, refusal, rows-used, ReadsRndf}
 use Rattle.replies.specs.Short.{AcceptsRndf}
 use Rattle.replies.specs.Replies as R
 use Rattle.replies.proofs.Later.{accepts-later}
@@ -37,8 +37,9 @@ use Rattle.records.specs.Put.{all-put, form-put}
 use Rattle.record_tables.proofs.Theorem.{form-packed}
 use Rattle.writings.specs.declared.WriteReply.{WriteReply}
 use Rattle.writings.specs.declared.WriteReply.the-variants as Write
-use Rattle.writings.specs.Writes.{WritesPacked}
+use Rattle.writings.specs.Writes.{AcceptedText, PackedOf, WritesPacked}
 use Rattle.writings.specs.Writes as W
+use Rattle.writings.proofs.Told as Told
 use Rattle.packer.specs.Answers.{whole, Answers}
 use Rattle.packer.specs.Answers as A
 
@@ -123,6 +124,9 @@ module _ (ed : Edition) (text : Bytes) (t left : Lent) (read : RndfReply) (lent 
   told : (r : RndfReply) → read ≡ r → ReadsRndf (rules-of ed) text t r left
   told r e = subst (λ (y : RndfReply). ReadsRndf (rules-of ed) text t y left) e h
 
+  yard : (n : Network Field) → AcceptsRndf (rules-of ed) text t n → AcceptedText (rules-of ed) (an-rndf t) PackedOf text
+  yard n a = record { meant = n; accepted = a; writing = packed-form n; wrote = refl }
+
   -- written: the tables hold what the reader left
   pub written-so : (c : Counts) (file : FileRow) (k : ℕ) → Answers read lent (behind text left lent) out (Write.Written c file k) → WritesPacked (rules-of ed) text t lent (Write.Written c file k) left out
   written-so c file k (A.as-read why e a o) = absurd (wrote-or-not a)
@@ -131,7 +135,7 @@ module _ (ed : Edition) (text : Bytes) (t left : Lent) (read : RndfReply) (lent 
       let y = told (Reply.Accepted c′ file′) e in
       let d = packing-so ed text t left c′ file′ y in
       let w = answered-written (ended-so lent d f) in
-      W.written (d .net) (packed-form (d .net)) c′ file′ y (d .accepts .spelled) refl (w .0) (a ∙ ap (Write.Written c′ file′) (w .1)) (w .2)
+      Told.written-so (inner ed) text t c′ file′ left y PackedOf (yard (d .net) (d .accepts)) lent (Write.Written c file k) out (w .0) (a ∙ ap (Write.Written c′ file′) (w .1)) (w .2)
 
   -- refused: the tables that the reader left are cleared
   pub refused-so : (why : Refusal) (cleared : Lent) → Answers read lent (behind text left lent) out (Write.Refused why) → cleared ≡ zeros left → zeros left ≡ zeros t → WritesPacked (rules-of ed) text t lent (Write.Refused why) cleared out
@@ -142,5 +146,5 @@ module _ (ed : Edition) (text : Bytes) (t left : Lent) (read : RndfReply) (lent 
       let y = told (Reply.Accepted c file) e in
       let d = packing-so ed text t left c file y in
       let w = answered-too-long (ended-so lent d f) in
-      W.too-long (d .net) (packed-form (d .net)) c file left y (d .accepts .spelled) refl (w .0) a (z ∙ k) (w .1)
+      W.too-long (yard (d .net) (d .accepts)) (w .0) a (z ∙ k) (w .1)
   refused-so why cleared (A.wrote c file k′ e f a) z k = absurd (wrote-or-not (sym a))

@@ -18,7 +18,7 @@ use Rattle.replies.specs.declared.RndfReply.{RndfReply}
 use Rattle.replies.specs.declared.RndfReply.the-variants as Reply
 use Rattle.replies.specs.declared.PairReply.{PairReply}
 use Rattle.replies.specs.declared.PairReply.the-variants as Pair
-use Rattle.replies.specs.Replies.{stretch, rows-used, network-file, mission-file, ReadsRndf, ReadsPair}
+use Rattle.replies.specs.Replies.{stretch, rows-used, network-file, mission-file, ReadsRndf, ReadsPair, accepted}
 use Rattle.replies.specs.Short.{AcceptsRndf}
 use Rattle.replies.proofs.Said.{never-both, pair-never-both, counts-of, pair-counts-of, mission-counts-of}
 use Rattle.output.specs.Output.{Fits, padded}
@@ -35,6 +35,7 @@ use Rattle.writings.specs.declared.WriteMdfReply.{WriteMdfReply}
 use Rattle.writings.specs.declared.WriteMdfReply.the-variants as WriteMdf
 use Rattle.writings.specs.Writes.{WritesRndf, WritesMdf}
 use Rattle.writings.specs.Writes as W
+use Rattle.writings.proofs.Read.{pair-reply}
 use Rattle.promises.specs.Accepted.{mission-rows-used}
 use Rattle.promises.proofs.Keeping.{rndf-later}
 use Rattle.promises.proofs.Forms.{one-spelled}
@@ -100,11 +101,12 @@ module _ (edition : Edition) where
 
         go : WritesRndf (rules-of edition) (take k out) t′ lent′ reply left′ out′ → ((row : FileRow) × (reply ≡ Write.Written c row k)) × (out′ ≡ padded lent′ (take k out))
         go (W.refused why h e z) = absurd (never-both (sym (rndf-comes-back t′ left′ (Reply.Refused why) room h .replied)))
-        go (W.too-long n′ writing′ c′ file′ l h s g f e p z) = absurd (f (subst (Fits lent′) (sym (same n′ writing′ s g)) (record { size = What .size; room = subst (λ (y : ℕ). y ≤ lent′) (What .long) long })))
-        go (W.written n′ writing′ c′ file′ h s g f e z) =
-            let q = same n′ writing′ s g in
-            let b = rndf-comes-back t′ left′ (Reply.Accepted c′ file′) room h in
-            ((file′, e ∙ ap₂ (λ (x : Counts) (y : ℕ). Write.Written x file′ y) (ap (counts-of c) (b .replied)) (ap length q ∙ sym (What .long))), z ∙ ap (padded lent′) (q ∙ sym (What .first)))
+        go (W.too-long y f e p z) = absurd (f (subst (Fits lent′) (sym (same (y .meant) (y .writing) (y .accepted .spelled) (y .wrote))) (record { size = What .size; room = subst (λ (y : ℕ). y ≤ lent′) (What .long) long })))
+        go (W.written y f e p z) =
+            let n′ = y .meant in
+            let q = same n′ (y .writing) (y .accepted .spelled) (y .wrote) in
+            let b = rndf-comes-back t′ left′ (Reply.Accepted (rows-used n′) (network-file n′)) room (accepted n′ (y .accepted) refl p) in
+            ((network-file n′, e ∙ ap₂ (λ (x : Counts) (k′ : ℕ). Write.Written x (network-file n′) k′) (ap (counts-of c) (b .replied)) (ap length q ∙ sym (What .long))), z ∙ ap (padded lent′) (q ∙ sym (What .first)))
 
   -- ## The MDF of a pair
   module _ (rndf mdf : Bytes) (t left : Lent) (u mission-left : MissionLent) (lent : ℕ) (c : Counts) (file : FileRow) (d : MissionCounts) (row : MissionFileRow) (k : ℕ) (out : Bytes)
@@ -159,9 +161,9 @@ module _ (edition : Edition) where
 
         go : WritesMdf (rules-of edition) rndf (take k out) t′ u′ lent′ reply left′ mission-left′ out′ → ((file′ : FileRow) × (row′ : MissionFileRow) × (reply ≡ WriteMdf.Written c file′ d row′ k)) × (out′ ≡ padded lent′ (take k out))
         go (W.refused why h e z) = absurd (pair-never-both (sym (mdf-comes-back t′ left′ u′ mission-left′ (Pair.Refused why) room mission-room h .replied)))
-        go (W.too-long m′ writing′ c′ file′ d′ row′ l l′ h s g f e p q z) = absurd (f (subst (Fits lent′) (sym (same m′ writing′ s g)) (record { size = Whole .size; room = subst (λ (y : ℕ). y ≤ lent′) (Whole .long) long })))
-        go (W.written m′ writing′ c′ file′ d′ row′ h s g f e z) =
-            let q = same m′ writing′ s g in
-            let b = mdf-comes-back t′ left′ u′ mission-left′ (Pair.Accepted c′ file′ d′ row′) room mission-room h in
-            let y = ap length q ∙ sym (Whole .long) in
-            ((file′, row′, e ∙ (λ i. WriteMdf.Written (pair-counts-of c (b .replied i)) file′ (mission-counts-of d (b .replied i)) row′ (y i))), z ∙ ap (padded lent′) (q ∙ sym (Whole .first)))
+        go (W.too-long n′ a′ y f e p q z) = absurd (f (subst (Fits lent′) (sym (same (y .meant) (y .writing) (y .accepted .spelled) (y .wrote))) (record { size = Whole .size; room = subst (λ (y : ℕ). y ≤ lent′) (Whole .long) long })))
+        go (W.written n′ a′ y f e p p′ z) =
+            let q = same (y .meant) (y .writing) (y .accepted .spelled) (y .wrote) in
+            let b = mdf-comes-back t′ left′ u′ mission-left′ (pair-reply n′ (y .meant)) room mission-room (accepted n′ (y .meant) a′ (y .accepted) refl p p′) in
+            let j = ap length q ∙ sym (Whole .long) in
+            ((network-file n′, mission-file (y .meant), e ∙ (λ i. WriteMdf.Written (pair-counts-of c (b .replied i)) (network-file n′) (mission-counts-of d (b .replied i)) (mission-file (y .meant)) (j i))), z ∙ ap (padded lent′) (q ∙ sym (Whole .first)))

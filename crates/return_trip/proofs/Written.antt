@@ -1,5 +1,5 @@
 -- WHAT WAS WRITTEN, from the contracts of writers: the house writing of what was accepted, in its edition. Assumes nothing.
-use mathlib.Core.Path.{_≡_, sym, ap, subst, _∙_}
+use mathlib.Core.Path.{_≡_, sym, ap, _∙_}
 use Prim.Native.Nat.{ℕ, _-_, _≤_}
 use lib.ListN.{length, take}
 use lib.Seq.{take-at}
@@ -17,7 +17,7 @@ use Rattle.counts.specs.declared.Counts.{Counts}
 use Rattle.counts.specs.declared.MissionCounts.{MissionCounts}
 use Rattle.replies.specs.declared.PairReply.{PairReply}
 use Rattle.replies.specs.declared.PairReply.the-variants as Pair
-use Rattle.replies.specs.Replies.{longest, rows-used, network-file, ReadsPair}
+use Rattle.replies.specs.Replies.{longest, rows-used, network-file, ReadsPair, accepted}
 use Rattle.replies.specs.Short.{AcceptsRndf, AcceptsMdf}
 use Rattle.writings.specs.declared.WriteReply.{WriteReply}
 use Rattle.writings.specs.declared.WriteReply.the-variants as Write
@@ -27,9 +27,7 @@ use Rattle.writings.specs.Writes.{WritesRndf, WritesMdf}
 use Rattle.writings.specs.Writes as W
 use Rattle.writings.proofs.Said.{wrote-or-not, mdf-wrote-or-not}
 use Rattle.promises.specs.Accepted.{Meant}
-use Rattle.promises.proofs.Forms.{one-spelled, one-mission}
-use Rattle.promises.proofs.Promises.{accepted-spelled, tables-are}
-use Rattle.promises.proofs.PairPromises.{pair-accepted-spelled, pair-tables-are}
+use Rattle.promises.proofs.PairPromises.{pair-tables-are}
 
 -- the first bytes of an output that was filled
 first-are : (lent : ℕ) (x out : Bytes) (k : ℕ) → out ≡ Output.padded lent x → k ≡ length x → take k out ≡ x
@@ -63,22 +61,9 @@ module _ (edition : Edition) where
 
   pub rndf-written : (text : Bytes) (t left : Lent) (lent : ℕ) (c : Counts) (file : FileRow) (k : ℕ) (out : Bytes) → WritesRndf (rules-of edition) text t lent (Write.Written c file k) left out → RndfWritten text t left c file k out
   rndf-written text t left lent c file k out (W.refused why h e z) = absurd (wrote-or-not e)
-  rndf-written text t left lent c file k out (W.too-long n writing c′ file′ l h s g f e p z) = absurd (wrote-or-not e)
-  rndf-written text t left lent c file k out (W.written n writing c′ file′ h s g f e z) =
-      let a = accepted-spelled edition text t c′ file′ left h in
-      let m = tables-are edition text t c′ file′ left h n s in
-      record {
-        net = n;
-        writing = writing;
-        accepts = subst (AcceptsRndf (rules-of edition) text t) (one-spelled edition text (a .0) n (a .1 .spelled) s) (a .1);
-        house = g;
-        size = f .size;
-        long = ap long-in e;
-        first = first-are lent writing out k z (ap long-in e);
-        counted = ap (counts-in c) e ∙ m .0;
-        row = ap (file-in file) e ∙ m .1;
-        holds = m .2;
-      }
+  rndf-written text t left lent c file k out (W.too-long y f e p z) = absurd (wrote-or-not e)
+  rndf-written text t left lent c file k out (W.written y f e p z) =
+      record { net = y .meant; writing = y .writing; accepts = y .accepted; house = y .wrote; size = f .size; long = ap long-in e; first = first-are lent (y .writing) out k z (ap long-in e); counted = ap (counts-in c) e; row = ap (file-in file) e; holds = p }
 
   -- ## The MDF of a pair
   pub record MdfWritten (rndf mdf : Bytes) (t left : Lent) (u mission-left : MissionLent) (c : Counts) (file : FileRow) (d : MissionCounts) (own : MissionFileRow) (k : ℕ) (out : Bytes) : Type 0 where
@@ -105,20 +90,18 @@ module _ (edition : Edition) where
   pub mdf-written : (rndf mdf : Bytes) (t left : Lent) (u mission-left : MissionLent) (lent : ℕ) (c : Counts) (file : FileRow) (d : MissionCounts) (own : MissionFileRow) (k : ℕ) (out : Bytes)
       → WritesMdf (rules-of edition) rndf mdf t u lent (WriteMdf.Written c file d own k) left mission-left out → MdfWritten rndf mdf t left u mission-left c file d own k out
   mdf-written rndf mdf t left u mission-left lent c file d own k out (W.refused why h e z) = absurd (mdf-wrote-or-not e)
-  mdf-written rndf mdf t left u mission-left lent c file d own k out (W.too-long m writing c′ file′ d′ own′ l l′ h s g f e p q z) = absurd (mdf-wrote-or-not e)
-  mdf-written rndf mdf t left u mission-left lent c file d own k out (W.written m writing c′ file′ d′ own′ h s g f e z) =
-      let h′ : ReadsPair (rules-of edition) rndf mdf t u (Pair.Accepted c file d own) left mission-left = subst (λ (r : WriteMdfReply). ReadsPair (rules-of edition) rndf mdf t u (written-as r (Pair.Accepted c′ file′ d′ own′)) left mission-left) (sym e) h in
-      let a = pair-accepted-spelled edition rndf mdf t u c file d own left mission-left h′ in
-      let same = one-mission edition mdf (a .mission) m (a .mission-accepted .spelled) s in
+  mdf-written rndf mdf t left u mission-left lent c file d own k out (W.too-long n a y f e p q z) = absurd (mdf-wrote-or-not e)
+  mdf-written rndf mdf t left u mission-left lent c file d own k out (W.written n a y f e p q z) =
+      let h : ReadsPair (rules-of edition) rndf mdf t u (Pair.Accepted c file d own) left mission-left = accepted n (y .meant) a (y .accepted) (ap (λ (r : WriteMdfReply). written-as r (Pair.Accepted c file d own)) e) p q in
       record {
-        net = a .net;
-        mission = m;
-        writing = writing;
-        accepts = a .network-accepted;
-        takes = subst (AcceptsMdf (rules-of edition) (a .net) mdf u) same (a .mission-accepted);
-        house = g;
+        net = n;
+        mission = y .meant;
+        writing = y .writing;
+        accepts = a;
+        takes = y .accepted;
+        house = y .wrote;
         size = f .size;
         long = ap mdf-long-in e;
-        first = first-are lent writing out k z (ap mdf-long-in e);
-        meant = pair-tables-are edition rndf mdf t u c file d own left mission-left h′ (a .net) m (a .network-accepted .spelled) s;
+        first = first-are lent (y .writing) out k z (ap mdf-long-in e);
+        meant = pair-tables-are edition rndf mdf t u c file d own left mission-left h n (y .meant) (a .spelled) (y .accepted .spelled);
       }

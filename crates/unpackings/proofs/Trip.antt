@@ -177,13 +177,13 @@ back-as n x y t c d reply left e k h u = subst (λ (z : Counts). Back n y t z re
 -- THE THEOREM
 pub there-and-back : (edition : Edition) → ThereAndBack (rules-of edition)
 there-and-back edition text t lent c file k left out (W.refused why h e z) n s t′ room reply left′ u = absurd (wrote-or-not e)
-there-and-back edition text t lent c file k left out (W.too-long m x c′ file′ l h q g f e p z) n s t′ room reply left′ u = absurd (wrote-or-not e)
-there-and-back edition text t lent c file k left out (W.written m x c′ file′ h q g f e z) n s t′ room reply left′ u =
-    let a = accepted-spelled edition text t c′ file′ left h in
-    let accepts = subst (AcceptsRndf (rules-of edition) text t) (one-spelled edition text (a .0) n (a .1 .spelled) s) (a .1) in
-    let meant = tables-are edition text t c′ file′ left h n s in
+there-and-back edition text t lent c file k left out (W.too-long y f e p z) n s t′ room reply left′ u = absurd (wrote-or-not e)
+there-and-back edition text t lent c file k left out (W.written y f e p z) n s t′ room reply left′ u =
+    let x = y .writing in
+    let same = one-spelled edition text (y .meant) n (y .accepted .spelled) s in
+    let accepts = subst (AcceptsRndf (rules-of edition) text t) same (y .accepted) in
     let is : IsNetwork n = record { text = text; written = n; spelled = rndf-later edition n text s; same = refl; sound = accepts .right } in
-    let form : x ≡ packed-form n = g ∙ ap packed-form (one-spelled edition text m n q s) in
+    let form : x ≡ packed-form n = y .wrote ∙ ap packed-form same in
     let first : take k out ≡ x = ap (take k) z ∙ take-at x (Output.zero-bytes (lent - length x)) k (sym (ap long-in e)) in
     let size : length (packed-form n) ≤ longest = subst (λ (b : Bytes). length b ≤ longest) form (f .size) in
-    back-as n (packed-form n) (take k out) t′ (rows-used n) c reply left′ (sym (first ∙ form)) (sym (meant .0) ∙ sym (ap (counts-in c) e)) (gives-back n is size t′ room reply left′) u
+    back-as n (packed-form n) (take k out) t′ (rows-used n) c reply left′ (sym (first ∙ form)) (sym (ap (counts-in c) e ∙ ap (λ (m : Network Field). rows-used m) same)) (gives-back n is size t′ room reply left′) u

@@ -7,49 +7,57 @@ use Rattle.terms.specs.Ascii.{Bytes}
 use Rattle.law.specs.Tables.{Lent}
 use Rattle.law.specs.Tables as Tables
 use Rattle.output.specs.Output.{zero-bytes, Fits, padded}
-use Rattle.rows.specs.declared.FileRow.{FileRow}
-use Rattle.counts.specs.declared.Counts.{Counts}
+use Rattle.refusal.specs.declared.Refusal.{Refusal}
 use Rattle.replies.specs.declared.RndfReply.{RndfReply}
 use Rattle.replies.specs.declared.RndfReply.the-variants as Reply
-use Rattle.replies.specs.Replies.{refusal, ReadsRndf}
-use Rattle.replies.proofs.Settled.{rndf-settled, rndf-some}
+use Rattle.replies.specs.Replies.{an-rndf, refusal, ReadsRndf}
+use Rattle.replies.specs.Replies as R
+use Rattle.replies.proofs.Settled.{rndf-accepts-one, rndf-settled, rndf-some}
 use Rattle.replies.proofs.Said.{never-both}
 use Rattle.writings.specs.declared.WriteReply.{WriteReply}
 use Rattle.writings.specs.declared.WriteReply.the-variants as Write
-use Rattle.writings.specs.Writes.{Writes, WritesRndf, MapOf, WritesMap, PackedOf, WritesPacked}
+use Rattle.writings.specs.Writes.{AcceptedText, Writes, WritesRndf, MapOf, WritesMap, PackedOf, WritesPacked}
 use Rattle.writings.specs.Writes as W
 use Rattle.house_text.specs.House.{HouseRndf}
 use Rattle.line.specs.Content.{Field}
 use Rattle.grammar.specs.Editions.{Edition, law-of}
 use Rattle.law.specs.Network.{Network, reading}
-use Rattle.writings.proofs.OneWriting.{WritingOf, OneWriting, house-one, map-one, packed-one, fits-or-not, accepted-written}
-
--- what the writer replies to a text that the reader replied so to, if it writes so many bytes
-abbrev reply-of : ℕ → RndfReply → WriteReply
-reply-of k (Reply.Accepted c file) = Write.Written c file k
-reply-of k (Reply.Refused why) = Write.Refused why
+use Rattle.writings.proofs.OneWriting.{OneWriting, house-one, map-one, packed-one, fits-or-not}
+use Rattle.writings.proofs.Read.{reply-of, read-reply, read-so}
 
 module _ (ed : Edition) (Writing : Network Field → Bytes → Type 0) (one : OneWriting ed Writing) (text : Bytes) (t : Lent) (lent : ℕ) where
+  abbrev Yard : Type 0
+  Yard = AcceptedText (reading (law-of ed)) (an-rndf t) Writing text
+
+  same-net : (x y : Yard) → x .meant ≡ y .meant
+  same-net x y = rndf-accepts-one ed text t (x .meant) (y .meant) (x .accepted) (y .accepted)
+
+  same-writing : (x y : Yard) → x .writing ≡ y .writing
+  same-writing x y = one .same (y .meant) (x .writing) (y .writing) (subst (λ (n : Network Field). Writing n (x .writing)) (same-net x y) (x .wrote)) (y .wrote)
+
   -- the writing of one fits where that of the other does
-  fits-one : (x y : WritingOf ed Writing text) → Fits lent (x .writing) → Fits lent (y .writing)
-  fits-one x y = subst (Fits lent) (one .same text x y)
+  fits-one : (x y : Yard) → Fits lent (x .writing) → Fits lent (y .writing)
+  fits-one x y = subst (Fits lent) (same-writing x y)
+
+  not-refused : (x : Yard) (why : Refusal) (left : Lent) → ReadsRndf (reading (law-of ed)) text t (Reply.Refused why) left → ⊥
+  not-refused x why left h = never-both (rndf-settled ed text t (read-reply (x .meant)) (Reply.Refused why) (Tables.filled (x .meant) t) left (read-so ed text t (x .meant) (x .accepted)) h .0)
 
   -- no second reply, and no second memory
   pub write-settled : (r r′ : WriteReply) (l l′ : Lent) (o o′ : Bytes) → Writes (reading (law-of ed)) Writing text t lent r l o → Writes (reading (law-of ed)) Writing text t lent r′ l′ o′ → (r ≡ r′) × (l ≡ l′) × (o ≡ o′)
   write-settled r r′ l l′ o o′ (W.refused why h e z) (W.refused why′ h′ e′ z′) =
       let s = rndf-settled ed text t (Reply.Refused why) (Reply.Refused why′) l l′ h h′ in
       (e ∙ ap (reply-of 0) (s .0) ∙ sym e′, s .1, z ∙ sym z′)
-  write-settled r r′ l l′ o o′ (W.refused why h e z) (W.too-long n w c file k h′ s′ x′ f′ e′ p′ z′) = absurd (never-both (sym (rndf-settled ed text t (Reply.Refused why) (Reply.Accepted c file) l k h h′ .0)))
-  write-settled r r′ l l′ o o′ (W.refused why h e z) (W.written n w c file h′ s′ x′ f′ e′ z′) = absurd (never-both (sym (rndf-settled ed text t (Reply.Refused why) (Reply.Accepted c file) l l′ h h′ .0)))
-  write-settled r r′ l l′ o o′ (W.too-long n w c file k h s x f e p z) (W.refused why h′ e′ z′) = absurd (never-both (rndf-settled ed text t (Reply.Accepted c file) (Reply.Refused why) k l′ h h′ .0))
-  write-settled r r′ l l′ o o′ (W.too-long n w c file k h s x f e p z) (W.too-long n′ w′ c′ file′ k′ h′ s′ x′ f′ e′ p′ z′) = (e ∙ sym e′, p ∙ sym p′, z ∙ sym z′)
-  write-settled r r′ l l′ o o′ (W.too-long n w c file k h s x f e p z) (W.written n′ w′ c′ file′ h′ s′ x′ f′ e′ z′) = absurd (f (fits-one (record { net = n′; writing = w′; spelled = s′; house = x′ }) (record { net = n; writing = w; spelled = s; house = x }) f′))
-  write-settled r r′ l l′ o o′ (W.written n w c file h s x f e z) (W.refused why h′ e′ z′) = absurd (never-both (rndf-settled ed text t (Reply.Accepted c file) (Reply.Refused why) l l′ h h′ .0))
-  write-settled r r′ l l′ o o′ (W.written n w c file h s x f e z) (W.too-long n′ w′ c′ file′ k′ h′ s′ x′ f′ e′ p′ z′) = absurd (f′ (fits-one (record { net = n; writing = w; spelled = s; house = x }) (record { net = n′; writing = w′; spelled = s′; house = x′ }) f))
-  write-settled r r′ l l′ o o′ (W.written n w c file h s x f e z) (W.written n′ w′ c′ file′ h′ s′ x′ f′ e′ z′) =
-      let q = rndf-settled ed text t (Reply.Accepted c file) (Reply.Accepted c′ file′) l l′ h h′ in
-      let same : w ≡ w′ = one .same text (record { net = n; writing = w; spelled = s; house = x }) (record { net = n′; writing = w′; spelled = s′; house = x′ }) in
-      (e ∙ ap₂ (λ (y : Bytes) (a : RndfReply). reply-of (length y) a) same (q .0) ∙ sym e′, q .1, z ∙ ap (padded lent) same ∙ sym z′)
+  write-settled r r′ l l′ o o′ (W.refused why h e z) (W.too-long x′ f′ e′ p′ z′) = absurd (not-refused x′ why l h)
+  write-settled r r′ l l′ o o′ (W.refused why h e z) (W.written x′ f′ e′ p′ z′) = absurd (not-refused x′ why l h)
+  write-settled r r′ l l′ o o′ (W.too-long x f e p z) (W.refused why h′ e′ z′) = absurd (not-refused x why l′ h′)
+  write-settled r r′ l l′ o o′ (W.too-long x f e p z) (W.too-long x′ f′ e′ p′ z′) = (e ∙ sym e′, p ∙ sym p′, z ∙ sym z′)
+  write-settled r r′ l l′ o o′ (W.too-long x f e p z) (W.written x′ f′ e′ p′ z′) = absurd (f (fits-one x′ x f′))
+  write-settled r r′ l l′ o o′ (W.written x f e p z) (W.refused why h′ e′ z′) = absurd (not-refused x why l′ h′)
+  write-settled r r′ l l′ o o′ (W.written x f e p z) (W.too-long x′ f′ e′ p′ z′) = absurd (f′ (fits-one x x′ f))
+  write-settled r r′ l l′ o o′ (W.written x f e p z) (W.written x′ f′ e′ p′ z′) =
+      let n = same-net x x′ in
+      let w = same-writing x x′ in
+      (e ∙ ap₂ (λ (m : Network Field) (y : Bytes). reply-of (length y) (read-reply m)) n w ∙ sym e′, p ∙ ap (λ (m : Network Field). Tables.filled m t) n ∙ sym p′, z ∙ ap (padded lent) w ∙ sym z′)
 
   -- one there is
   pub record Some : Type 0 where
@@ -58,16 +66,16 @@ module _ (ed : Edition) (Writing : Network Field → Bytes → Type 0) (one : On
     pub out : Bytes
     pub writes : Writes (reading (law-of ed)) Writing text t lent reply left out
 
-  by-room : (x : WritingOf ed Writing text) (c : Counts) (file : FileRow) (left : Lent) → ReadsRndf (reading (law-of ed)) text t (Reply.Accepted c file) left → Fits lent (x .writing) ⊎ (Fits lent (x .writing) → ⊥) → Some
-  by-room x c file left h (inl f) = record { reply = Write.Written c file (length (x .writing)); left = left; out = padded lent (x .writing); writes = W.written (x .net) (x .writing) c file h (x .spelled) (x .house) f refl refl }
-  by-room x c file left h (inr f) = record { reply = Write.Refused (refusal 1 0 19 0); left = Tables.zeros t; out = zero-bytes lent; writes = W.too-long (x .net) (x .writing) c file left h (x .spelled) (x .house) f refl refl refl }
-
-  by-reply : (r : RndfReply) (left : Lent) → ReadsRndf (reading (law-of ed)) text t r left → Some
-  by-reply (Reply.Accepted c file) left h = let x = accepted-written ed one text t left c file h in by-room x c file left h (fits-or-not lent (x .writing))
-  by-reply (Reply.Refused why) left h = record { reply = Write.Refused why; left = left; out = zero-bytes lent; writes = W.refused why h refl refl }
+  by-room : (x : Yard) → Fits lent (x .writing) ⊎ (Fits lent (x .writing) → ⊥) → Some
+  by-room x (inl f) = record { reply = reply-of (length (x .writing)) (read-reply (x .meant)); left = Tables.filled (x .meant) t; out = padded lent (x .writing); writes = W.written x f refl refl refl }
+  by-room x (inr f) = record { reply = Write.Refused (refusal 1 0 19 0); left = Tables.zeros t; out = zero-bytes lent; writes = W.too-long x f refl refl refl }
 
   pub write-some : Some
-  write-some = let x = rndf-some ed text t in by-reply (x .0) (x .1) (x .2)
+  write-some = let x = rndf-some ed text t in go (x .0) (x .1) (x .2)
+    where
+      go : (r : RndfReply) (left : Lent) → ReadsRndf (reading (law-of ed)) text t r left → Some
+      go r left (R.accepted n a e k) = let w = one .there n text (a .spelled) in by-room (record { meant = n; accepted = a; writing = w .0; wrote = w .1 }) (fits-or-not lent (w .0))
+      go r left (R.refused line number column a e k) = record { reply = Write.Refused (refusal 1 line number column); left = left; out = zero-bytes lent; writes = W.refused (refusal 1 line number column) (R.refused line number column a refl k) refl refl }
 
 -- ## The house writing, the map and the packed form
 module _ (ed : Edition) (text : Bytes) (t : Lent) (lent : ℕ) where
