@@ -7,8 +7,12 @@ use Rattle.grammar.specs.Statements.{Boundary, double-yellow, solid-yell
 use Rattle.grammar.specs.Network.{Checkpoint, Exit, Lane, Segment, Perimeter, Spot, Zone, Network}
 use Rattle.grammar.specs.MissionStatements.{Limit}
 use Rattle.grammar.specs.Mission.{Mission}
-pub use Rattle.law.specs.Tables.{feet, colour, side, gather, lane-size, spot-points, row-of, first-spot, all-lanes, zone-points, zone-size, lane-points, first-zone-point}
+pub use Rattle.law.specs.Tables.{feet, side, gather, lane-size, spot-points, row-of, first-spot, all-lanes, zone-points, zone-size, lane-points, first-zone-point}
 pub use Rattle.law.specs.Along.{along, over-spots}
+
+-- 01: "(1 to 4 in the order above)"
+abbrev pub colour : Boundary → ℕ
+colour b = side (some b)
 
 -- ## Rows. N: what a name is; a missing name is none (written 0, 0 where start and length are kept)
 -- 01: "File: its name, format version, creation date"

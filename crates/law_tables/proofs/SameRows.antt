@@ -7,6 +7,7 @@ use lib.ListN.{length}
 use Rattle.terms.specs.Words.{perhaps}
 use Rattle.line.specs.Content.{Field}
 use Rattle.law.specs.Tables as Law
+use Rattle.law.specs.Along as Along
 use Rattle.rows.specs.Table.{flat}
 use Rattle.grammar.specs.Statements.{PointId}
 use Rattle.grammar.specs.Network.{Checkpoint, Zone, Network}
@@ -38,7 +39,7 @@ spot-checkpoint-same : (p : ℕ) (c : Option Checkpoint) → map checkpoint-word
 spot-checkpoint-same p none = refl
 spot-checkpoint-same p (some c) = refl
 
-zones-from-same : (p q : ℕ) (l : List (Zone Field)) → map (zone-words start-of length-of) (zone-rows-from p q l) ≡ Law.zone-rows-from p q l
+zones-from-same : (p q : ℕ) (l : List (Zone Field)) → map (zone-words start-of length-of) (zone-rows-from p q l) ≡ Along.zone-rows-from p q l
 zones-from-same p q [] = refl
 zones-from-same p q (z ∷ l) = ap₂ (λ (x : List ℕ) (y : List (List ℕ)). x ∷ y)
     (ap (λ (w : List ℕ). p ∷ length (z .border .points) ∷ Law.first-spot q (length (z .spots)) ∷ length (z .spots) ∷ w) (name-same (z .name)))

@@ -15,6 +15,7 @@ use Rattle.filled_rows.proofs.From.{from-parts}
 use Rattle.law.specs.Network.{Segment, Zone, Network, present}
 use Rattle.law.specs.Tables.{Lent, filled, gather, total, lane-size, zone-size, lane-points, zone-points, first-zone-point}
 use Rattle.law.specs.Tables as Law
+use Rattle.law.specs.Along as Along
 use Rattle.grammar.specs.Tables.{tables, tables-with}
 use Rattle.grammar.specs.HouseOrder.{GoodNetwork, GoodSegment}
 use Rattle.grammar.proofs.Rows.{each-both}
@@ -60,7 +61,7 @@ some-lane (s ∷ ss) h good =
     let c = good .0 .count .low in
     omega arith
 
-zones-counted : (p q : ℕ) (zs : List (Zone Field)) → length (Law.zone-rows-from p q zs) ≡ length zs
+zones-counted : (p q : ℕ) (zs : List (Zone Field)) → length (Along.zone-rows-from p q zs) ≡ length zs
 zones-counted p q [] = refl
 zones-counted p q (z ∷ zs) = ap suc (zones-counted (p + zone-size z) (q + length (z .spots)) zs)
 

@@ -11,6 +11,7 @@ use Rattle.law.specs.Network.{Zone, Network, present}
 use Rattle.law.specs.Tables.{Lent, lane-size, zone-size, all-lanes, first-zone-point, filled}
 use Rattle.law.specs.Along.{along}
 use Rattle.law.specs.Tables as Law
+use Rattle.law.specs.Along as Along
 use Rattle.grammar.specs.Tables.{lane-row, zone-rows-from, no-lane, no-zone, tables-with, tables, ZoneRow, ExitRow}
 use Rattle.grammar.proofs.RowsInside.{zone-size-is}
 use Rattle.fill.proofs.RowLaws.{total-each, one-each}
@@ -67,7 +68,7 @@ zone-count p q (z ∷ l) = ap suc (zone-count (p + zone-size z) (q + length (z .
 pub lanes-counted : (n : Network Field) → length (Law.lane-rows n) ≡ length (lane-spans n)
 lanes-counted n = one-each lane-size _ 0 (all-lanes n) ∙ sym (one-each lane-size _ 0 (all-lanes n))
 
-law-zone-count : (p q : ℕ) (l : List (Zone Field)) → length (Law.zone-rows-from p q l) ≡ length l
+law-zone-count : (p q : ℕ) (l : List (Zone Field)) → length (Along.zone-rows-from p q l) ≡ length l
 law-zone-count p q [] = refl
 law-zone-count p q (z ∷ l) = ap suc (law-zone-count (p + zone-size z) (q + length (z .spots)) l)
 

@@ -6,7 +6,7 @@ use Prim.Native.Nat.{ℕ, suc, _+_}
 use lib.ListN.{length, length-map}
 use Rattle.terms.specs.Words.{perhaps}
 use Rattle.line.specs.Line.{Field}
-use Rattle.law.specs.Network.{Position, Checkpoint, Exit, Segment, Zone, Network}
+use Rattle.law.specs.Network.{Position, Checkpoint, Exit, Segment, Spot, Zone, Network}
 use Rattle.law.specs.Tables.{feet, side, gather, lane-size, row-of, first-spot, all-lanes, zone-points, zone-size, lane-points, first-zone-point, first-point, name-words, segment-rows, lane-rows, zone-rows, spot-rows, point-rows, checkpoint-rows, stop-rows, exit-row, exit-rows}
 use Rattle.law.specs.Along.{along, over-spots, zone-rows-from}
 use Rattle.packed_law.specs.Packed.{Slot, figure, angle, title, by-table, file-slots, with-length, all-slots}
@@ -101,7 +101,13 @@ module _ (n : Network Field) where
 
   spots-so : map (figures (4 ∷ 2 ∷ [])) (spot-rows n) ≡ spot-records n
   unfolding zipWith
-  spots-so = along-map (figures (4 ∷ 2 ∷ [])) zone-size _ _ (λ p z. along-map (figures (4 ∷ 2 ∷ [])) (λ s. 2) _ _ (λ q s. refl) (p + length (z .border .points)) (z .spots)) (first-zone-point n) (n .zones)
+  spots-so = along-map (figures (4 ∷ 2 ∷ [])) zone-size (over-spots row) (over-spots record-of) (λ p z. along-map (figures (4 ∷ 2 ∷ [])) (λ s. 2) row record-of (λ q s. refl) (p + length (z .border .points)) (z .spots)) (first-zone-point n) (n .zones)
+    where
+      row : ℕ → Spot → List (List ℕ)
+      row first s = (first ∷ feet (s .width) ∷ []) ∷ []
+
+      record-of : ℕ → Spot → List (List Slot)
+      record-of first s = (figure 4 first ∷ figure 2 (feet (s .width)) ∷ []) ∷ []
 
   points-so : map (map angle) (point-rows n) ≡ point-records n
   points-so = map-map (map angle) (λ p. p .latitude ∷ p .longitude ∷ []) (lane-points n ++ gather zone-points (n .zones))

@@ -4,7 +4,7 @@ use mathlib.Core.List.{List, map}
 use mathlib.Core.Option.{Option, none, some}
 use mathlib.Core.Bool.{Bool, true, false}
 use mathlib.Core.Logic.{_⊎_, inl, inr}
-use Prim.Native.Nat.{ℕ, _≤_, _<_}
+use Prim.Native.Nat.{ℕ, _/_, _≤_, _<_}
 use native.Mathlib.Omega.{arith}
 use lib.Dec.{ltb}
 use lib.ListN.{length}
@@ -14,7 +14,7 @@ use Rattle.line.specs.Content.{Field}
 use Rattle.scan.specs.Reach.{sameBytes}
 use Rattle.scan.proofs.Equal.{same-equal, false-differ}
 use Rattle.law.specs.Network.{Network, Mission, SpellsNetwork, SpellsMission, reading}
-use Rattle.law.specs.Tables.{Lent, MissionLent, Room, HasRoom, MissionHasRoom, segment-rows, lane-rows, zone-rows, spot-rows, point-rows, checkpoint-rows, stop-rows, exit-rows, goal-rows, limit-rows}
+use Rattle.law.specs.Tables.{Lent, MissionLent, HasRoom, MissionHasRoom, segment-rows, lane-rows, zone-rows, spot-rows, point-rows, checkpoint-rows, stop-rows, exit-rows, goal-rows, limit-rows}
 use Rattle.law.specs.Faults.{BadLine, FirstFault, RndfFault, MdfFault}
 use Rattle.grammar.specs.Editions.{Edition, law-of}
 use Rattle.editions.proofs.Later.{later}
@@ -37,6 +37,9 @@ use Rattle.replies.specs.Replies.{longest, too-long, bad-line, unended, 
 use Rattle.replies.specs.Short.{AcceptsRndf, RefusesRndf, AcceptsMdf, RefusesMdf}
 
 -- ## Room
+abbrev Room : {X : Type 0} → (stride : ℕ) (rows : List (List X)) (lent : List X) → Type 0
+Room stride rows lent = length rows ≤ length lent / stride
+
 abbrev Decided : Type 0 → Type 0
 Decided P = P ⊎ (P → ⊥)
 

@@ -1,6 +1,6 @@
 -- THE RETURN TRIP of an accepted RNDF, and of an accepted RNDF with its MDF, within the edition by which they were accepted (L10). Assumes nothing.
 use mathlib.Core.Path.{_≡_, sym, ap, subst, _∙_}
-use Prim.Native.Nat.{ℕ, _≤_}
+use Prim.Native.Nat.{ℕ, _/_, _≤_}
 use lib.ListN.{length}
 use Rattle.terms.specs.Ascii.{Bytes}
 use Rattle.line.specs.Content.{Field}
@@ -49,7 +49,7 @@ use Rattle.return_trip.proofs.Within.{rndf-within}
 
 -- ## Without its date a network needs the same room, has the same references, and fits the same missions
 undated-room : (n : Network Field) (t : Lent) → Law.HasRoom n t → Law.HasRoom (undated n) t
-undated-room n t h = record { segments = h .segments; lanes = h .lanes; zones = h .zones; spots = h .spots; points = h .points; checkpoints = h .checkpoints; stops = h .stops; exits = subst (λ (rows : List (List ℕ)). Law.Room 2 rows (t .exits)) (sym (undated-exits n)) (h .exits) }
+undated-room n t h = record { segments = h .segments; lanes = h .lanes; zones = h .zones; spots = h .spots; points = h .points; checkpoints = h .checkpoints; stops = h .stops; exits = subst (λ (rows : List (List ℕ)). length rows ≤ length (t .exits) / 2) (sym (undated-exits n)) (h .exits) }
 
 -- as many rows
 pub undated-used : (n : Network Field) → rows-used (undated n) ≡ rows-used n

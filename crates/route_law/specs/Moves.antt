@@ -2,8 +2,7 @@
 use Rattle.terms.specs.Words.{_≡_, List, [], _∷_, ℕ, suc, _+_, _≤_, _<_, length, Among}
 use Rattle.line.specs.Line.{Field}
 use Rattle.law.specs.Network.{Network, Mission}
-use Rattle.law.specs.Tables.{all-lanes, lane-size, zone-size, first-zone-point, point-rows, checkpoint-rows, exit-rows}
-use Rattle.law.specs.Along.{along}
+use Rattle.law.specs.Tables.{gather, lane-size, zone-size, placed-lanes, placed-zones, point-rows, checkpoint-rows, exit-rows}
 use Rattle.look_up.specs.Listed.{Paired}
 
 -- the points of one part, a lane or a zone: so many rows, from the first on
@@ -17,11 +16,11 @@ pub record Inside (s : Span) (p : ℕ) : Type 0 where
 
 -- the waypoints of each lane
 abbrev pub lane-spans : Network Field → List Span
-lane-spans n = along lane-size (λ first a. record { first = first; size = lane-size a } ∷ []) 0 (all-lanes n)
+lane-spans n = gather (λ a. record { first = a .first; size = lane-size (a .part) } ∷ []) (placed-lanes n)
 
 -- the points of each zone, "among perimeter and spots"
 abbrev pub zone-spans : Network Field → List Span
-zone-spans n = along zone-size (λ first z. record { first = first; size = zone-size z } ∷ []) (first-zone-point n) (n .zones)
+zone-spans n = gather (λ z. record { first = z .first; size = zone-size (z .part) } ∷ []) (placed-zones n)
 
 pub data Move (n : Network Field) (a b : ℕ) : Type 0 where
   -- L5: "A move goes from a waypoint to the next in its lane;"
