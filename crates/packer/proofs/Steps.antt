@@ -124,7 +124,7 @@ module _ (ed : Edition) (text : Bytes) (t left : Lent) (read : RndfReply) (lent 
   told : (r : RndfReply) → read ≡ r → ReadsRndf (rules-of ed) text t r left
   told r e = subst (λ (y : RndfReply). ReadsRndf (rules-of ed) text t y left) e h
 
-  yard : (n : Network Field) → AcceptsRndf (rules-of ed) text t n → AcceptedText (rules-of ed) (an-rndf t) PackedOf text
+  abbrev yard : (n : Network Field) → AcceptsRndf (rules-of ed) text t n → AcceptedText (rules-of ed) (an-rndf t) PackedOf text
   yard n a = record { meant = n; accepted = a; writing = packed-form n; wrote = refl }
 
   -- written: the tables hold what the reader left

@@ -25,7 +25,7 @@ use Rattle.writings.specs.Writes as New
 use Rattle.writings.proofs.Told.{accepts-so, written-so, pair-accepts-so, mdf-written-so}
 
 module _ (d : Edition) (text : Bytes) (t : Lent) (lent : ℕ) (reply : WriteReply) (left : Lent) (out : Bytes) where
-  yard : (n : Network Field) → SpellsRndfIn d n text → (c : Counts) (file : FileRow) (read : Lent) → ReadsRndf (reading (law-of d)) text t (Reply.Accepted c file) read → AcceptedText (reading (law-of d)) (an-rndf t) HouseRndf text
+  abbrev yard : (n : Network Field) → SpellsRndfIn d n text → (c : Counts) (file : FileRow) (read : Lent) → ReadsRndf (reading (law-of d)) text t (Reply.Accepted c file) read → AcceptedText (reading (law-of d)) (an-rndf t) HouseRndf text
   yard n s c file read h = record { meant = n; accepted = accepts-so d text t c file read h n (rndf-to-in d n text s); writing = house-rndf n; wrote = house-rndf-is n (network-good n (later d n text s .said) (later d n text s .net)) }
 
   pub rndf-writes-to : Old.WritesRndf d text t lent reply left out → New.WritesRndf (reading (law-of d)) text t lent reply left out
@@ -34,7 +34,7 @@ module _ (d : Edition) (text : Bytes) (t : Lent) (lent : ℕ) (reply : WriteRepl
   rndf-writes-to (Old.written n c file h s f e o) = written-so d text t c file left h HouseRndf (yard n s c file left h) lent reply out f e o
 
 module _ (d : Edition) (rndf mdf : Bytes) (t : Lent) (u : MissionLent) (lent : ℕ) (reply : WriteMdfReply) (left : Lent) (mission-left : MissionLent) (out : Bytes) where
-  order : (m : Mission Field) → SpellsMdf m mdf → (n : Network Field) → AcceptsMdf (reading (law-of d)) n mdf u m → AcceptedText (reading (law-of d)) (an-mdf n u) HouseMdf mdf
+  abbrev order : (m : Mission Field) → SpellsMdf m mdf → (n : Network Field) → AcceptsMdf (reading (law-of d)) n mdf u m → AcceptedText (reading (law-of d)) (an-mdf n u) HouseMdf mdf
   order m s n a = record { meant = m; accepted = a; writing = house-mdf m; wrote = house-mdf-is m (mission-good m (s .said) (s .net)) }
 
   pub mdf-writes-to : Old.WritesMdf d rndf mdf t u lent reply left mission-left out → New.WritesMdf (reading (law-of d)) rndf mdf t u lent reply left mission-left out
