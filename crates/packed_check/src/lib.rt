@@ -22,6 +22,7 @@ use packed_rows::are_points;
 use packed_rows::are_records_of;
 use room::in_word;
 use rows::FileRow;
+use units::SegmentId;
 use unpacked_rows::Places;
 ghost use mathlib.Core.Path.{_≡_};
 ghost use Rattle.packed_check.specs.Judgement.{behind, places-of, table-at, few, tables-right, linked, with-places, by-zones, with-lanes, by-segments, by-file, judgement};
@@ -71,11 +72,11 @@ fn table_at(from: usize, count: u32) -> Table
 }
 
 // ## Tests
-// There is a segment, and segments and zones are not too many.
+// There is a segment, and the last identifier, that of the last segment or zone, is not over the largest.
 fn are_few(c: Counts) -> bool
     ensures { λ r. ⌜ r ≡ few c ⌝ }
 {
-    (1 <= c.segments) & (c.segments as u64 + c.zones as u64 <= 32768)
+    (1 <= c.segments) & (c.segments as u64 + c.zones as u64 <= SegmentId::LARGEST as u64)
 }
 
 // Spots, points, checkpoints and stops, each by itself.
