@@ -13,7 +13,7 @@ use Rattle.rows.specs.Lay.{putRow}
 use Rattle.rows.specs.Table.{tableOf, putRows}
 use Rattle.rows.proofs.Tables.{put-rows-cleared}
 use Rattle.output.specs.Pen.{pen, Wrote}
-use Rattle.records.proofs.Counting.{counted}
+use Rattle.output.proofs.Counting.{counted}
 use Rattle.refusal.specs.Size.{most}
 use Rattle.mend_law.specs.Mend.{mended-text, listed-rows}
 use Rattle.mend_lines.specs.declared.Before.{Before}
