@@ -40,7 +40,7 @@ of-kind : {A : Type 0} (k : Kind) (t : Statement) (f : A → G.Says Stretch k) (
 of-kind k t f none e = nothing (sym e)
 of-kind k t f (some v) e = let q : meant t ≡ G.say k (f v) = cc in ap (λ (m : G.Statement Stretch). m .kind) q
 
-made-of-kind : (s : Bytes) (base : ℕ) (f : Fields) (i : ℕ) → i < 30 → (t : Statement) → made-from (madeOf s base f i) ≡ some t → i ≡ kindOf t
+pub made-of-kind : (s : Bytes) (base : ℕ) (f : Fields) (i : ℕ) → i < 30 → (t : Statement) → made-from (madeOf s base f i) ≡ some t → i ≡ kindOf t
 made-of-kind s base f i h t e =
     let k = getD kinds i point in
     let b = row-back i h in

@@ -3,9 +3,9 @@ use mathlib.Core.Path.{_≡_, refl, sym, ap, subst, subst-refl, pathJ, _∙_}
 use mathlib.Core.List.{List, [], _∷_, _++_, map}
 use mathlib.Core.Bool.{Bool, true, false, _&&_, and-true, and-assoc}
 use mathlib.Core.Option.{Option, none, some}
-use Prim.Native.Nat.{ℕ, suc, _+_, _<_}
+use Prim.Native.Nat.{ℕ, suc, _+_}
 use native.Mathlib.Omega.{arith}
-use lib.ListN.{length, getD, take}
+use lib.ListN.{length, take}
 use lib.Dec.{eqb, ltb}
 use borrow.Author.Tests.{eqb-true, ltb-true}
 use Rattle.terms.specs.Words.{Bytes, ascii, pick}
@@ -13,26 +13,25 @@ use Rattle.scan.specs.Reach.{begins, sameBytes}
 use Rattle.word.specs.Number.{indexOf}
 use Rattle.word.specs.Keywords.{rndf-keywords}
 use Rattle.terms.proofs.Tests.{clash, nothing}
-use Rattle.terms.proofs.Computed.{every, below}
+use Rattle.terms.proofs.Computed.{every}
 use Rattle.line.specs.Content.{Field}
 use Rattle.line.specs.Lines.{linesOf}
-use Rattle.line.specs.Forms.{fieldsIn, listed, part}
+use Rattle.line.specs.Forms.{fieldsIn, part}
 use Rattle.line.specs.declared.Fields.{Fields}
 use Rattle.number.specs.Executable.{tripleOf}
 use Rattle.number.specs.declared.Triple as DT
 use Rattle.number.specs.declared.Triple.the-variants as Triple
 use Rattle.grammar.specs.Language.{as-dec, asKind}
-use Rattle.grammar.specs.Statements.{Kind, Kind-discrete, Says, Statement, PointId, ExitLine, lines, say, ofKind, exit, point}
+use Rattle.grammar.specs.Statements.{Kind, Kind-discrete, Says, Statement, PointId, ExitLine, lines, ofKind, exit}
 use Rattle.grammar.specs.Network.{Network, SpellsNetwork}
 use Rattle.grammar.specs.Tables.{Tables, segment-row, tables-with, tables-unresolved}
 use Rattle.grammar.specs.Places.{rndf, name-due}
-use Rattle.grammar.specs.PlaceRows.{kinds, kind-row}
+use Rattle.grammar.specs.PlaceRows.{kind-row}
 use Rattle.grammar.specs.Renamed.{says-named, statement-named}
 use Rattle.grammar.proofs.LanguageLaws.{as-same, all-some, all-none}
 use Rattle.text.specs.Answers.{read}
-use Rattle.text.specs.Judge.{readAll}
 use Rattle.text.specs.RndfLines.{rndf-line}
-use Rattle.text.specs.RndfWords.{rndf-lexis, word-at, rndf-sorts, rndf-make}
+use Rattle.text.specs.RndfWords.{rndf-lexis}
 use Rattle.text.specs.Spelling.{SpellsRndf}
 use Rattle.text.proofs.TextReading.{spelled-read}
 use Rattle.text.proofs.Theorems.{read-rndf, rndf-file}
@@ -46,22 +45,22 @@ use Rattle.fault_lines.proofs.RndfFaults.{undeclared-in}
 use Rattle.statement.specs.declared.Statement as Told
 use Rattle.statement.specs.declared.Statement.the-variants as st
 use Rattle.statement.specs.Meaning.{Stretch, point-of, meant}
-use Rattle.statement.specs.Kinds.{kindOf, written}
+use Rattle.statement.specs.Kinds.{written}
 use Rattle.statement.proofs.Laws.{means}
 use Rattle.made_out.specs.Names.{stretch-of, behind}
 use Rattle.made_out.specs.Names as Names
-use Rattle.made_out.specs.Made.{shapes, needs-of, id-of, exitMade, madeOf, made-from}
+use Rattle.made_out.specs.Made.{id-of, exitMade, madeOf, made-from}
 use Rattle.references.specs.Entry.{idFrom}
 use Rattle.place.specs.declared.Place.{Place}
 use Rattle.place.specs.Step.{firstPlace, overOf}
 use Rattle.judge.specs.Judging.{Got, bad, blank, said, line}
 use Rattle.judge.specs.RndfLine.{rndfKind, rndf-judging}
-use Rattle.judge.proofs.RndfTies.{statement-is}
 use Rattle.walk.specs.Standing.{Where, place, places-in, over}
 use Rattle.walk.specs.Walking.{Found, fault, gathered, onward, walked}
 use Rattle.walk.proofs.RndfWalk.{told-as, walk-read, rndf-as-many}
 use Rattle.find_line.specs.FoundLines.{fieldsEnd, firstOf, rndfLineKind}
 use Rattle.find_line.proofs.FirstFields.{first-is, no-first, HasKind, line-has}
+use Rattle.find_line.proofs.RndfLines.{made-of-kind}
 use Rattle.mend_tests.specs.Tests.{thirdId, entryOn, isThere, isExitRight, allRight}
 
 -- a test behind another
@@ -95,18 +94,6 @@ none-at-fault {A} row front (a ∷ l) = go (row a) (none-at-fault row (front ++ 
 named-along : {N M : Type 0} (f : N → M) (j : Kind) (v : Says N j) (i : Kind) (e : j ≡ i) → subst (Says M) e (says-named f j v) ≡ says-named f i (subst (Says N) e v)
 named-along {N} {M} f j v i e = pathJ (λ i e. subst (Says M) e (says-named f j v) ≡ says-named f i (subst (Says N) e v))
     (subst-refl (Says M) {x = j} (says-named f j v) ∙ ap (says-named f j) (sym (subst-refl (Says N) {x = j} v))) e
-
--- the statement that the fields of a kind make is of that kind
-of-kind : {A : Type 0} (j : Kind) (t : Told.Statement) (f : A → Says Stretch j) (o : Option A) → some (meant t) ≡ Names.told-as (λ v. say j (f v)) o → meant t .kind ≡ j
-of-kind j t f none e = nothing (sym e)
-of-kind j t f (some v) e = let q : meant t ≡ say j (f v) = cc in ap (λ (x : Statement Stretch). x .kind) q
-
-made-of-kind : (s : Bytes) (base : ℕ) (f : Fields) (i : ℕ) → i < 30 → (t : Told.Statement) → made-from (madeOf s base f i) ≡ some t → kindOf t ≡ i
-made-of-kind s base f i h t e =
-    let j = getD kinds i point in
-    let b : kind-row j ≡ i = eqb-true (kind-row j) i (below (λ i. eqb (kind-row (getD kinds i point)) i) 30 refl i h) in
-    let o = readAll (rndf-sorts j) (behind (word-at (kind-row j)) (listed base s f (needs-of (getD shapes (kind-row j) 0)))) in
-    ap kind-row (of-kind j t (λ v. says-named stretch-of j (rndf-make j v)) o (sym (ap (Names.told-as meant) e) ∙ ap (λ (r : ℕ). Names.told-as meant (made-from (madeOf s base f r))) (sym b) ∙ statement-is j base s f)) ∙ b
 
 -- a test as a number, as `line-has` wants it: 30 where nothing is said
 abbrev coded : Bool → ℕ
@@ -197,7 +184,7 @@ module _ (k : Look) (m : ℕ) where
 
       go : (b : Bool) → eqb i 16 ≡ b → pick b (there (point-of (thirdId s))) true ≡ right (meant t)
       go true q = exit-made s base (fieldsIn s) t (ap (λ (j : ℕ). made-from (madeOf s base (fieldsIn s) j)) (sym (eqb-true i 16 q)) ∙ e)
-      go false q = sym (other-right (meant t) (ap (λ (j : ℕ). eqb j 16) (made-of-kind s base (fieldsIn s) i (ltb-true i 30 l) t e) ∙ q))
+      go false q = sym (other-right (meant t) (ap (λ (j : ℕ). eqb j 16) (sym (made-of-kind s base (fieldsIn s) i (ltb-true i 30 l) t e)) ∙ q))
 
   abbrev Right : Bytes → Got Told.Statement Place → Type 0
   Right l = HasKind rndf-judging (λ t. coded (right (meant t))) (coded (isExitRight k m l))
