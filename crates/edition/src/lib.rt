@@ -1,8 +1,8 @@
 // Which edition of the format a text is read by (request L10): the caller says it.
 //
-// specs/Editions: **what each means**, as the law has it, and as `grammar` has it.
+// specs/Editions: **what each means**, as the law has it.
 //
-// Rests on `grammar` and what it rests on.
+// Rests on `law` and what it rests on.
 ghost use mathlib.Core.Path.{_≡_};
 ghost use Rattle.edition.specs.Editions.{edition-numbered};
 

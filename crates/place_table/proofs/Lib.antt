@@ -1,3 +1,3 @@
--- The laws of the tables.
+-- The laws of the tables and of verdicts.
 pub mod Laws
 pub mod Verdicts

@@ -1,4 +1,4 @@
--- The rows of the tables, and a cell of one.
+-- The rows of the tables, a cell of one, and what becomes of a statement.
 pub mod RndfRows
 pub mod MdfRows
 pub mod Cells
