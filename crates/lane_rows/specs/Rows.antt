@@ -31,7 +31,7 @@ first-row before = next-point (before .so-far)
 abbrev pub rows-before : ℕ → Memory → List ℤ
 rows-before row m = take (row * pointStride) (m .points)
 
--- `before`: the tables as a reader has them at a place, and stands before the line that opens a part
+-- `before`: what a reader has at a place, before the line that opens a part
 module _ (e : Edition) (p : Place) (before : Memory) (start i : ℕ) (opening : Bytes) where
   -- the part's points go from its first row on
   abbrev pub FromItsFirstRow : Statement → Type 0
