@@ -54,7 +54,7 @@ stored-kept (Row.Lane a) m row h = refl
 stored-kept (Row.Zone a) m row h = refl
 stored-kept (Row.Spot a) m row h = refl
 stored-kept (Row.Point a) m row h = part-kept (m .points) (m .so-far .first) (m .so-far .within) a row h
-stored-kept (Row.Checkpoint a) m row h = refl
+stored-kept (Row.Checkpoint read point) m row h = refl
 stored-kept (Row.Stop a) m row h = refl
 stored-kept (Row.Exit a) m row h = refl
 
