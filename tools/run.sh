@@ -7,14 +7,15 @@ stop() {
     exit 2
 }
 
-# Sets `toolchain`, the kit's.
+# Sets `kit`, its folder, and `toolchain`, the part of it for this machine.
 find_kit() {
     rt=$(command -v rt) || stop "the kit's rt is not in PATH"
     while [ -L "$rt" ]; do
         link=$(readlink "$rt")
         case $link in /*) rt=$link ;; *) rt=$(dirname "$rt")/$link ;; esac
     done
-    toolchain=${RATTLE_HOME:-$(cd "$(dirname "$rt")/.." && pwd -P)}/on/$(uname -m)/toolchain
+    kit=${RATTLE_HOME:-$(cd "$(dirname "$rt")/.." && pwd -P)}
+    toolchain=$kit/on/$(uname -m)/toolchain
 }
 
 # below NAME: that crate and all crates below it, a line each. A line of crates.txt has what its crate names, and not all that this rests on.
@@ -59,9 +60,27 @@ show_progress() {
     done
 }
 
-# prove NAME: proves and builds the program NAME and what it rests on, where anything changed. What the checker says goes to a log, which is named where it fails.
+# sources: the kit and every file of the crates, as one sum: what every program is made of.
+sources() {
+    (cd "$root" && { cat "$kit/KIT-ID" && find crates crates.txt -type f -exec sha256sum {} + | LC_ALL=C sort; } | sha256sum)
+}
+
+# stamp NAME: that sum, and the program's own.
+stamp() {
+    sources
+    sha256sum <"$root/target/bin/$1"
+}
+
+# prove NAME: proves and builds the program NAME and what it rests on, unless it was built of just these sources and is as it was then (target/run/NAME). What the checker says goes to a log,
+# which is named where it fails.
 prove() {
-    mkdir -p "$root/target/log"
+    kept=$root/target/run/$1
+    if [ -x "$root/target/bin/$1" ] && [ -f "$kept" ] && [ "$(stamp "$1")" = "$(cat "$kept")" ]; then
+        return 0
+    fi
+    rm -f "$kept"
+    before=$(sources)
+    mkdir -p "$root/target/log" "$root/target/run"
     log=$root/target/log/$self.log
     : >"$log"
     show_progress "$1" "$log.began" &
@@ -77,6 +96,8 @@ prove() {
         grep -E '^rt: .*(NOT PROVED \(|run FAILED)' "$log" >&2 || tail -n 3 "$log" >&2
         stop "$1 is not proved or built; what the checker said is in $log"
     fi
+    # of sources that were changed in the meantime nothing is known
+    [ "$(sources)" != "$before" ] || stamp "$1" >"$kept"
 }
 
 # find_program NAME: sets `program`, as it was last built.
