@@ -1,0 +1,457 @@
+// The workbench: texts on the left, what the reader says of them above, the map on the right, and what ties them together. Whatever a file or a name holds is set as text and never as markup.
+"use strict";
+
+const at = (id) => document.getElementById(id);
+
+const COUNTED = [["segments", "segment"], ["zones", "zone"], ["lanes", "lane"], ["points", "point"], ["spots", "spot"], ["checkpoints", "checkpoint"], ["stops", "stop"], ["exits", "exit"]];
+const COUNTED_OF_MISSION = [["goals", "goal"], ["limits", "speed limit"]];
+
+// `1 segment, 0 zones, ..`, as run-check says it.
+function countsOf(answer, withMission) {
+    return [...COUNTED, ...(withMission ? COUNTED_OF_MISSION : [])].map(([count, word]) => answer[count] + " " + word + (answer[count] === 1 ? "" : "s")).join(", ");
+}
+
+class Workbench {
+    constructor(reader) {
+        this.reader = reader;
+        this.generation = 0;             // of the texts: grows with every change
+        this.read = null;                // the reader's answer for this generation, or null
+        this.network = null;             // what the map shows
+        this.missionLines = null;
+        this.fitNext = true;
+        this.editor = new Editor(at("editor"), { changed: (which, by) => this.changed(by), cursor: (which, line) => this.cursor(which, line), leave: () => at("tab-" + this.editor.shown).focus() });
+        this.map = new YardMap(at("map"), { picked: (feature) => this.picked(feature), pointed: (row) => this.panel && this.panel.pointed && this.panel.pointed(row),
+            describe: (feature) => this.network.describe(feature), drawn: () => { at("drawing").textContent = this.map ? this.map.painter.simplified : ""; } });
+        this.panels = { mend: new MendPanel(this), drive: new DrivePanel(this), route: new RoutePanel(this) };
+        this.panel = null;
+        this.listen();
+        this.showTabs();
+    }
+
+    // ## Reading
+
+    name(which) {
+        return this.editor.texts[which].name;
+    }
+
+    // Whether the texts, as they stand, are read and there is this one; of the MDF: and accepted.
+    isRead(which) {
+        return !!this.read && this.editor.isGiven(which) && (which === "rndf" || (this.read.answer.accepted && this.editor.isGiven("rndf")));
+    }
+
+    // The texts changed: they are read again at once, a large one when typing pauses for a moment.
+    changed(by) {
+        this.generation++;
+        this.read = null;
+        this.showTabs();
+        const long = this.editor.texts.rndf.doc.lineCount() > 50000 || this.editor.texts.mdf.doc.lineCount() > 50000;
+        clearTimeout(this.soon);
+        this.soon = setTimeout(() => this.readNow(), by === undefined || by === "setValue" ? 0 : long ? 350 : 40);
+    }
+
+    // One reading at a time; what changed meanwhile is read behind it.
+    async readNow() {
+        if (this.reading) {
+            this.again = true;
+            return;
+        }
+        this.reading = true;
+        const slow = setTimeout(() => this.say("reading ..", "none"), 400);
+        try {
+            do {
+                this.again = false;
+                await this.readOnce(this.generation);
+            } while (this.again);
+        } catch (why) {
+            if (!why.stopped) {
+                this.say("The reader failed: " + why.message, "bad");
+                this.reader.restart().catch(() => {});
+            }
+        } finally {
+            clearTimeout(slow);
+            this.reading = false;
+            document.dispatchEvent(new CustomEvent("yard-told"));        // all is shown: for tests
+        }
+    }
+
+    async readOnce(generation) {
+        const rndf = this.editor.content("rndf"), mdf = this.editor.content("mdf");
+        if (!rndf) {
+            this.tellNothing(mdf);
+            return;
+        }
+        const read = await this.reader.ask("read", { edition: at("edition").value, rndf, mdf });
+        if (generation === this.generation) this.tell(read, rndf, mdf);
+    }
+
+    tellNothing(mdf) {
+        this.editor.clearFaults();
+        this.read = null;
+        this.refuse("");
+        this.show(null, false);
+        this.fitNext = true;
+        if (mdf) this.say(mdf.name + ": this is an MDF; open or type its RNDF too", "bad");
+        else this.say("Open or drop an RNDF, and its MDF if both are to be checked; or type on the left.", "none");
+        this.showTabs();
+        if (this.panel) this.panel.update();
+    }
+
+    // What is wrong with the RNDF leaves the last map, in grey; with a refused MDF the network is shown all the same, without its goals.
+    tell(read, rndf, mdf) {
+        const { answer, network, sentence, lines } = read;
+        this.read = read;
+        this.editor.clearFaults();
+        this.missionLines = read.missionLines;
+        if (network) {
+            this.show(new Network(network, lines, (start, length) => (rndf.text !== undefined ? rndf.text.substr(start, length) : Texts.decode(rndf.bytes.subarray(start, start + length)).text)), this.fitNext);
+            this.fitNext = false;
+        } else {
+            this.map.age(true);
+            this.map.select(null);
+        }
+        const names = rndf.name + (mdf ? " with " + mdf.name : "");
+        if (answer.accepted) {
+            this.say(names + ": accepted; " + countsOf(answer, mdf), "good");
+            this.refuse("");
+        } else {
+            const about = answer.file === 2 ? "mdf" : "rndf";
+            this.say(answer.file === 2 ? this.name("mdf") + ": refused; " + rndf.name + " is accepted and shown" : rndf.name + ": refused" + (this.network ? "; the map is that of the text before" : ""), "bad");
+            this.refuse(sentence);
+            if (answer.line) {
+                if (!this.editor.typed) this.editor.show(about);
+                this.editor.markFault(about, answer.line, answer.column, sentence.split("\n")[0]);
+            }
+        }
+        this.showTabs();
+        if (answer.accepted) this.cursor(this.editor.shown, this.editor.cursorLine());
+        if (this.panel) this.panel.update();
+    }
+
+    show(network, fit) {
+        this.network = network;
+        this.map.show(network, fit);
+        at("no-map").hidden = !!network;
+        if (this.foreign) this.foreign.remove();
+        this.foreign = null;
+    }
+
+    // Asks the worker about the texts as they were read; null where they changed meanwhile, or it was stopped.
+    async question(ask, words) {
+        const { generation } = this;
+        try {
+            const answer = await this.reader.ask(ask, words);
+            return generation === this.generation ? answer : null;
+        } catch (why) {
+            if (!why.stopped) this.say("The reader failed: " + why.message, "bad");
+            return null;
+        }
+    }
+
+    reason(number) {
+        return this.reader.ask("reason", { number });
+    }
+
+    // Ends a question that takes too long; the texts are read again for the next.
+    async stop() {
+        await this.reader.restart();
+        if (this.editor.isGiven("rndf")) await this.reader.ask("read", { edition: at("edition").value, rndf: this.editor.content("rndf"), mdf: this.editor.content("mdf") });
+    }
+
+    // ## What is said
+
+    say(words, state) {
+        at("said").textContent = words;
+        at("verdict").dataset.state = state;
+    }
+
+    refuse(sentence) {
+        at("refusal").textContent = sentence.replace(/\n$/, "");
+        at("refusal").hidden = !sentence;
+        at("go").hidden = !sentence || !this.read || !this.read.answer.line;
+    }
+
+    // ## Text and map
+
+    cursor(which, line) {
+        if (!this.map || which !== "rndf" || !this.network || !this.read || !this.read.network) return;
+        this.map.select(this.network.featureAt(line));
+    }
+
+    picked(feature) {
+        const lines = feature && this.network.linesOf(feature);
+        if (lines && this.read) {
+            this.selectLines("rndf", lines[0], lines[1]);
+            this.map.select(feature);
+        } else if (!feature) {
+            this.map.select(null);
+        }
+    }
+
+    selectLines(which, from, to) {
+        this.editor.show(which);
+        this.editor.select(which, from, to);
+        this.showTabs();
+    }
+
+    // Where the first field of a line begins, from 1.
+    firstColumn(which, line) {
+        const { doc, first } = this.editor.texts[which];
+        return /^[\t ]*/.exec(doc.getLine(line - first) || "")[0].length + 1;
+    }
+
+    // ## Tabs
+
+    showTabs() {
+        const { answer } = this.read || {};
+        for (const which of ["rndf", "mdf"]) {
+            const tab = at("tab-" + which), given = this.editor.isGiven(which), shown = this.editor.shown === which;
+            tab.setAttribute("aria-selected", String(shown));
+            tab.tabIndex = shown ? 0 : -1;
+            tab.querySelector(".name").textContent = given ? this.name(which) + (this.editor.isChanged(which) ? " *" : "") : "";
+            const bad = answer && !answer.accepted && (answer.file === 2) === (which === "mdf");
+            const good = answer && given && !bad && (answer.accepted || (which === "rndf" && answer.file === 2));
+            tab.dataset.state = bad ? "bad" : good ? "good" : "none";
+            tab.querySelector(".mark").textContent = bad ? "\u2717" : good ? "\u2713" : "";
+            tab.querySelector(".mark").title = bad ? "refused" : good ? "accepted" : "";
+        }
+        at("editor").setAttribute("aria-labelledby", "tab-" + this.editor.shown);
+        at("close").disabled = !this.editor.isGiven(this.editor.shown);
+        const words = this.editor.excerptWords(this.editor.shown);
+        at("excerpt").textContent = words;
+        at("excerpt").hidden = !words;
+        const accepted = answer && answer.accepted, mission = this.editor.isGiven("mdf");
+        const can = { "rndf-text": this.editor.isGiven("rndf"), "mdf-text": mission, rndf: !!(this.read && this.read.network), mdf: !!accepted && mission, map: !!(this.read && this.read.network), packed: !!(this.read && this.read.network) };
+        for (const button of document.querySelectorAll("[data-save]")) button.disabled = !can[button.dataset.save];
+    }
+
+    tab(which) {
+        this.editor.show(which);
+        this.showTabs();
+    }
+
+    // ## Panels
+
+    toggle(which) {
+        const open = this.panel === this.panels[which] ? null : this.panels[which];
+        if (this.panel) this.panel.close();
+        this.panel = open;
+        at("panel").hidden = !open;
+        at("panel-body").replaceChildren();
+        for (const one of Object.keys(this.panels)) at("tool-" + one).setAttribute("aria-expanded", String(this.panels[one] === open));
+        if (!open) {
+            at("tool-" + which).focus();
+            return;
+        }
+        at("panel-title").textContent = open.title;
+        at("panel-title").focus();
+        open.open(at("panel-body"));
+    }
+
+    // ## Files
+
+    async openFiles(files) {
+        const given = { rndf: null, mdf: null };
+        for (const file of files) {
+            let bytes;
+            try {
+                bytes = new Uint8Array(await file.slice(0, Texts.LONGEST + 1).arrayBuffer());     // of a longer one a byte more is enough: it is refused all the same
+            } catch (why) {
+                this.say(file.name + ": the file can't be read (" + why.message + ")", "bad");
+                return;
+            }
+            if (/\.(geo)?json$/i.test(file.name)) {
+                this.openMap(file.name, bytes);
+                return;
+            }
+            const kind = await this.reader.ask("kind", { bytes });
+            if (kind === "packed") {
+                await this.openPacked(file.name, bytes);
+                return;
+            }
+            if (given[kind]) {
+                this.say(given[kind].name + ", " + file.name + ": one RNDF and at most one MDF can be checked", "bad");
+                return;
+            }
+            given[kind] = { name: file.name, bytes };
+        }
+        this.put(given);
+    }
+
+    // An MDF alone goes with the RNDF that is there; an RNDF alone leaves the MDF that is there.
+    put(given) {
+        const lost = ["rndf", "mdf"].filter((which) => given[which] && this.editor.isChanged(which));
+        if (lost.length && !confirm("Changes in " + lost.map((which) => this.name(which)).join(" and ") + " are not saved. Open all the same?")) return;
+        for (const which of ["rndf", "mdf"]) if (given[which]) this.editor.open(which, given[which].name, given[which].bytes);
+        if (given.rndf) this.fitNext = true;
+        this.editor.typed = 0;
+        this.editor.show(given.rndf ? "rndf" : "mdf");
+        this.changed();
+    }
+
+    // Packed bytes and maps have no text here: they are shown on the map, until a text changes.
+    async openPacked(name, bytes) {
+        const { answer, sentence } = await this.reader.ask("packed", { name, bytes });
+        this.read = null;
+        this.refuse(sentence);
+        this.say(answer.accepted ? name + ": accepted; " + countsOf(answer, false) : name + ": refused", answer.accepted ? "good" : "bad");
+        this.show(answer.accepted ? new Network(answer, null, (start, length) => Texts.decode(bytes.subarray(start, start + length)).text) : null, true);
+        this.showTabs();
+    }
+
+    openMap(name, bytes) {
+        this.read = null;
+        this.refuse("");
+        this.show(null, false);
+        this.showTabs();
+        try {
+            this.foreign = GeoMap.layer(JSON.parse(Texts.decode(bytes).text)).addTo(this.map.map);
+            at("no-map").hidden = true;
+            this.say(name + ": a map; there is no text of it here", "none");
+            if (this.foreign.getBounds().isValid()) this.map.map.fitBounds(this.foreign.getBounds(), { padding: [28, 28], maxZoom: 20, animate: false });
+        } catch (why) {
+            this.say(name + ": this is no map (" + why.message + ")", "bad");
+        }
+    }
+
+    async save(what) {
+        const which = what.startsWith("mdf") ? "mdf" : "rndf";
+        const base = this.name(which).replace(/\.[^.]*$/, "");
+        const name = { "rndf-text": this.name("rndf"), "mdf-text": this.name("mdf"), rndf: base + ".house.rndf", mdf: base + ".house.mdf", map: base + ".geojson", packed: base + ".packed" }[what];
+        let bytes;
+        if (what.endsWith("-text")) {
+            bytes = this.editor.bytesOf(which);
+            this.editor.saved(which);
+            this.showTabs();
+        } else {
+            const answer = await this.question("save", { what });
+            if (!answer) return;
+            if (!answer.accepted) {
+                this.say(name + ": not saved", "bad");
+                this.refuse(answer.sentence);
+                return;
+            }
+            bytes = answer.bytes;
+        }
+        const url = URL.createObjectURL(new Blob([bytes], { type: "application/octet-stream" }));
+        const link = Object.assign(document.createElement("a"), { href: url, download: name });
+        document.body.append(link);
+        link.click();
+        link.remove();
+        setTimeout(() => URL.revokeObjectURL(url), 60000);
+        document.dispatchEvent(new CustomEvent("yard-saved", { detail: { name, bytes } }));
+    }
+
+    // ## What the planner does
+
+    listen() {
+        const open = (files) => {
+            this.opened = (this.opened || Promise.resolve()).then(() => this.openFiles(files)).catch((why) => this.say("This page failed: " + why.message, "bad")).then(() => document.dispatchEvent(new CustomEvent("yard-opened")));
+        };
+        at("file").addEventListener("change", (event) => {
+            const files = [...event.target.files];
+            event.target.value = "";
+            if (files.length) open(files);
+        });
+        // before the editor, which would take a dropped file as text
+        const over = (on) => document.body.classList.toggle("over", on);
+        const carriesFiles = (event) => event.dataTransfer && [...event.dataTransfer.types].includes("Files");
+        window.addEventListener("dragover", (event) => {
+            if (!carriesFiles(event)) return;
+            event.preventDefault();
+            event.stopPropagation();
+            over(true);
+        }, true);
+        window.addEventListener("dragleave", (event) => { if (!event.relatedTarget) over(false); }, true);
+        window.addEventListener("drop", (event) => {
+            over(false);
+            if (!carriesFiles(event)) return;
+            event.preventDefault();
+            event.stopPropagation();
+            open([...event.dataTransfer.files]);
+        }, true);
+        at("example").addEventListener("click", () => this.put({ rndf: { name: "example.rndf", bytes: new TextEncoder().encode(EXAMPLE.rndf) }, mdf: { name: "example.mdf", bytes: new TextEncoder().encode(EXAMPLE.mdf) } }));
+        at("edition").addEventListener("change", () => { this.editor.typed = 0; this.changed(); });
+        for (const which of ["rndf", "mdf"]) at("tab-" + which).addEventListener("click", () => this.tab(which));
+        document.querySelector("[role=tablist]").addEventListener("keydown", (event) => {
+            if (!["ArrowLeft", "ArrowRight"].includes(event.key)) return;
+            this.tab(this.editor.shown === "rndf" ? "mdf" : "rndf");
+            at("tab-" + this.editor.shown).focus();
+        });
+        at("close").addEventListener("click", () => {
+            const which = this.editor.shown;
+            if (this.editor.isChanged(which) && !confirm("Changes in " + this.name(which) + " are not saved. Take it away all the same?")) return;
+            this.editor.close(which);
+            this.editor.typed = 0;
+            this.changed();
+        });
+        at("go").addEventListener("click", () => this.goToFault());
+        for (const which of Object.keys(this.panels)) at("tool-" + which).addEventListener("click", () => this.toggle(which));
+        at("panel-close").addEventListener("click", () => this.closePanel());
+        at("panel").addEventListener("keydown", (event) => { if (event.key === "Escape") this.closePanel(); });
+        at("fit").addEventListener("click", () => this.map.fit());
+        at("exits").addEventListener("change", (event) => { this.map.painter.exits = event.target.checked; this.map.painter.base.repaint(); });
+        for (const button of document.querySelectorAll("[data-save]")) button.addEventListener("click", () => { at("save").open = false; this.save(button.dataset.save); });
+        document.addEventListener("click", (event) => { if (!at("save").contains(event.target)) at("save").open = false; });
+        at("save").addEventListener("keydown", (event) => { if (event.key === "Escape") { at("save").open = false; at("save").querySelector("summary").focus(); } });
+        window.addEventListener("keydown", (event) => {
+            if (event.key === "F8") {
+                event.preventDefault();
+                this.goToFault();
+            } else if ((event.ctrlKey || event.metaKey) && event.key.toLowerCase() === "s") {
+                event.preventDefault();
+                if (this.editor.isGiven(this.editor.shown)) this.save(this.editor.shown + "-text");
+            }
+        });
+        window.addEventListener("beforeunload", (event) => { if (this.editor.isChanged("rndf") || this.editor.isChanged("mdf")) event.preventDefault(); });
+        this.listenDivider();
+        // on paper the map has another size
+        window.addEventListener("beforeprint", () => { document.body.classList.add("printing"); this.map.map.invalidateSize({ animate: false }); this.map.fit(); this.map.painter.base.repaint(true); this.map.painter.above.repaint(true); });
+        window.addEventListener("afterprint", () => { document.body.classList.remove("printing"); this.map.map.invalidateSize({ animate: false }); });
+    }
+
+    closePanel() {
+        const open = Object.keys(this.panels).find((one) => this.panels[one] === this.panel);
+        if (open) this.toggle(open);
+    }
+
+    goToFault() {
+        if (!this.read || this.read.answer.accepted || !this.read.answer.line) return;
+        const which = this.read.answer.file === 2 ? "mdf" : "rndf";
+        this.tab(which);
+        this.editor.goToFault(which, true);
+    }
+
+    listenDivider() {
+        const divider = at("divider");
+        const set = (percent) => {
+            const width = Math.max(15, Math.min(85, percent));
+            document.documentElement.style.setProperty("--editor", width + "%");
+            divider.setAttribute("aria-valuenow", String(Math.round(width)));
+            this.editor.refresh();
+        };
+        divider.addEventListener("pointerdown", (event) => divider.setPointerCapture(event.pointerId));
+        divider.addEventListener("pointermove", (event) => { if (divider.hasPointerCapture(event.pointerId)) set(100 * event.clientX / document.body.clientWidth); });
+        divider.addEventListener("keydown", (event) => {
+            const step = { ArrowLeft: -3, ArrowRight: 3 }[event.key];
+            if (step) set(Number(divider.getAttribute("aria-valuenow")) + step);
+        });
+    }
+}
+
+async function begin() {
+    at("version").textContent = "reader " + YARD_VERSION.version;
+    at("about-version").textContent = YARD_VERSION.version;
+    at("about-sha").textContent = YARD_VERSION.sha256;
+    const module = Uint8Array.from(atob(at("module").textContent), (letter) => letter.charCodeAt(0));
+    try {
+        const reader = new Reader(at("worker").textContent, module);
+        await reader.begun;
+        const bench = new Workbench(reader);
+        document.dispatchEvent(new CustomEvent("yard-ready", { detail: bench }));
+    } catch (why) {
+        at("said").textContent = "The reader can't run in this browser (" + why.message + "); run-check can read your files.";
+        at("verdict").dataset.state = "bad";
+    }
+}
+
+begin();

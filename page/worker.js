@@ -1,0 +1,80 @@
+// The reader's own thread, so that a text of 16 MB does not stop the page. It has the texts that were read last, and answers what is asked of them, one question after the other.
+"use strict";
+
+const Asked = (() => {
+    let yard = null, edition = "2007", rndf = null, mdf = null;        // of a file: { name, bytes }
+
+    // A text comes as a string with its encoding, or as bytes (texts.js).
+    const taken = (file) => file && { name: file.name, bytes: file.bytes || Texts.encode(file.text, file.encoding) };
+    const told = (answer) => {
+        const about = answer.file === 2 ? mdf : rndf;
+        return yard.sentence(about.name, about.bytes, answer);
+    };
+
+    // What a file is: "mdf", "packed" or "rndf". No text begins with the version byte of packed bytes.
+    const kind = ({ bytes }) => (bytes[0] === 2 ? "packed" : yard.isMission(bytes) ? "mdf" : "rndf");
+
+    // The pair, or the RNDF alone. Where the MDF alone is refused the network is read again, to be shown.
+    function read(asked) {
+        edition = asked.edition;
+        rndf = taken(asked.rndf);
+        mdf = taken(asked.mdf);
+        const answer = yard.read(edition, rndf.bytes, mdf && mdf.bytes);
+        const network = !answer.accepted && answer.file === 2 ? yard.read(edition, rndf.bytes, null) : answer;
+        return {
+            answer, network: network.accepted ? network : null, sentence: answer.accepted ? "" : told(answer),
+            lines: network.accepted ? Lines.ofNetwork(rndf.bytes, network) : null, missionLines: answer.accepted && mdf ? Lines.ofMission(mdf.bytes, answer) : null,
+        };
+    }
+
+    function packed({ name, bytes }) {
+        const answer = yard.readPacked(bytes);
+        return { answer, sentence: answer.accepted ? "" : yard.sentence(name, new Uint8Array(0), answer) };
+    }
+
+    // What was mended, line by line (mending.js), and the text; or why not.
+    function mend() {
+        const answer = yard.mend(edition, rndf.bytes);
+        if (!answer.accepted) return { accepted: false, sentence: yard.sentence(rndf.name, new Uint8Array(0), answer) };
+        return { accepted: true, sentence: Mending.nothing(rndf.name), changes: Mending.changes(rndf.name, rndf.bytes, answer.output, answer.list), rows: answer.list.length / 2, bytes: answer.output };
+    }
+
+    const drive = ({ start }) => bare(yard.mission(edition, rndf.bytes, mdf.bytes, start));
+    const route = ({ start, points }) => bare(yard.route(edition, rndf.bytes, mdf.bytes, start, points));
+
+    // The line of an MDF with a caret below it, as sentences have it: without the first line.
+    const picture = ({ line, column }) => yard.sentence("", mdf.bytes, { line, number: 31, column }).split("\n").slice(1).join("\n");
+
+    // The reason of a number, without a name.
+    const reason = ({ number }) => yard.sentence("", new Uint8Array(0), { line: 0, number, column: 0 }).replace(/^: |\n$/g, "");
+
+    function save({ what }) {
+        const answer = what === "rndf" ? yard.house(edition, rndf.bytes) : what === "mdf" ? yard.houseOfMission(edition, rndf.bytes, mdf.bytes) : what === "map" ? yard.map(edition, rndf.bytes) : yard.packed(edition, rndf.bytes);
+        return { accepted: answer.accepted, sentence: answer.accepted ? "" : told(answer), bytes: answer.output };
+    }
+
+    const bare = ({ accepted, file, line, number, column }) => ({ accepted, file, line, number, column });
+
+    async function begin({ module }) {
+        yard = await Yard.load(module);
+        return true;
+    }
+
+    return { begin, kind, read, packed, mend, drive, route, picture, reason, save };
+})();
+
+// Buffers go over and are not copied.
+function buffersIn(value, found = new Set()) {
+    if (ArrayBuffer.isView(value)) found.add(value.buffer);
+    else if (value && typeof value === "object") Object.values(value).forEach((one) => buffersIn(one, found));
+    return found;
+}
+
+onmessage = async ({ data }) => {
+    try {
+        const answer = await Asked[data.ask](data);
+        postMessage({ id: data.id, answer }, [...buffersIn(answer)]);
+    } catch (why) {
+        postMessage({ id: data.id, failed: String(why && why.message || why) });
+    }
+};
