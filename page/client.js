@@ -13,9 +13,9 @@ class Reader {
     begin() {
         const url = URL.createObjectURL(new Blob([this.scripts], { type: "text/javascript" }));
         this.worker = new Worker(url);
-        this.worker.onmessage = ({ data: { id, answer, failed } }) => {
-            const { good, bad } = this.waiting.get(id);
-            this.waiting.delete(id);
+        this.worker.onmessage = ({ data: { ticket, answer, failed } }) => {
+            const { good, bad } = this.waiting.get(ticket);
+            this.waiting.delete(ticket);
             if (failed === undefined) good(answer);
             else bad(new Error(failed));
         };
@@ -27,7 +27,7 @@ class Reader {
     ask(question, words = {}) {
         return new Promise((good, bad) => {
             this.waiting.set(++this.number, { good, bad });
-            this.worker.postMessage({ ...words, id: this.number, ask: question });
+            this.worker.postMessage({ ...words, ticket: this.number, ask: question });
         });
     }
 

@@ -253,17 +253,15 @@ const Editor = (() => {
             this.view.operation(() => {
                 let gone = changes.filter((one) => one.after === null).length;
                 for (const { line, after } of [...changes].reverse()) {
-                    const last = line - 1 === text.doc.lastLine();
                     if (after === null) {
                         gone--;
-                        const from = last && line > 1 ? { line: line - 2, ch: text.doc.getLine(line - 2).length } : { line: line - 1, ch: 0 };
-                        text.doc.replaceRange("", from, last ? { line: line - 1 } : { line, ch: 0 }, "+mend");
+                        text.doc.replaceRange("", { line: line - 1, ch: 0 }, line - 1 === text.doc.lastLine() ? { line: line - 1 } : { line, ch: 0 }, "+mend");
                     } else {
                         text.doc.replaceRange(lines[line - 1 - gone], { line: line - 1, ch: 0 }, { line: line - 1 }, "+mend");
                     }
                 }
             });
-            if (text.doc.getValue("\n") !== characters) text.doc.setValue(characters);      // a last line that goes with its LF
+            if (text.doc.getValue("\n") !== characters) text.doc.setValue(characters);      // should the steps give anything else than the library's text
         }
 
         askLine(view) {

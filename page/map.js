@@ -20,7 +20,7 @@ class YardMap {
 
     // A network, or null; `fit` brings all of it into view.
     show(network, fit) {
-        this.painter.old = false;
+        this.age(false);
         this.painter.setNetwork(network);
         this.tip.remove();
         if (network && fit) this.fit();
@@ -32,17 +32,15 @@ class YardMap {
         this.map.fitBounds(this.painter.wholeBounds(), { padding: [28, 28], maxZoom: 20, animate: false });
     }
 
-    // The network is of an earlier text.
+    // The network is of an earlier text: it is shown in grey.
     age(old) {
-        if (this.painter.old === old) return;
-        this.painter.old = old;
-        this.painter.base.repaint();
+        this.map.getContainer().classList.toggle("old", old);
     }
 
     // Marks a feature, and brings it into view if nothing of it is.
     select(feature) {
         const { painter, map } = this;
-        painter.setAbove({ selected: painter.network ? feature : null });
+        painter.select(painter.network ? feature : null);
         if (!feature || !painter.network) return;
         const bounds = painter.boundsOf(painter.network.runsOf(feature));
         if (bounds && !map.getBounds().intersects(bounds)) map.panTo(bounds.getCenter(), { animate: false });

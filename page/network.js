@@ -117,9 +117,17 @@ const Network = (() => {
         goalsOf(number) {
             if (!this.goalPlaces) {
                 this.goalPlaces = new Map();
-                this.goals.forEach((goal, i) => this.goalPlaces.set(goal, [...(this.goalPlaces.get(goal) || []), i + 1]));
+                this.goals.forEach((goal, i) => {
+                    if (!this.goalPlaces.has(goal)) this.goalPlaces.set(goal, []);
+                    this.goalPlaces.get(goal).push(i + 1);
+                });
             }
             return this.goalPlaces.get(number) || [];
+        }
+
+        // The point of the goal in this row.
+        goalPoint(row) {
+            return this.checkpoints[2 * this.checkpointOf.get(this.goals[row]) + 1];
         }
 
         // What is shown where the pointer rests, a line each.

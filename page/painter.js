@@ -1,12 +1,13 @@
-// Draws a network on two canvases of a Leaflet map: the yard, and above it what changes often (what is selected, a route, a start). Straight from the tables, since a map of 500,000 points as Leaflet's
+// Draws a network on three canvases of a Leaflet map: what is selected, as a halo; above it the yard; above that a route, a start, a goal that is missed. Straight from the tables, since a map of 500,000 points as Leaflet's
 // own layers would take minutes. Where more would be drawn than a screen can show, a part of the points is left out, and `simplified` says so.
 "use strict";
 
 const Painter = (() => {
-    const MOST_LINES = 120000, MOST_DOTS = 4000, MOST_MARKS = 20000, MOST_GOALS = 1500;
-    const SLICE = 12;                // ms of drawing at a time
-    const COLOUR = { lane: "#1f6feb", perimeter: "#b45309", fill: "rgba(217, 119, 6, .13)", spot: "#8a5a00", checkpoint: "#b3123c", exit: "#6b7280", stop: "#111827", old: "#9aa3ad",
-        halo: "rgba(255, 196, 0, .85)", good: "#0a7d36", bad: "#d1001f", start: "#0a7d36", goal: "#111827" };
+    const MOST_DOTS = 4000, MOST_EXITS = 20000, MOST_GOALS = 100;
+    const MOST_INK = 3e6;            // pixels of lines in all: more can't be told apart
+    const INK = 150000;              // and in one frame: a browser that draws without a graphics card needs some 50 ms for so many
+    const COLOUR = { lane: "#1f6feb", perimeter: "#b45309", fill: "rgba(217, 119, 6, .13)", spot: "#8a5a00", checkpoint: "#b3123c", exit: "#6b7280", stop: "#111827", point: "#174ea6", later: "#9aa3ad",
+        halo: "#ffc400", good: "#0a7d36", bad: "#d1001f", start: "#0a7d36", goal: "#111827" };
 
     // A canvas in a pane of the map that covers the view and some more, and is painted again when the view has moved.
     const Sheet = L.Renderer.extend({
@@ -31,7 +32,7 @@ const Painter = (() => {
             this._container.style.height = size.y + "px";
             this.repaint();
         },
-        // Paints in slices of time; what was begun before is dropped.
+        // Paints a frame's share at a time; what was begun before is dropped.
         repaint(whole) {
             cancelAnimationFrame(this._frame);
             if (!this._map || !this._bounds) return;
@@ -42,9 +43,8 @@ const Painter = (() => {
             const origin = this._map.getPixelOrigin().add(this._bounds.min), scale = this._map.options.crs.scale(this._map.getZoom());
             const steps = this.options.paint(context, { scale, x: origin.x, y: origin.y, width: size.x, height: size.y });
             const go = () => {
-                const until = performance.now() + (whole ? Infinity : SLICE);
                 let step = steps.next();
-                while (!step.done && performance.now() < until) step = steps.next();
+                while (!step.done && whole) step = steps.next();
                 if (!step.done) this._frame = requestAnimationFrame(go);
                 this.finished = !!step.done;
             };
@@ -58,13 +58,13 @@ const Painter = (() => {
             this.map = map;
             this.changed = changed;          // what is said of the drawing has changed
             this.network = null;
-            this.old = false;                // drawn grey: the text has changed since and is refused
             this.exits = true;
             this.selected = null;
             this.route = { points: [], bad: -1 };
             this.start = -1;
             this.missed = -1;
             this.simplified = "";
+            this.below = new Sheet({ pane: "tilePane", paint: (context, view) => this.paintBelow(context, view) }).addTo(map);
             this.base = new Sheet({ pane: "overlayPane", paint: (context, view) => this.paintYard(context, view) }).addTo(map);
             this.above = new Sheet({ pane: "markerPane", paint: (context, view) => this.paintAbove(context, view) }).addTo(map);
         }
@@ -75,10 +75,18 @@ const Painter = (() => {
             this.network = network;
             this.selected = null;
             if (network) this.project(network);
+            this.below.repaint();
             this.base.repaint();
             this.above.repaint();
         }
 
+        select(feature) {
+            if (!this.selected && !feature) return;
+            this.selected = feature;
+            this.below.repaint();
+        }
+
+        // The route, the start, the goal that is missed.
         setAbove(what) {
             Object.assign(this, what);
             this.above.repaint();
@@ -141,122 +149,142 @@ const Painter = (() => {
             const { network } = this;
             if (!network) return;
             const { lanes, zones, spots, checkpoints, exits, stops } = network;
-            const colour = (kind) => (this.old ? COLOUR.old : COLOUR[kind]);
             const X = (p) => this.x[p] * view.scale - view.x, Y = (p) => this.y[p] * view.scale - view.y;
             const west = view.x / view.scale, north = view.y / view.scale, east = (view.x + view.width) / view.scale, south = (view.y + view.height) / view.scale;
             const seen = (boxes, i) => boxes[4 * i] <= east && boxes[4 * i + 2] >= west && boxes[4 * i + 1] <= south && boxes[4 * i + 3] >= north;
             const inView = (p) => this.x[p] >= west && this.x[p] <= east && this.y[p] >= north && this.y[p] <= south;
             const laneCount = lanes.length / 5, zoneCount = zones.length / 6;
+            // the pixels of a line from a to b, none where it passes by the view
+            const longest = view.width + view.height;
+            const inkOf = (a, b) => (Math.max(this.x[a], this.x[b]) < west || Math.min(this.x[a], this.x[b]) > east || Math.max(this.y[a], this.y[b]) < north || Math.min(this.y[a], this.y[b]) > south ? 0
+                : Math.min(longest, (Math.abs(this.x[a] - this.x[b]) + Math.abs(this.y[a] - this.y[b])) * view.scale) + 1);
 
-            // how much there is in view
-            let lines = 0, dots = 0;
-            for (let i = 0; i < laneCount; i++) if (seen(this.laneBoxes, i)) lines += lanes[5 * i + 1];
-            for (let i = 0; i < zoneCount; i++) if (seen(this.zoneBoxes, i)) lines += zones[6 * i + 1];
+            // how much there is in view, and which part of the points is drawn
+            let lines = 0, all = 0, dots = 0;
+            const count = (first, points) => {
+                lines += points;
+                for (let p = first + 1; p < first + points; p++) all += inkOf(p - 1, p);
+            };
+            for (let i = 0; i < laneCount; i++) if (seen(this.laneBoxes, i)) count(lanes[5 * i], lanes[5 * i + 1]);
+            for (let i = 0; i < zoneCount; i++) if (seen(this.zoneBoxes, i)) count(zones[6 * i], zones[6 * i + 1]);
             for (let p = 0; p < network.pointCount && dots <= MOST_DOTS; p++) if (inView(p)) dots++;
-            const every = Math.ceil(lines / MOST_LINES);
+            const every = Math.max(1, Math.ceil(all / MOST_INK));
             this.simplified = every > 1 ? "Simplified: of " + lines.toLocaleString("en") + " points one in " + every + " is drawn; zoom in to see more." : "";
             this.changed();
-            let steps = 0;
-            context.lineJoin = context.lineCap = "round";
+            const thin = all > MOST_INK / 4;
+            context.lineJoin = context.lineCap = thin ? "butt" : "round";
+            context.lineJoin = "bevel";
 
-            // one lane or perimeter: points that fall on the same pixel as the last are left out
-            const path = (first, count, closed) => {
-                let lastX = X(first), lastY = Y(first);
-                context.moveTo(lastX, lastY);
-                for (let k = every; k < count; k += every) {
-                    const px = X(first + k), py = Y(first + k);
-                    if (Math.abs(px - lastX) + Math.abs(py - lastY) < 0.7 && k + every < count) continue;
-                    context.lineTo(px, py);
-                    lastX = px;
-                    lastY = py;
-                }
-                if (count === 1) context.lineTo(lastX + 0.01, lastY);
-                if (closed) context.closePath();
-            };
+            // so many pixels were drawn in this frame
+            let ink = 0;
 
-            for (let i = 0; i < zoneCount; i++) {
-                if (!seen(this.zoneBoxes, i)) continue;
+            // Draws one lane, perimeter or spot, and ends the frame where it is full. What falls on the same pixel as the last point is left out. Where it is simplified, of a long one some points are drawn, of
+            // short ones some.
+            function* path(row, first, points, closed, fill) {
+                const step = points > 4 * every ? every : 1;
+                if (step < every && row % every) return;
+                let last = first, lastX = X(first), lastY = Y(first);
                 context.beginPath();
-                path(zones[6 * i], zones[6 * i + 1], true);
-                context.fillStyle = COLOUR.fill;
-                context.strokeStyle = colour("perimeter");
-                context.lineWidth = zones[6 * i + 1] === 1 ? 8 : 2;
-                if (!this.old) context.fill();
+                context.moveTo(lastX, lastY);
+                for (let k = step; k < points; k += step) {
+                    const p = first + k, px = X(p), py = Y(p);
+                    if (Math.abs(px - lastX) + Math.abs(py - lastY) < 0.7 && k + step < points) continue;
+                    const more = inkOf(last, p);
+                    if (more) context.lineTo(px, py);
+                    else context.moveTo(px, py);
+                    [last, lastX, lastY] = [p, px, py];
+                    ink += more;
+                    if (ink > INK && !fill) {
+                        context.stroke();
+                        yield;
+                        ink = 0;
+                        context.beginPath();
+                        context.moveTo(px, py);
+                    }
+                }
+                if (points === 1) context.lineTo(lastX + 0.01, lastY);
+                if (closed) context.lineTo(X(first), Y(first));
+                if (fill) context.fill();
                 context.stroke();
-                if ((steps += zones[6 * i + 1] / every) > 500) { steps = 0; yield; }
+                if (ink > INK) {
+                    yield;
+                    ink = 0;
+                }
             }
 
-            if (this.exits && exits.length / 2 <= MOST_MARKS) {
-                context.strokeStyle = colour("exit");
+            context.fillStyle = COLOUR.fill;
+            context.strokeStyle = COLOUR.perimeter;
+            for (let i = 0; i < zoneCount; i++) {
+                if (!seen(this.zoneBoxes, i)) continue;
+                context.lineWidth = zones[6 * i + 1] === 1 ? 8 : thin ? 1 : 2;
+                yield* path(i, zones[6 * i], zones[6 * i + 1], true, zoneCount < 500 && zones[6 * i + 1] < 500);
+            }
+
+            if (this.exits && exits.length / 2 <= MOST_EXITS) {
+                context.strokeStyle = COLOUR.exit;
                 context.lineWidth = 1;
-                context.setLineDash([4, 3]);
+                context.setLineDash(thin ? [] : [4, 3]);
                 context.beginPath();
-                for (let i = 0; i < exits.length; i += 2) {
-                    const a = exits[i], b = exits[i + 1];
-                    if (Math.max(this.x[a], this.x[b]) < west || Math.min(this.x[a], this.x[b]) > east || Math.max(this.y[a], this.y[b]) < north || Math.min(this.y[a], this.y[b]) > south) continue;
-                    context.moveTo(X(a), Y(a));
-                    context.lineTo(X(b), Y(b));
-                    if (i % 1000 === 0) { context.stroke(); context.beginPath(); yield; }
+                for (let i = 0; i < exits.length && all + ink < MOST_INK; i += 2) {
+                    const more = inkOf(exits[i], exits[i + 1]);
+                    if (!more) continue;
+                    context.moveTo(X(exits[i]), Y(exits[i]));
+                    context.lineTo(X(exits[i + 1]), Y(exits[i + 1]));
+                    if ((ink += more) > INK) {
+                        context.stroke();
+                        yield;
+                        ink = 0;
+                        context.beginPath();
+                    }
                 }
                 context.stroke();
                 context.setLineDash([]);
             }
 
-            context.strokeStyle = colour("lane");
-            context.lineWidth = laneCount > 5000 ? 1.5 : 3;
+            context.strokeStyle = COLOUR.lane;
+            context.lineWidth = thin ? 1 : 3;
             for (let i = 0; i < laneCount; i++) {
                 if (!seen(this.laneBoxes, i)) continue;
-                context.beginPath();
-                const count = lanes[5 * i + 1];
-                // a long lane in pieces, so that each is drawn in a moment
-                for (let from = 0; from < count; from += 2000 * every) {
-                    path(lanes[5 * i] + from, Math.min(count - from, 2000 * every + 1), false);
-                    context.stroke();
-                    if ((steps += 2000) > 4000) { steps = 0; yield; }
-                    context.beginPath();
-                }
-                if (count === 1) dot(context, X(lanes[5 * i]), Y(lanes[5 * i]), 4, colour("lane"));
+                yield* path(i, lanes[5 * i], lanes[5 * i + 1], false, false);
+                if (lanes[5 * i + 1] === 1) dot(context, X(lanes[5 * i]), Y(lanes[5 * i]), 4, COLOUR.lane);
             }
 
-            context.strokeStyle = colour("spot");
-            context.lineWidth = 4;
+            context.strokeStyle = COLOUR.spot;
+            context.lineWidth = thin ? 1 : 4;
             for (let i = 0; i < spots.length; i += 2) {
-                if (!inView(spots[i]) && !inView(spots[i] + 1)) continue;
-                context.beginPath();
-                context.moveTo(X(spots[i]), Y(spots[i]));
-                context.lineTo(X(spots[i] + 1), Y(spots[i] + 1));
-                context.stroke();
-                if (i % 1000 === 0) yield;
+                if (!inkOf(spots[i], spots[i] + 1)) continue;
+                ink += 40;
+                yield* path(i / 2, spots[i], 2, false, false);
             }
 
             if (dots <= MOST_DOTS) {
-                const apart = this.apart(view, inView, dots);
-                for (let p = 0; p < network.pointCount && apart > 7; p++) if (inView(p)) ring(context, X(p), Y(p), apart > 16 ? 2.6 : 1.7, this.old ? COLOUR.old : "#174ea6");
-                if (apart > 18 && laneCount) yield* this.arrows(context, X, Y, seen);
+                const apart = this.apart(view, dots);
+                for (let p = 0; p < network.pointCount && apart > 7; p++) if (inView(p)) ring(context, X(p), Y(p), apart > 16 ? 2.6 : 1.7, COLOUR.point);
+                if (apart > 18 && laneCount) this.arrows(context, X, Y, seen);
+                for (const p of stops) if (inView(p)) square(context, X(p), Y(p), 4.5, COLOUR.stop);
+                yield;
             }
 
-            if (dots <= MOST_DOTS) for (const p of stops) if (inView(p)) square(context, X(p), Y(p), 4.5, colour("stop"));
-
-            const few = checkpoints.length / 2 <= 5000 || dots <= MOST_DOTS;
+            const few = checkpoints.length / 2 <= 3000 || dots <= MOST_DOTS;
             for (let i = 0, n = 0; i < checkpoints.length; i += 2) {
                 const p = checkpoints[i + 1];
                 if (!inView(p)) continue;
-                if (few) dot(context, X(p), Y(p), 5, colour("checkpoint"));
-                else square(context, X(p), Y(p), 1.5, colour("checkpoint"));
-                if (++n % 1000 === 0) yield;
+                if (few) dot(context, X(p), Y(p), 5, COLOUR.checkpoint);
+                else square(context, X(p), Y(p), 1.5, COLOUR.checkpoint);
+                if (++n % 2000 === 0) yield;
             }
-            yield* this.paintGoals(context, X, Y, inView);
+            this.paintGoals(context, X, Y, inView);
         }
 
         // How many pixels points in view are apart, about.
-        apart(view, inView, dots) {
+        apart(view, dots) {
             return Math.sqrt(view.width * view.height / Math.max(1, dots)) / 3;
         }
 
         // The way that lanes go: an arrow in the middle of a lane's longest step in view.
-        *arrows(context, X, Y, seen) {
+        arrows(context, X, Y, seen) {
             const { lanes } = this.network;
-            context.fillStyle = this.old ? COLOUR.old : "#174ea6";
+            context.fillStyle = COLOUR.point;
             for (let i = 0; i < lanes.length / 5; i++) {
                 if (!seen(this.laneBoxes, i)) continue;
                 let best = 24, place = -1;
@@ -275,25 +303,27 @@ const Painter = (() => {
                 context.lineTo(-5, 5);
                 context.fill();
                 context.restore();
-                if (i % 100 === 0) yield;
             }
         }
 
         // Goals beside their points, numbered in the order in which they are to be met; several on one point in one label.
-        *paintGoals(context, X, Y, inView) {
+        paintGoals(context, X, Y, inView) {
             const labels = this.goalLabels();
             context.font = "bold 12px sans-serif";
             context.textBaseline = "middle";
-            let n = 0;
+            const taken = new Set();             // of many, a label that would cover another is left out
             for (const [point, words] of labels) {
                 if (!inView(point)) continue;
-                if (++n > MOST_GOALS) break;
                 const wide = context.measureText(words).width + 8, left = X(point) + 8, top = Y(point) - 8;
+                if (labels.size > MOST_GOALS) {
+                    const cells = [0, 1, 2, 3].flatMap((i) => [0, 15].map((j) => Math.floor((left + i * wide / 3) / 12) + " " + Math.floor((top + j) / 16)));
+                    if (cells.some((cell) => taken.has(cell))) continue;
+                    cells.forEach((cell) => taken.add(cell));
+                }
                 context.fillStyle = COLOUR.goal;
                 context.fillRect(left, top, wide, 16);
                 context.fillStyle = "#fff";
                 context.fillText(words, left + 4, top + 8.5);
-                if (n % 200 === 0) yield;
             }
         }
 
@@ -303,8 +333,8 @@ const Painter = (() => {
             if (!network) return new Map();
             if (network.labels) return network.labels;
             const places = new Map();
-            network.goals.forEach((number, i) => {
-                const point = network.checkpoints[2 * network.checkpointOf.get(number) + 1];
+            network.goals.forEach((_, i) => {
+                const point = network.goalPoint(i);
                 if (!places.has(point)) places.set(point, []);
                 places.get(point).push(i + 1);
             });
@@ -312,11 +342,51 @@ const Painter = (() => {
             return network.labels;
         }
 
-        // ## What lies above
+        // ## What lies above and below
 
         *paintAbove(context, view) {
             if (!this.network) return;
+            const { X, Y, line } = this.pen(context, view);
+            const { points, bad } = this.route;
+            if (points.length) {
+                line(bad < 0 ? points : points.slice(0, bad), COLOUR.good, 6);
+                if (bad > 0) {
+                    line(points.slice(bad), COLOUR.later, 4);
+                    line([points[bad - 1], points[bad]], COLOUR.bad, 6, [10, 7]);
+                    ring(context, X(points[bad]), Y(points[bad]), 10, COLOUR.bad, 3);
+                }
+                points.forEach((p, i) => dot(context, X(p), Y(p), i ? 3.5 : 6, bad < 0 || i < bad ? COLOUR.good : i === bad ? COLOUR.bad : COLOUR.later));
+            }
+            if (this.start >= 0) {
+                ring(context, X(this.start), Y(this.start), 10, COLOUR.start, 4);
+                dot(context, X(this.start), Y(this.start), 3, COLOUR.start);
+            }
+            if (this.missed >= 0) ring(context, X(this.missed), Y(this.missed), 14, COLOUR.bad, 4);
+        }
+
+        *paintBelow(context, view) {
+            if (!this.network || !this.selected) return;
+            const { X, Y, line } = this.pen(context, view);
+            const { kind } = this.selected;
+            const runs = this.network.runsOf(this.selected);
+            if (kind === "exit") {
+                line([runs[0][0], runs[1][0]], COLOUR.halo, 9);
+                return;
+            }
+            for (const [first, count] of runs) {
+                if (count === 1) {
+                    dot(context, X(first), Y(first), 13, COLOUR.halo);
+                    continue;
+                }
+                const every = Math.ceil(count / 20000), points = [];
+                for (let k = 0; k < count; k += every) points.push(first + k);
+                line(kind === "perimeter" || kind === "zone" ? [...points, first] : points, COLOUR.halo, 13);
+            }
+        }
+
+        pen(context, view) {
             const X = (p) => this.x[p] * view.scale - view.x, Y = (p) => this.y[p] * view.scale - view.y;
+            context.lineJoin = context.lineCap = "round";
             const line = (points, style, wide, dash) => {
                 context.strokeStyle = style;
                 context.lineWidth = wide;
@@ -326,41 +396,7 @@ const Painter = (() => {
                 context.stroke();
                 context.setLineDash([]);
             };
-            context.lineJoin = context.lineCap = "round";
-            if (this.selected) this.paintSelected(context, X, Y, line);
-            const { points, bad } = this.route;
-            if (points.length) {
-                line(bad < 0 ? points : points.slice(0, bad), COLOUR.good, 6);
-                if (bad > 0) {
-                    line(points.slice(bad), COLOUR.old, 4);
-                    line([points[bad - 1], points[bad]], COLOUR.bad, 6, [10, 7]);
-                    ring(context, X(points[bad]), Y(points[bad]), 10, COLOUR.bad, 3);
-                }
-                points.forEach((p, i) => dot(context, X(p), Y(p), i ? 3.5 : 6, bad < 0 || i < bad ? COLOUR.good : i === bad ? COLOUR.bad : COLOUR.old));
-            }
-            if (this.start >= 0) {
-                ring(context, X(this.start), Y(this.start), 10, COLOUR.start, 4);
-                dot(context, X(this.start), Y(this.start), 3, COLOUR.start);
-            }
-            if (this.missed >= 0) ring(context, X(this.missed), Y(this.missed), 14, COLOUR.bad, 4);
-        }
-
-        paintSelected(context, X, Y, line) {
-            const { kind } = this.selected;
-            const runs = this.network.runsOf(this.selected);
-            if (kind === "exit") {
-                line([runs[0][0], runs[1][0]], COLOUR.halo, 8);
-                return;
-            }
-            for (const [first, count] of runs) {
-                if (count === 1) {
-                    ring(context, X(first), Y(first), 11, COLOUR.halo, 6);
-                    continue;
-                }
-                const every = Math.ceil(count / 20000), points = [];
-                for (let k = 0; k < count; k += every) points.push(first + k);
-                line(kind === "perimeter" || kind === "zone" ? [...points, first] : points, COLOUR.halo, 10);
-            }
+            return { X, Y, line };
         }
 
         // ## What is there

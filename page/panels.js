@@ -119,40 +119,26 @@ class DrivePanel {
         }
         const start = network.pointRow(id);
         if (start < 0) {
-            this.say(id + " is no point of " + bench.name("rndf") + " (30)", "bad");
+            this.say(Driving.noStart(bench.name("rndf"), id), "bad");
             return;
         }
         bench.map.painter.setAbove({ start });
         bench.map.showPoint(start);
         this.say("asking ..");
         const slow = setTimeout(() => { this.stop.hidden = false; }, 400);
-        const answer = await bench.question("drive", { start });
+        const answer = await bench.question("drive", { start, id });
         clearTimeout(slow);
         this.stop.hidden = true;
         if (!answer) {
             this.say("");
             return;
         }
-        if (answer.accepted) this.say(bench.name("mdf") + ": can be driven from " + id, "good");
-        else if (answer.number === 31) await this.sayMissed(answer.line, id);
-        else this.say(bench.name("mdf") + ": " + (await bench.reason(answer.number)), "bad");
-    }
-
-    // `mission.mdf:6:1: goal 7 can't be reached from goal 9 (31)`, as run-reach says it
-    async sayMissed(row, id) {
-        const { bench } = this;
-        const { network } = bench;
-        const from = row === 0 ? id : "goal " + network.goals[row - 1];
-        const why = "goal " + network.goals[row] + " can't be reached from " + from + " (31)";
-        const lines = bench.missionLines;
-        const line = lines ? lines.goals[row] + 1 : 0;
-        const column = line ? bench.firstColumn("mdf", line - 1) : 0;
-        const below = line ? await bench.reader.ask("picture", { line, column }) : "";
-        this.say(bench.name("mdf") + (line ? ":" + line + ":" + column : "") + ": " + why + "\n" + below.replace(/\n$/, ""), "bad");
-        const missed = network.checkpoints[2 * network.checkpointOf.get(network.goals[row]) + 1];
+        this.say(answer.sentence.replace(/\n$/, ""), answer.accepted ? "good" : "bad");
+        if (answer.goal === undefined) return;
+        const missed = network.goalPoint(answer.goal);
         bench.map.painter.setAbove({ missed });
         bench.map.showPoint(missed);
-        if (line) bench.selectLines("mdf", line - 1, line - 1);
+        bench.selectLines("mdf", answer.line - 1, answer.line - 1);
     }
 
     close() {
@@ -250,11 +236,10 @@ class RoutePanel {
             this.say("The route is good: " + (points.length - 1) + (points.length === 2 ? " move" : " moves") + ", every goal met in order.", "good");
             return;
         }
-        const reason = await bench.reason(answer.number);
-        const more = answer.number === 22 ? "\nstep " + bad + ", from " + ids[bad - 1] + " to " + ids[bad]
-            : answer.number === 23 ? "\ngoal " + (answer.line + 1) + " of the mission, checkpoint " + network.goals[answer.line] + " on " + network.pointId(network.checkpoints[2 * network.checkpointOf.get(network.goals[answer.line]) + 1])
-            : answer.number === 24 ? "\nit ends at " + ids[ids.length - 1] + ", the last goal is on " + network.pointId(network.checkpoints[2 * network.checkpointOf.get(network.goals[network.goals.length - 1]) + 1]) : "";
-        this.say(reason + more + (bad < 0 ? "\n(every step is a move)" : ""), bad < 0 ? "open" : "bad");
+        const more = answer.number === 22 ? "step " + bad + ", from " + ids[bad - 1] + " to " + ids[bad]
+            : answer.number === 23 ? "goal " + (answer.line + 1) + " of the mission, checkpoint " + network.goals[answer.line] + " on " + network.pointId(network.goalPoint(answer.line))
+            : answer.number === 24 ? "it ends at " + ids[ids.length - 1] + ", the last goal is on " + network.pointId(network.goalPoint(network.goals.length - 1)) : "";
+        this.say(answer.reason + "\n" + more + (bad < 0 ? "\n(every step is a move)" : ""), bad < 0 ? "open" : "bad");
     }
 
     close() {

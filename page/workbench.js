@@ -147,10 +147,6 @@ class Workbench {
         }
     }
 
-    reason(number) {
-        return this.reader.ask("reason", { number });
-    }
-
     // Ends a question that takes too long; the texts are read again for the next.
     async stop() {
         await this.reader.restart();
@@ -191,12 +187,6 @@ class Workbench {
         this.editor.show(which);
         this.editor.select(which, from, to);
         this.showTabs();
-    }
-
-    // Where the first field of a line begins, from 1.
-    firstColumn(which, line) {
-        const { doc, first } = this.editor.texts[which];
-        return /^[\t ]*/.exec(doc.getLine(line - first) || "")[0].length + 1;
     }
 
     // ## Tabs

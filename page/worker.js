@@ -3,6 +3,7 @@
 
 const Asked = (() => {
     let yard = null, edition = "2007", rndf = null, mdf = null;        // of a file: { name, bytes }
+    let goals = null, goalLines = null;                                // of an accepted mission
 
     // A text comes as a string with its encoding, or as bytes (texts.js).
     const taken = (file) => file && { name: file.name, bytes: file.bytes || Texts.encode(file.text, file.encoding) };
@@ -21,10 +22,10 @@ const Asked = (() => {
         mdf = taken(asked.mdf);
         const answer = yard.read(edition, rndf.bytes, mdf && mdf.bytes);
         const network = !answer.accepted && answer.file === 2 ? yard.read(edition, rndf.bytes, null) : answer;
-        return {
-            answer, network: network.accepted ? network : null, sentence: answer.accepted ? "" : told(answer),
-            lines: network.accepted ? Lines.ofNetwork(rndf.bytes, network) : null, missionLines: answer.accepted && mdf ? Lines.ofMission(mdf.bytes, answer) : null,
-        };
+        const missionLines = answer.accepted && mdf ? Lines.ofMission(mdf.bytes, answer) : null;
+        goals = missionLines && answer.tables.goals.slice();             // the tables themselves go to the page
+        goalLines = missionLines && missionLines.goals.slice();
+        return { answer, network: network.accepted ? network : null, sentence: answer.accepted ? "" : told(answer), lines: network.accepted ? Lines.ofNetwork(rndf.bytes, network) : null, missionLines };
     }
 
     function packed({ name, bytes }) {
@@ -39,28 +40,36 @@ const Asked = (() => {
         return { accepted: true, sentence: Mending.nothing(rndf.name), changes: Mending.changes(rndf.name, rndf.bytes, answer.output, answer.list), rows: answer.list.length / 2, bytes: answer.output };
     }
 
-    const drive = ({ start }) => bare(yard.mission(edition, rndf.bytes, mdf.bytes, start));
-    const route = ({ start, points }) => bare(yard.route(edition, rndf.bytes, mdf.bytes, start, points));
+    // From this row of the point table, whose identifier is `id`; `goal` is the row of the goal that can't be reached.
+    function drive({ start, id }) {
+        const answer = yard.mission(edition, rndf.bytes, mdf.bytes, start);
+        if (answer.accepted) return { accepted: true, sentence: Driving.driven(mdf.name, id) };
+        if (answer.number === 30) return { accepted: false, sentence: Driving.noStart(rndf.name, id) };
+        if (answer.number !== 31) return { accepted: false, sentence: told(answer) };
+        const line = goalLines[answer.line] + 1, column = Driving.firstColumn(mdf.bytes, line - 1);
+        const picture = yard.sentence("", mdf.bytes, { line, number: 31, column }).split("\n").slice(1).join("\n");       // the line, and a caret below it
+        return { accepted: false, sentence: Driving.missed(mdf.name, line, column, goals, answer.line, id) + "\n" + picture, goal: answer.line, line };
+    }
 
-    // The line of an MDF with a caret below it, as sentences have it: without the first line.
-    const picture = ({ line, column }) => yard.sentence("", mdf.bytes, { line, number: 31, column }).split("\n").slice(1).join("\n");
+    function route({ start, points }) {
+        const { accepted, line, number } = yard.route(edition, rndf.bytes, mdf.bytes, start, points);
+        return { accepted, line, number, reason: accepted ? "" : reason(number) };
+    }
 
     // The reason of a number, without a name.
-    const reason = ({ number }) => yard.sentence("", new Uint8Array(0), { line: 0, number, column: 0 }).replace(/^: |\n$/g, "");
+    const reason = (number) => yard.sentence("", new Uint8Array(0), { line: 0, number, column: 0 }).replace(/^: |\n$/g, "");
 
     function save({ what }) {
         const answer = what === "rndf" ? yard.house(edition, rndf.bytes) : what === "mdf" ? yard.houseOfMission(edition, rndf.bytes, mdf.bytes) : what === "map" ? yard.map(edition, rndf.bytes) : yard.packed(edition, rndf.bytes);
         return { accepted: answer.accepted, sentence: answer.accepted ? "" : told(answer), bytes: answer.output };
     }
 
-    const bare = ({ accepted, file, line, number, column }) => ({ accepted, file, line, number, column });
-
     async function begin({ module }) {
         yard = await Yard.load(module);
         return true;
     }
 
-    return { begin, kind, read, packed, mend, drive, route, picture, reason, save };
+    return { begin, kind, read, packed, mend, drive, route, save };
 })();
 
 // Buffers go over and are not copied.
@@ -73,8 +82,8 @@ function buffersIn(value, found = new Set()) {
 onmessage = async ({ data }) => {
     try {
         const answer = await Asked[data.ask](data);
-        postMessage({ id: data.id, answer }, [...buffersIn(answer)]);
+        postMessage({ ticket: data.ticket, answer }, [...buffersIn(answer)]);
     } catch (why) {
-        postMessage({ id: data.id, failed: String(why && why.message || why) });
+        postMessage({ ticket: data.ticket, failed: String(why && why.message || why) });
     }
 };
