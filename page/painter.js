@@ -6,6 +6,7 @@ const Painter = (() => {
     const MOST_DOTS = 4000, MOST_EXITS = 20000, MOST_GOALS = 100;
     const MOST_INK = 3e6;            // pixels of lines in all: more can't be told apart
     const INK = 150000;              // and in one frame: a browser that draws without a graphics card needs some 50 ms for so many
+    const MOST_HALO = 300000, HALO = 30000;
     const COLOUR = { lane: "#1f6feb", perimeter: "#b45309", fill: "rgba(217, 119, 6, .13)", spot: "#8a5a00", checkpoint: "#b3123c", exit: "#6b7280", stop: "#111827", point: "#174ea6", later: "#9aa3ad",
         halo: "#ffc400", good: "#0a7d36", bad: "#d1001f", start: "#0a7d36", goal: "#111827" };
 
@@ -149,15 +150,8 @@ const Painter = (() => {
             const { network } = this;
             if (!network) return;
             const { lanes, zones, spots, checkpoints, exits, stops } = network;
-            const X = (p) => this.x[p] * view.scale - view.x, Y = (p) => this.y[p] * view.scale - view.y;
-            const west = view.x / view.scale, north = view.y / view.scale, east = (view.x + view.width) / view.scale, south = (view.y + view.height) / view.scale;
-            const seen = (boxes, i) => boxes[4 * i] <= east && boxes[4 * i + 2] >= west && boxes[4 * i + 1] <= south && boxes[4 * i + 3] >= north;
-            const inView = (p) => this.x[p] >= west && this.x[p] <= east && this.y[p] >= north && this.y[p] <= south;
+            const { X, Y, seen, inView, inkOf } = this.pen(context, view);
             const laneCount = lanes.length / 5, zoneCount = zones.length / 6;
-            // the pixels of a line from a to b, none where it passes by the view
-            const longest = view.width + view.height;
-            const inkOf = (a, b) => (Math.max(this.x[a], this.x[b]) < west || Math.min(this.x[a], this.x[b]) > east || Math.max(this.y[a], this.y[b]) < north || Math.min(this.y[a], this.y[b]) > south ? 0
-                : Math.min(longest, (Math.abs(this.x[a] - this.x[b]) + Math.abs(this.y[a] - this.y[b])) * view.scale) + 1);
 
             // how much there is in view, and which part of the points is drawn
             let lines = 0, all = 0, dots = 0;
@@ -172,8 +166,8 @@ const Painter = (() => {
             this.simplified = every > 1 ? "Simplified: of " + lines.toLocaleString("en") + " points one in " + every + " is drawn; zoom in to see more." : "";
             this.changed();
             const thin = all > MOST_INK / 4;
-            context.lineJoin = context.lineCap = thin ? "butt" : "round";
-            context.lineJoin = "bevel";
+            if (thin) context.lineCap = "butt";
+            if (thin) context.lineJoin = "bevel";
 
             // so many pixels were drawn in this frame
             let ink = 0;
@@ -364,28 +358,48 @@ const Painter = (() => {
             if (this.missed >= 0) ring(context, X(this.missed), Y(this.missed), 14, COLOUR.bad, 4);
         }
 
+        // A halo: wide lines cost more, so fewer of them.
         *paintBelow(context, view) {
             if (!this.network || !this.selected) return;
-            const { X, Y, line } = this.pen(context, view);
+            const { X, Y, line, inkOf } = this.pen(context, view);
             const { kind } = this.selected;
             const runs = this.network.runsOf(this.selected);
             if (kind === "exit") {
                 line([runs[0][0], runs[1][0]], COLOUR.halo, 9);
                 return;
             }
-            for (const [first, count] of runs) {
-                if (count === 1) {
-                    dot(context, X(first), Y(first), 13, COLOUR.halo);
-                    continue;
+            let all = 0, ink = 0;
+            for (const [first, count] of runs) for (let p = first + 1; p < first + count; p++) all += inkOf(p - 1, p);
+            const every = Math.max(1, Math.ceil(all / MOST_HALO));
+            const wide = every > 1 ? 6 : 13;
+            for (let i = 0; i < runs.length; i++) {
+                const [first, count] = runs[i];
+                if (count === 1) dot(context, X(first), Y(first), wide, COLOUR.halo);
+                const step = count > 4 * every ? every : 1;
+                if (count === 1 || (step < every && i % every)) continue;
+                let points = [first];
+                for (let k = step; k < count; k += step) {
+                    ink += inkOf(points[points.length - 1], first + k);
+                    points.push(first + k);
+                    if (ink < HALO) continue;
+                    line(points, COLOUR.halo, wide);
+                    points = [first + k];
+                    yield;
+                    ink = 0;
                 }
-                const every = Math.ceil(count / 20000), points = [];
-                for (let k = 0; k < count; k += every) points.push(first + k);
-                line(kind === "perimeter" || kind === "zone" ? [...points, first] : points, COLOUR.halo, 13);
+                line(kind === "perimeter" || kind === "zone" ? [...points, first] : points, COLOUR.halo, wide);
             }
         }
 
+        // What drawing needs of a view: where a point is; whether a box or a point is in it; the pixels of a line from a to b, none where it passes by.
         pen(context, view) {
             const X = (p) => this.x[p] * view.scale - view.x, Y = (p) => this.y[p] * view.scale - view.y;
+            const west = view.x / view.scale, north = view.y / view.scale, east = (view.x + view.width) / view.scale, south = (view.y + view.height) / view.scale;
+            const seen = (boxes, i) => boxes[4 * i] <= east && boxes[4 * i + 2] >= west && boxes[4 * i + 1] <= south && boxes[4 * i + 3] >= north;
+            const inView = (p) => this.x[p] >= west && this.x[p] <= east && this.y[p] >= north && this.y[p] <= south;
+            const longest = view.width + view.height;
+            const inkOf = (a, b) => (Math.max(this.x[a], this.x[b]) < west || Math.min(this.x[a], this.x[b]) > east || Math.max(this.y[a], this.y[b]) < north || Math.min(this.y[a], this.y[b]) > south ? 0
+                : Math.min(longest, (Math.abs(this.x[a] - this.x[b]) + Math.abs(this.y[a] - this.y[b])) * view.scale) + 1);
             context.lineJoin = context.lineCap = "round";
             const line = (points, style, wide, dash) => {
                 context.strokeStyle = style;
@@ -396,7 +410,7 @@ const Painter = (() => {
                 context.stroke();
                 context.setLineDash([]);
             };
-            return { X, Y, line };
+            return { X, Y, seen, inView, inkOf, line };
         }
 
         // ## What is there
