@@ -10,7 +10,7 @@ class YardMap {
         this.map = L.map(element, { zoomSnap: 0.25, maxZoom: 24, minZoom: 1, attributionControl: false, fadeAnimation: !still, zoomAnimation: !still, doubleClickZoom: true, worldCopyJump: false }).setView([0, 0], 2);
         L.control.scale().addTo(this.map);
         this.painter = new Painter(this.map, () => hooks.drawn());
-        this.tip = L.tooltip({ direction: "right", offset: [14, 0], className: "tip" });
+        this.tip = L.tooltip({ direction: "right", offset: [14, 0], opacity: 1, className: "tip" });
         this.map.on("mousemove", ({ containerPoint }) => this.hover(containerPoint));
         this.map.on("mouseout dragstart zoomstart", () => this.tip.remove());
         this.map.on("click", ({ containerPoint }) => this.click(containerPoint));

@@ -1,4 +1,4 @@
-// Draws a network on three canvases of a Leaflet map: what is selected, as a halo; above it the yard; above that a route, a start, a goal that is missed. Straight from the tables, since a map of 500,000 points as Leaflet's
+// Draws a network on three canvases of a Leaflet map: what is selected, as a halo; above it the yard; above that the goals, a route, a start, a goal that is missed. Straight from the tables, since a map of 500,000 points as Leaflet's
 // own layers would take minutes. Where more would be drawn than a screen can show, a part of the points is left out, and `simplified` says so.
 "use strict";
 
@@ -166,6 +166,9 @@ const Painter = (() => {
             this.simplified = every > 1 ? "Simplified: of " + lines.toLocaleString("en") + " points one in " + every + " is drawn; zoom in to see more." : "";
             this.changed();
             const thin = all > MOST_INK / 4;
+            // lanes about as wide as they are, within reason
+            const { lat } = this.map.getCenter(), metre = view.scale / (40075016 * Math.max(0.1, Math.cos(lat * Math.PI / 180)));
+            const laneWide = thin ? 1 : Math.max(1.2, Math.min(3.5, 3 * metre)), mark = laneWide < 2 ? 3 : 5;
             if (thin) context.lineCap = "butt";
             if (thin) context.lineJoin = "bevel";
 
@@ -184,7 +187,7 @@ const Painter = (() => {
                     const p = first + k, px = X(p), py = Y(p);
                     if (Math.abs(px - lastX) + Math.abs(py - lastY) < 0.7 && k + step < points) continue;
                     const more = inkOf(last, p);
-                    if (more) context.lineTo(px, py);
+                    if (more || fill) context.lineTo(px, py);
                     else context.moveTo(px, py);
                     [last, lastX, lastY] = [p, px, py];
                     ink += more;
@@ -236,15 +239,15 @@ const Painter = (() => {
             }
 
             context.strokeStyle = COLOUR.lane;
-            context.lineWidth = thin ? 1 : 3;
+            context.lineWidth = laneWide;
             for (let i = 0; i < laneCount; i++) {
                 if (!seen(this.laneBoxes, i)) continue;
                 yield* path(i, lanes[5 * i], lanes[5 * i + 1], false, false);
-                if (lanes[5 * i + 1] === 1) dot(context, X(lanes[5 * i]), Y(lanes[5 * i]), 4, COLOUR.lane);
+                if (lanes[5 * i + 1] === 1) dot(context, X(lanes[5 * i]), Y(lanes[5 * i]), mark - 1, COLOUR.lane);
             }
 
             context.strokeStyle = COLOUR.spot;
-            context.lineWidth = thin ? 1 : 4;
+            context.lineWidth = thin ? 1 : laneWide + 1;
             for (let i = 0; i < spots.length; i += 2) {
                 if (!inkOf(spots[i], spots[i] + 1)) continue;
                 ink += 40;
@@ -255,7 +258,7 @@ const Painter = (() => {
                 const apart = this.apart(view, dots);
                 for (let p = 0; p < network.pointCount && apart > 7; p++) if (inView(p)) ring(context, X(p), Y(p), apart > 16 ? 2.6 : 1.7, COLOUR.point);
                 if (apart > 18 && laneCount) this.arrows(context, X, Y, seen);
-                for (const p of stops) if (inView(p)) square(context, X(p), Y(p), 4.5, COLOUR.stop);
+                for (const p of stops) if (inView(p)) square(context, X(p), Y(p), mark - 0.5, COLOUR.stop);
                 yield;
             }
 
@@ -263,11 +266,10 @@ const Painter = (() => {
             for (let i = 0, n = 0; i < checkpoints.length; i += 2) {
                 const p = checkpoints[i + 1];
                 if (!inView(p)) continue;
-                if (few) dot(context, X(p), Y(p), 5, COLOUR.checkpoint);
+                if (few) dot(context, X(p), Y(p), mark, COLOUR.checkpoint);
                 else square(context, X(p), Y(p), 1.5, COLOUR.checkpoint);
                 if (++n % 2000 === 0) yield;
             }
-            this.paintGoals(context, X, Y, inView);
         }
 
         // How many pixels points in view are apart, about.
@@ -340,7 +342,7 @@ const Painter = (() => {
 
         *paintAbove(context, view) {
             if (!this.network) return;
-            const { X, Y, line } = this.pen(context, view);
+            const { X, Y, inView, line } = this.pen(context, view);
             const { points, bad } = this.route;
             if (points.length) {
                 line(bad < 0 ? points : points.slice(0, bad), COLOUR.good, 6);
@@ -351,6 +353,7 @@ const Painter = (() => {
                 }
                 points.forEach((p, i) => dot(context, X(p), Y(p), i ? 3.5 : 6, bad < 0 || i < bad ? COLOUR.good : i === bad ? COLOUR.bad : COLOUR.later));
             }
+            this.paintGoals(context, X, Y, inView);
             if (this.start >= 0) {
                 ring(context, X(this.start), Y(this.start), 10, COLOUR.start, 4);
                 dot(context, X(this.start), Y(this.start), 3, COLOUR.start);

@@ -19,7 +19,7 @@ class Workbench {
         this.network = null;             // what the map shows
         this.missionLines = null;
         this.fitNext = true;
-        this.editor = new Editor(at("editor"), { changed: (which, by) => this.changed(by), cursor: (which, line) => this.cursor(which, line), leave: () => at("tab-" + this.editor.shown).focus() });
+        this.editor = new Editor(at("editor"), { changed: (which, by) => this.changed(by), cursor: (which, line) => this.cursor(which, line), leave: () => at("divider").focus() });
         this.map = new YardMap(at("map"), { picked: (feature) => this.picked(feature), pointed: (row) => this.panel && this.panel.pointed && this.panel.pointed(row),
             describe: (feature) => this.network.describe(feature), drawn: () => { at("drawing").textContent = this.map ? this.map.painter.simplified : ""; } });
         this.panels = { mend: new MendPanel(this), drive: new DrivePanel(this), route: new RoutePanel(this) };
@@ -105,6 +105,8 @@ class Workbench {
         if (network) {
             this.show(new Network(network, lines, (start, length) => (rndf.text !== undefined ? rndf.text.substr(start, length) : Texts.decode(rndf.bytes.subarray(start, start + length)).text)), this.fitNext);
             this.fitNext = false;
+        } else if (this.fitNext) {
+            this.show(null, false);          // another file: what is shown is not its map
         } else {
             this.map.age(true);
             this.map.select(null);
@@ -432,6 +434,8 @@ async function begin() {
     at("version").textContent = "reader " + YARD_VERSION.version;
     at("about-version").textContent = YARD_VERSION.version;
     at("about-sha").textContent = YARD_VERSION.sha256;
+    document.querySelector(".paper-version").textContent = YARD_VERSION.version;
+    document.querySelector(".paper-sha").textContent = YARD_VERSION.sha256;
     const module = Uint8Array.from(atob(at("module").textContent), (letter) => letter.charCodeAt(0));
     try {
         const reader = new Reader(at("worker").textContent, module);

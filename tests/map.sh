@@ -1,17 +1,15 @@
 #!/bin/sh
-# map.sh [PICTURE]    the planners' map against readers that we did not write: GDAL and Leaflet in a headless Chromium
+# map.sh [--install]    the planners' map (run-map) against a reader that we did not write: GDAL. The page has its own test, tests/wasm.sh.
 #
-# Needs the program `yard_map` as last built (`rt check yard_map`), and Debian's packages gdal-bin, chromium and libjs-leaflet. PICTURE is where the picture of the page
-# goes (default: target/map.png): look at it. Prints a line for each thing that holds; the status is 1 with the first that does not.
+# Needs the program `yard_map` as last built (`rt check yard_map`), and Debian's package gdal-bin, which it installs with --install. Prints a line for each thing that holds; the status is 1 with the first
+# that does not.
 set -eu
 root=$(cd "$(dirname "$0")/.." && pwd -P)
 here=$root/tests/map
-. "$root/tests/need.sh"
-need ogrinfo gdal-bin
-need ogr2ogr gdal-bin
-need chromium chromium
-[ -e /usr/share/javascript/leaflet/leaflet.js ] || need leaflet libjs-leaflet
-picture=${1:-$root/target/map.png}
+if ! command -v ogrinfo >/dev/null 2>&1 || ! command -v ogr2ogr >/dev/null 2>&1; then
+    [ "${1:-}" = --install ] || { echo "tests/map.sh: missing: gdal-bin (Debian's package); tests/map.sh --install installs it" >&2; exit 2; }
+    { apt-get update -qq && apt-get install -y -qq --no-install-recommends gdal-bin; } >&2
+fi
 work=$(mktemp -d)
 trap 'rm -rf "$work"' EXIT
 
@@ -40,5 +38,3 @@ echo "the edition of 2006: $(sed "s,$work/,," "$work/bad.err")"
 python3 "$here/big_yard.py" >"$work/big.rndf"
 "$root/run-map" --built "$work/big.rndf" >"$work/yard.geojson"
 python3 "$here/gdal_test.py" "$work/yard.geojson" "$work"
-python3 "$here/page_test.py" "$root/map" "$work/yard.geojson" "$picture"
-echo "its picture is $picture"
