@@ -83,9 +83,7 @@ class DrivePanel {
         });
         this.said = element("pre", { className: "answer" });
         this.said.setAttribute("role", "status");
-        this.stop = element("button", { type: "button", textContent: "Stop", hidden: true });
-        this.stop.addEventListener("click", () => this.bench.stop());
-        body.append(element("p", { textContent: "Click the point where the tractor stands, or type it: a lane's waypoint 1.2.3, a perimeter point 5.0.1, or a spot's waypoint 5.2.1." }), form, this.stop, this.said);
+        body.append(element("p", { textContent: "Click the point where the tractor stands, or type it: a lane's waypoint 1.2.3, a perimeter point 5.0.1, or a spot's waypoint 5.2.1." }), form, this.said);
         this.bench.map.pick(true);
         this.update();
     }
@@ -124,15 +122,9 @@ class DrivePanel {
         }
         bench.map.painter.setAbove({ start });
         bench.map.showPoint(start);
-        this.say("asking ..");
-        const slow = setTimeout(() => { this.stop.hidden = false; }, 400);
+        this.say("");
         const answer = await bench.question("drive", { start, id });
-        clearTimeout(slow);
-        this.stop.hidden = true;
-        if (!answer) {
-            this.say("");
-            return;
-        }
+        if (!answer) return;
         this.say(answer.sentence.replace(/\n$/, ""), answer.accepted ? "good" : "bad");
         if (answer.goal === undefined) return;
         const missed = network.goalPoint(answer.goal);
@@ -206,7 +198,21 @@ class RoutePanel {
         this.said.dataset.state = state;
     }
 
+    // One question at a time; what changed meanwhile is asked behind it.
     async ask() {
+        if (this.asking) {
+            this.again = true;
+            return;
+        }
+        this.asking = true;
+        do {
+            this.again = false;
+            await this.askOnce();
+        } while (this.again);
+        this.asking = false;
+    }
+
+    async askOnce() {
         const { bench } = this;
         const { painter } = bench.map;
         this.words = this.field.value;

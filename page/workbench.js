@@ -43,6 +43,7 @@ class Workbench {
     changed(by) {
         this.generation++;
         this.read = null;
+        if (this.asked && performance.now() - this.asked > 400) this.reader.restart().catch(() => {});       // a long question about the text before
         this.showTabs();
         const long = this.editor.texts.rndf.doc.lineCount() > 50000 || this.editor.texts.mdf.doc.lineCount() > 50000;
         clearTimeout(this.soon);
@@ -140,12 +141,20 @@ class Workbench {
     // Asks the worker about the texts as they were read; null where they changed meanwhile, or it was stopped.
     async question(ask, words) {
         const { generation } = this;
+        const began = this.asked = performance.now();
+        const slow = setTimeout(() => { at("busy").hidden = false; }, 400);
         try {
             const answer = await this.reader.ask(ask, words);
             return generation === this.generation ? answer : null;
         } catch (why) {
             if (!why.stopped) this.say("The reader failed: " + why.message, "bad");
             return null;
+        } finally {
+            clearTimeout(slow);
+            if (this.asked === began) {
+                this.asked = 0;
+                at("busy").hidden = true;
+            }
         }
     }
 
@@ -377,6 +386,7 @@ class Workbench {
             this.changed();
         });
         at("go").addEventListener("click", () => this.goToFault());
+        at("stop").addEventListener("click", () => this.stop());
         for (const which of Object.keys(this.panels)) at("tool-" + which).addEventListener("click", () => this.toggle(which));
         at("panel-close").addEventListener("click", () => this.closePanel());
         at("panel").addEventListener("keydown", (event) => { if (event.key === "Escape") this.closePanel(); });

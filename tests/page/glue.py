@@ -1,7 +1,8 @@
 """glue.py PAGE.html COUNT SEED: the reader's worker as it stands in the page, beside the oracle and the planners' programs' own cases. Compared are reply, column, names, the used rows of every table; of a refusal the
 sentence with its line and caret; the house writings, the map and the packed form that can be saved; what is mended, and its words; whether a mission can be driven, and its words; the identifiers of points; and that each
-part's lines, which the page finds by itself, hold it. The cases: those of tests/check_cases.py that are texts, in both editions, and its largest; those of mend_cases.py and reach_cases.py; and COUNT damaged and
-whole pairs (tests/damage/pairs.py) from SEED, every third alone, every second in the older edition. The page lends tables by itself, so 11 must never come."""
+part's lines, which the page finds by itself, hold it. The cases: those of tests/check_cases.py that are texts, in both editions, and its largest; those of mend_cases.py and reach_cases.py; COUNT damaged and
+whole pairs (tests/damage/pairs.py) from SEED, every third alone, every second in the older edition; and a quarter as many RNDFs with trouble that can be mended (tests/damage/mends.py). The page lends tables by itself,
+so 11 must never come."""
 import base64
 import json
 import os
@@ -17,6 +18,7 @@ for folder in ("tests", "tests/oracle", "tests/damage"):
 import check_cases   # noqa: E402
 import mend_cases    # noqa: E402
 import mending       # noqa: E402
+import mends         # noqa: E402
 import oracle        # noqa: E402
 import pairs         # noqa: E402
 import reach_cases   # noqa: E402
@@ -65,6 +67,23 @@ def of_pairs(rng, count):
         if k % 2 and rng.random() < 0.75:
             case = pairs.aged(case)
         yield Case("pair %d" % k, "2006" if k % 2 else "2007", bytes(case.rndf), None if k % 3 == 0 else bytes(case.mdf))
+
+
+def of_mends(rng, count):
+    for k in range(count):
+        yield Case("mends %d" % k, "2006" if k % 2 else "2007", bytes(mends.mend_case(rng, k % 2).rndf), None)
+
+
+def words_of(given, mended, rows):
+    """What run-mend says of each changed line (crates/mend_words)."""
+    def fields(line):
+        return line.split(b"/*")[0].replace(b"\r", b" ").split()
+    given, mended, gone, out = given.split(b"\n"), mended.split(b"\n"), 0, []
+    for line, which in rows[:MOST_WORDS]:
+        said = {2: "option given again, taken out", 3: "behind end_file, taken out"}.get(which) or "the count is %s, not %s" % (fields(mended[line - 1 - gone])[1].decode(), fields(given[line - 1])[1].decode())
+        gone += which != 1
+        out.append("%s:%d: %s" % (N, line, said))
+    return "\n".join(out) or "%s: nothing to mend" % N
 
 
 def first_word_is_mdf(text):
@@ -146,6 +165,8 @@ def mend_faults(got, case):
             wrong.append("mending: %s, %d rows" % (accepted, rows))
         elif accepted and base64.b64decode(out) != reply.output[:reply.length]:
             wrong.append("the mended text")
+        elif accepted and said != words_of(case.rndf, reply.output[:reply.length], reply.list[:reply.rows]):
+            wrong.append("words of mending: %r" % said[:300])
     if case.said is not None and said != case.said:
         wrong.append("said of mending: %r, not %r" % (said[:200], case.said[:200]))
     if case.mended is not None and (not accepted or base64.b64decode(out) != case.mended):
@@ -157,6 +178,7 @@ def main(page, count, seed):
     cases = [*of_check_cases(), *of_mend_cases(), *of_reach_cases()]
     by_hand = len(cases)
     cases += of_pairs(random.Random("glue %s" % seed), int(count))
+    cases += of_mends(random.Random("glue mends %s" % seed), int(count) // 4)
     fed = "".join(json.dumps(case.fed()) + "\n" for case in cases)
     done = subprocess.run(["node", "--max-old-space-size=3000", os.path.join(HERE, "glue.js"), page], input=fed.encode(), stdout=subprocess.PIPE, check=True).stdout.decode().splitlines()
     differ, accepted, numbers = 0, 0, {}
@@ -176,7 +198,7 @@ def main(page, count, seed):
             differ += 1
             print("DIFFERS %s: %s" % (case.label, "; ".join(wrong)))
     differ += len(cases) - len(done)
-    print("glue: %d cases (%d by hand, %d pairs from seed %s), %d accepted, refusals %s; %d differ" % (len(cases), by_hand, len(cases) - by_hand, seed, accepted, dict(sorted(numbers.items())), differ))
+    print("glue: %d cases (%d by hand, %d pairs and RNDFs to mend from seed %s), %d accepted, refusals %s; %d differ" % (len(cases), by_hand, len(cases) - by_hand, seed, accepted, dict(sorted(numbers.items())), differ))
     return 1 if differ else 0
 
 
