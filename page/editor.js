@@ -37,14 +37,7 @@ const Editor = (() => {
     }
 
     // Why a text is too large for the editor, or null.
-    function tooLarge(bytes) {
-        let lines = 1, longest = 0, from = 0;
-        for (let at = bytes.indexOf(10); at >= 0; at = bytes.indexOf(10, from)) {
-            lines++;
-            longest = Math.max(longest, at - from);
-            from = at + 1;
-        }
-        longest = Math.max(longest, bytes.length - from);
+    function tooLarge(bytes, { lines, longest }) {
         if (bytes.length > Texts.LONGEST) return "it has over 16,777,215 bytes";
         return lines > MOST_LINES ? "it has " + lines.toLocaleString("en") + " lines" : longest > LONGEST_LINE ? "it has a line of " + longest.toLocaleString("en") + " bytes" : null;
     }
@@ -66,15 +59,15 @@ const Editor = (() => {
         }
 
         blank(which) {
-            return { which, name: USUAL[which], encoding: "utf-8", opened: false, bytes: null, first: 0, why: null, fault: null, marks: [], doc: CodeMirror.Doc("", "yard", 0, "\n"), clean: 0 };
+            return { which, name: USUAL[which], encoding: "utf-8", opened: false, bytes: null, given: null, first: 0, why: null, fault: null, marks: [], doc: CodeMirror.Doc("", "yard", 0, "\n"), clean: 0 };
         }
 
         // ## The texts
 
-        // A file's bytes as the RNDF or the MDF.
-        open(which, name, bytes) {
-            const text = Object.assign(this.blank(which), { name, opened: true });
-            text.why = tooLarge(bytes);
+        // A file's bytes as the RNDF or the MDF; `shape` as Texts.shapeOf tells it.
+        open(which, name, bytes, shape = Texts.shapeOf(bytes)) {
+            const text = Object.assign(this.blank(which), { name, opened: true, given: bytes });
+            text.why = tooLarge(bytes, shape);
             if (text.why) {
                 text.bytes = bytes;
             } else {
@@ -84,7 +77,7 @@ const Editor = (() => {
             }
             this.put(text);
             if (text.why) this.excerpt(text, 0);
-            text.clean = text.doc.changeGeneration();
+            text.clean = text.doc.changeGeneration(true);
         }
 
         close(which) {
@@ -102,10 +95,11 @@ const Editor = (() => {
             this.view.setOption("firstLineNumber", text.first + 1);
         }
 
-        // For the worker: null where there is none.
+        // For the worker: null where there is none. A text that was not changed is the file's bytes: no need to put it together of its lines.
         content(which) {
-            const { name, encoding, bytes, doc, opened } = this.texts[which];
+            const { name, encoding, bytes, given, doc, opened, clean } = this.texts[which];
             if (bytes) return { name, bytes };
+            if (given && doc.isClean(clean)) return { name, bytes: given };
             const text = doc.getValue("\n");
             return text || opened ? { name, text, encoding } : null;
         }
@@ -126,7 +120,10 @@ const Editor = (() => {
         }
 
         saved(which) {
-            this.texts[which].clean = this.texts[which].doc.changeGeneration();
+            const text = this.texts[which];
+            if (text.doc.isClean(text.clean)) return;
+            text.given = null;
+            text.clean = text.doc.changeGeneration(true);
         }
 
         // So many lines around this one, each cut.

@@ -181,6 +181,16 @@ const Network = (() => {
             return null;
         }
 
+        // And in this line of the mission: a goal's checkpoint, or the segment or zone of a limit.
+        featureAtMission(line, lines) {
+            if (!lines) return null;
+            const goal = rowIn(lines.goals, line), limit = rowIn(lines.limits, line);
+            if (goal >= 0) return { kind: "checkpoint", row: this.checkpointOf.get(this.goals[goal]) };
+            if (limit < 0) return null;
+            const part = this.limits[3 * limit] - 1, segments = this.segments.length / 4;
+            return part < segments ? { kind: "segment", row: part } : { kind: "zone", row: part - segments };
+        }
+
         // The points of a feature, as runs of rows: [first, count], ..
         runsOf({ kind, row }) {
             const lane = (i) => [this.lanes[5 * i], this.lanes[5 * i + 1]];

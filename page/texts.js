@@ -29,6 +29,17 @@ const Texts = (() => {
         return Uint8Array.from(bytes);
     }
 
+    // How many lines a text has, and how long the longest is.
+    function shapeOf(bytes) {
+        let lines = 1, longest = 0, from = 0;
+        for (let at = bytes.indexOf(10); at >= 0; at = bytes.indexOf(10, from)) {
+            lines++;
+            longest = Math.max(longest, at - from);
+            from = at + 1;
+        }
+        return { lines, longest: Math.max(longest, bytes.length - from) };
+    }
+
     // The place in a line's characters of the byte at this column, which counts from 1.
     function placeOf(line, column, encoding) {
         let bytes = 0, place = 0;
@@ -41,7 +52,7 @@ const Texts = (() => {
         return place;
     }
 
-    return { LONGEST, decode, encode, placeOf };
+    return { LONGEST, decode, encode, shapeOf, placeOf };
 })();
 
 if (typeof module !== "undefined") module.exports = Texts;

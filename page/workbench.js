@@ -180,8 +180,8 @@ class Workbench {
     // ## Text and map
 
     cursor(which, line) {
-        if (!this.map || which !== "rndf" || !this.network || !this.read || !this.read.network) return;
-        this.map.select(this.network.featureAt(line));
+        if (!this.map || !this.network || !this.read || !this.read.network) return;
+        this.map.select(which === "rndf" ? this.network.featureAt(line) : this.network.featureAtMission(line, this.missionLines));
     }
 
     picked(feature) {
@@ -264,7 +264,7 @@ class Workbench {
                 this.openMap(file.name, bytes);
                 return;
             }
-            const kind = await this.reader.ask("kind", { bytes });
+            const { kind, shape } = await this.reader.ask("kind", { bytes });
             if (kind === "packed") {
                 await this.openPacked(file.name, bytes);
                 return;
@@ -273,7 +273,7 @@ class Workbench {
                 this.say(given[kind].name + ", " + file.name + ": one RNDF and at most one MDF can be checked", "bad");
                 return;
             }
-            given[kind] = { name: file.name, bytes };
+            given[kind] = { name: file.name, bytes, shape };
         }
         this.put(given);
     }
@@ -282,7 +282,7 @@ class Workbench {
     put(given) {
         const lost = ["rndf", "mdf"].filter((which) => given[which] && this.editor.isChanged(which));
         if (lost.length && !confirm("Changes in " + lost.map((which) => this.name(which)).join(" and ") + " are not saved. Open all the same?")) return;
-        for (const which of ["rndf", "mdf"]) if (given[which]) this.editor.open(which, given[which].name, given[which].bytes);
+        for (const which of ["rndf", "mdf"]) if (given[which]) this.editor.open(which, given[which].name, given[which].bytes, given[which].shape);
         if (given.rndf) this.fitNext = true;
         this.editor.typed = 0;
         this.editor.show(given.rndf ? "rndf" : "mdf");

@@ -12,8 +12,8 @@ const Asked = (() => {
         return yard.sentence(about.name, about.bytes, answer);
     };
 
-    // What a file is: "mdf", "packed" or "rndf". No text begins with the version byte of packed bytes.
-    const kind = ({ bytes }) => (bytes[0] === 2 ? "packed" : yard.isMission(bytes) ? "mdf" : "rndf");
+    // What a file is: "mdf", "packed" or "rndf", and its shape. No text begins with the version byte of packed bytes.
+    const kind = ({ bytes }) => ({ kind: bytes[0] === 2 ? "packed" : yard.isMission(bytes) ? "mdf" : "rndf", shape: Texts.shapeOf(bytes) });
 
     // The pair, or the RNDF alone. Where the MDF alone is refused the network is read again, to be shown.
     function read(asked) {

@@ -30,7 +30,7 @@ async function one({ edition, rndf, mdf, start }) {
         edition, rndf: { name: "network.rndf", bytes: texts.rndf }, mdf: texts.mdf && { name: "mission.mdf", bytes: texts.mdf },
     });
     const { accepted, file, line, number, column, tables } = answer;
-    const kinds = [await ask("kind", { bytes: texts.rndf }), texts.mdf ? await ask("kind", { bytes: texts.mdf }) : null];
+    const kinds = [(await ask("kind", { bytes: texts.rndf })).kind, texts.mdf ? (await ask("kind", { bytes: texts.mdf })).kind : null];
     const told = {
         accepted, refusal: [file, line, number, column], sentence, kinds,
         names: ["rndf_name", "rndf_version", "rndf_date", "mdf_name", "mdf_rndf", "mdf_version", "mdf_date"].flatMap((name) => answer[name]),

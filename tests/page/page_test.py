@@ -112,7 +112,7 @@ class Page:
         return self.value("(() => { const s = yard.editor.view.listSelections()[0]; return [yard.editor.shown, s.head.line + 1, s.anchor.line + 1]; })()")
 
     def content(self, which):
-        return self.value("yard.editor.content('%s').text" % which)
+        return self.value("yard.editor.texts.%s.doc.getValue('\\n')" % which)
 
 
 def accepted(*names, counts):
@@ -261,9 +261,25 @@ def example(page):
                               ("no part", 2, None), ("a segment", 7, {"kind": "segment", "row": 0})]:
         page.value("yard.editor.view.setCursor({ line: %d, ch: 0 })" % (line - 1))
         page.same("the cursor in " + label, page.value("yard.map.painter.selected"), want)
+    page.value("yard.tab('mdf')")
+    for label, line, want in [("a goal", 6, {"kind": "checkpoint", "row": 6}), ("a limit", 14, {"kind": "segment", "row": 1}), ("a zone's limit", 18, {"kind": "zone", "row": 1}), ("no goal", 3, None)]:
+        page.value("yard.editor.view.setCursor({ line: %d, ch: 0 })" % (line - 1))
+        page.same("the cursor in the MDF, " + label, page.value("yard.map.painter.selected"), want)
+    page.value("yard.tab('rndf')")
     page.value("yard.editor.view.setCursor({ line: 25, ch: 0 })")
     chrome.move(1000, 150)
     page.picture("lane")
+    page.value("yard.editor.view.focus()")
+    chrome.press("f", "KeyF", 2)
+    chrome.type("West_Rd")
+    chrome.press("Enter")
+    time.sleep(0.3)
+    page.same("Ctrl-F finds", page.value("yard.editor.view.getSelection()"), "West_Rd")
+    chrome.press("g", "KeyG", 1)
+    chrome.type("109")
+    chrome.press("Enter")
+    time.sleep(0.3)
+    page.same("Alt-G goes to a line", page.value("[yard.editor.view.getCursor().line, yard.map.painter.selected.kind]"), [108, "perimeter"])
 
     # mending
     good = page.content("rndf")
