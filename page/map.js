@@ -29,7 +29,7 @@ class YardMap {
     fit() {
         if (!this.painter.network) return;
         this.map.invalidateSize({ animate: false });
-        this.map.fitBounds(this.painter.wholeBounds(), { padding: [28, 28], maxZoom: 20, animate: false });
+        this.map.fitBounds(this.painter.plane.whole(), { padding: [28, 28], maxZoom: 20, animate: false });
     }
 
     // The network is of an earlier text: it is shown in grey.
@@ -42,8 +42,8 @@ class YardMap {
         const { painter, map } = this;
         painter.select(painter.network ? feature : null);
         if (!feature || !painter.network) return;
-        const bounds = painter.boundsOf(painter.network.runsOf(feature));
-        if (bounds && !map.getBounds().intersects(bounds)) map.panTo(bounds.getCenter(), { animate: false });
+        const bounds = painter.plane.bounds(painter.network.runsOf(feature));
+        if (!map.getBounds().intersects(bounds)) map.panTo(bounds.getCenter(), { animate: false });
     }
 
     // A point comes into view if it is not.

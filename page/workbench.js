@@ -407,7 +407,7 @@ class Workbench {
         window.addEventListener("beforeunload", (event) => { if (this.editor.isChanged("rndf") || this.editor.isChanged("mdf")) event.preventDefault(); });
         this.listenDivider();
         // on paper the map has another size
-        window.addEventListener("beforeprint", () => { document.body.classList.add("printing"); this.map.map.invalidateSize({ animate: false }); this.map.fit(); this.map.painter.base.repaint(true); this.map.painter.above.repaint(true); });
+        window.addEventListener("beforeprint", () => { document.body.classList.add("printing"); this.map.map.invalidateSize({ animate: false }); this.map.fit(); this.map.painter.repaint(true); });
         window.addEventListener("afterprint", () => { document.body.classList.remove("printing"); this.map.map.invalidateSize({ animate: false }); });
     }
 
