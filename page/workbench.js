@@ -24,7 +24,8 @@ class Workbench {
             describe: (feature) => this.network.describe(feature), drawn: () => { at("drawing").textContent = this.map ? this.map.painter.simplified : ""; } });
         this.panels = { mend: new MendPanel(this), drive: new DrivePanel(this), route: new RoutePanel(this) };
         this.panel = null;
-        this.listen();
+        this.files = new Files(this);
+        listenTo(this);
         this.showTabs();
     }
 
@@ -43,7 +44,7 @@ class Workbench {
     changed(by) {
         this.generation++;
         this.read = null;
-        if (this.asked && performance.now() - this.asked > 400) this.reader.restart().catch(() => {});       // a long question about the text before
+        if (this.isAskingLong()) this.reader.restart().catch(() => {});       // of the text before
         this.showTabs();
         const long = this.editor.texts.rndf.doc.lineCount() > 50000 || this.editor.texts.mdf.doc.lineCount() > 50000;
         clearTimeout(this.soon);
@@ -138,6 +139,14 @@ class Workbench {
         this.foreign = null;
     }
 
+    // What is shown next has no text: a reading under way is dropped.
+    putAside() {
+        this.generation++;
+        this.read = null;
+        this.editor.clearFaults();
+        this.showTabs();
+    }
+
     // Asks the worker about the texts as they were read; null where they changed meanwhile, or it was stopped.
     async question(ask, words) {
         const { generation } = this;
@@ -156,6 +165,10 @@ class Workbench {
                 at("busy").hidden = true;
             }
         }
+    }
+
+    isAskingLong() {
+        return !!this.asked && performance.now() - this.asked > 400;
     }
 
     // Ends a question that takes too long; the texts are read again for the next.
@@ -248,169 +261,6 @@ class Workbench {
         open.open(at("panel-body"));
     }
 
-    // ## Files
-
-    async openFiles(files) {
-        const given = { rndf: null, mdf: null };
-        for (const file of files) {
-            let bytes;
-            try {
-                bytes = new Uint8Array(await file.slice(0, Texts.LONGEST + 1).arrayBuffer());     // of a longer one a byte more is enough: it is refused all the same
-            } catch (why) {
-                this.say(file.name + ": the file can't be read (" + why.message + ")", "bad");
-                return;
-            }
-            if (/\.(geo)?json$/i.test(file.name)) {
-                this.openMap(file.name, bytes);
-                return;
-            }
-            const { kind, shape } = await this.reader.ask("kind", { bytes });
-            if (kind === "packed") {
-                await this.openPacked(file.name, bytes);
-                return;
-            }
-            if (given[kind]) {
-                this.say(given[kind].name + ", " + file.name + ": one RNDF and at most one MDF can be checked", "bad");
-                return;
-            }
-            given[kind] = { name: file.name, bytes, shape };
-        }
-        this.put(given);
-    }
-
-    // An MDF alone goes with the RNDF that is there; an RNDF alone leaves the MDF that is there.
-    put(given) {
-        const lost = ["rndf", "mdf"].filter((which) => given[which] && this.editor.isChanged(which));
-        if (lost.length && !confirm("Changes in " + lost.map((which) => this.name(which)).join(" and ") + " are not saved. Open all the same?")) return;
-        for (const which of ["rndf", "mdf"]) if (given[which]) this.editor.open(which, given[which].name, given[which].bytes, given[which].shape);
-        if (given.rndf) this.fitNext = true;
-        this.editor.typed = 0;
-        this.editor.show(given.rndf ? "rndf" : "mdf");
-        this.changed();
-    }
-
-    // Packed bytes and maps have no text here: they are shown on the map, until a text changes.
-    async openPacked(name, bytes) {
-        const { answer, sentence } = await this.reader.ask("packed", { name, bytes });
-        this.read = null;
-        this.refuse(sentence);
-        this.say(answer.accepted ? name + ": accepted; " + countsOf(answer, false) : name + ": refused", answer.accepted ? "good" : "bad");
-        this.show(answer.accepted ? new Network(answer, null, (start, length) => Texts.decode(bytes.subarray(start, start + length)).text) : null, true);
-        this.showTabs();
-    }
-
-    openMap(name, bytes) {
-        this.read = null;
-        this.refuse("");
-        this.show(null, false);
-        this.showTabs();
-        try {
-            this.foreign = GeoMap.layer(JSON.parse(Texts.decode(bytes).text)).addTo(this.map.map);
-            at("no-map").hidden = true;
-            this.say(name + ": a map; there is no text of it here", "none");
-            if (this.foreign.getBounds().isValid()) this.map.map.fitBounds(this.foreign.getBounds(), { padding: [28, 28], maxZoom: 20, animate: false });
-        } catch (why) {
-            this.say(name + ": this is no map (" + why.message + ")", "bad");
-        }
-    }
-
-    async save(what) {
-        const which = what.startsWith("mdf") ? "mdf" : "rndf";
-        const base = this.name(which).replace(/\.[^.]*$/, "");
-        const name = { "rndf-text": this.name("rndf"), "mdf-text": this.name("mdf"), rndf: base + ".house.rndf", mdf: base + ".house.mdf", map: base + ".geojson", packed: base + ".packed" }[what];
-        let bytes;
-        if (what.endsWith("-text")) {
-            bytes = this.editor.bytesOf(which);
-            this.editor.saved(which);
-            this.showTabs();
-        } else {
-            const answer = await this.question("save", { what });
-            if (!answer) return;
-            if (!answer.accepted) {
-                this.say(name + ": not saved", "bad");
-                this.refuse(answer.sentence);
-                return;
-            }
-            bytes = answer.bytes;
-        }
-        const url = URL.createObjectURL(new Blob([bytes], { type: "application/octet-stream" }));
-        const link = Object.assign(document.createElement("a"), { href: url, download: name });
-        document.body.append(link);
-        link.click();
-        link.remove();
-        setTimeout(() => URL.revokeObjectURL(url), 60000);
-        document.dispatchEvent(new CustomEvent("yard-saved", { detail: { name, bytes } }));
-    }
-
-    // ## What the planner does
-
-    listen() {
-        const open = (files) => {
-            this.opened = (this.opened || Promise.resolve()).then(() => this.openFiles(files)).catch((why) => this.say("This page failed: " + why.message, "bad")).then(() => document.dispatchEvent(new CustomEvent("yard-opened")));
-        };
-        at("file").addEventListener("change", (event) => {
-            const files = [...event.target.files];
-            event.target.value = "";
-            if (files.length) open(files);
-        });
-        // before the editor, which would take a dropped file as text
-        const over = (on) => document.body.classList.toggle("over", on);
-        const carriesFiles = (event) => event.dataTransfer && [...event.dataTransfer.types].includes("Files");
-        window.addEventListener("dragover", (event) => {
-            if (!carriesFiles(event)) return;
-            event.preventDefault();
-            event.stopPropagation();
-            over(true);
-        }, true);
-        window.addEventListener("dragleave", (event) => { if (!event.relatedTarget) over(false); }, true);
-        window.addEventListener("drop", (event) => {
-            over(false);
-            if (!carriesFiles(event)) return;
-            event.preventDefault();
-            event.stopPropagation();
-            open([...event.dataTransfer.files]);
-        }, true);
-        at("example").addEventListener("click", () => this.put({ rndf: { name: "example.rndf", bytes: new TextEncoder().encode(EXAMPLE.rndf) }, mdf: { name: "example.mdf", bytes: new TextEncoder().encode(EXAMPLE.mdf) } }));
-        at("edition").addEventListener("change", () => { this.editor.typed = 0; this.changed(); });
-        for (const which of ["rndf", "mdf"]) at("tab-" + which).addEventListener("click", () => this.tab(which));
-        document.querySelector("[role=tablist]").addEventListener("keydown", (event) => {
-            if (!["ArrowLeft", "ArrowRight"].includes(event.key)) return;
-            this.tab(this.editor.shown === "rndf" ? "mdf" : "rndf");
-            at("tab-" + this.editor.shown).focus();
-        });
-        at("close").addEventListener("click", () => {
-            const which = this.editor.shown;
-            if (this.editor.isChanged(which) && !confirm("Changes in " + this.name(which) + " are not saved. Take it away all the same?")) return;
-            this.editor.close(which);
-            this.editor.typed = 0;
-            this.changed();
-        });
-        at("go").addEventListener("click", () => this.goToFault());
-        at("stop").addEventListener("click", () => this.stop());
-        for (const which of Object.keys(this.panels)) at("tool-" + which).addEventListener("click", () => this.toggle(which));
-        at("panel-close").addEventListener("click", () => this.closePanel());
-        at("panel").addEventListener("keydown", (event) => { if (event.key === "Escape") this.closePanel(); });
-        at("fit").addEventListener("click", () => this.map.fit());
-        at("exits").addEventListener("change", (event) => { this.map.painter.exits = event.target.checked; this.map.painter.base.repaint(); });
-        for (const button of document.querySelectorAll("[data-save]")) button.addEventListener("click", () => { at("save").open = false; this.save(button.dataset.save); });
-        document.addEventListener("click", (event) => { if (!at("save").contains(event.target)) at("save").open = false; });
-        at("save").addEventListener("keydown", (event) => { if (event.key === "Escape") { at("save").open = false; at("save").querySelector("summary").focus(); } });
-        window.addEventListener("keydown", (event) => {
-            if (event.key === "F8") {
-                event.preventDefault();
-                this.goToFault();
-            } else if ((event.ctrlKey || event.metaKey) && event.key.toLowerCase() === "s") {
-                event.preventDefault();
-                if (this.editor.isGiven(this.editor.shown)) this.save(this.editor.shown + "-text");
-            }
-        });
-        window.addEventListener("beforeunload", (event) => { if (this.editor.isChanged("rndf") || this.editor.isChanged("mdf")) event.preventDefault(); });
-        this.listenDivider();
-        // on paper the map has another size
-        window.addEventListener("beforeprint", () => { document.body.classList.add("printing"); this.map.map.invalidateSize({ animate: false }); this.map.fit(); this.map.painter.repaint(true); });
-        window.addEventListener("afterprint", () => { document.body.classList.remove("printing"); this.map.map.invalidateSize({ animate: false }); });
-    }
-
     closePanel() {
         const open = Object.keys(this.panels).find((one) => this.panels[one] === this.panel);
         if (open) this.toggle(open);
@@ -421,22 +271,6 @@ class Workbench {
         const which = this.read.answer.file === 2 ? "mdf" : "rndf";
         this.tab(which);
         this.editor.goToFault(which, true);
-    }
-
-    listenDivider() {
-        const divider = at("divider");
-        const set = (percent) => {
-            const width = Math.max(15, Math.min(85, percent));
-            document.documentElement.style.setProperty("--editor", width + "%");
-            divider.setAttribute("aria-valuenow", String(Math.round(width)));
-            this.editor.refresh();
-        };
-        divider.addEventListener("pointerdown", (event) => divider.setPointerCapture(event.pointerId));
-        divider.addEventListener("pointermove", (event) => { if (divider.hasPointerCapture(event.pointerId)) set(100 * event.clientX / document.body.clientWidth); });
-        divider.addEventListener("keydown", (event) => {
-            const step = { ArrowLeft: -3, ArrowRight: 3 }[event.key];
-            if (step) set(Number(divider.getAttribute("aria-valuenow")) + step);
-        });
     }
 }
 

@@ -79,11 +79,15 @@ function buffersIn(value, found = new Set()) {
     return found;
 }
 
-onmessage = async ({ data }) => {
+async function answer(data) {
     try {
-        const answer = await Asked[data.ask](data);
-        postMessage({ ticket: data.ticket, answer }, [...buffersIn(answer)]);
+        const told = await Asked[data.ask](data);
+        postMessage({ ticket: data.ticket, answer: told }, [...buffersIn(told)]);
     } catch (why) {
         postMessage({ ticket: data.ticket, failed: String(why && why.message || why) });
     }
-};
+}
+
+// One behind the other: the first loads the module.
+let last = Promise.resolve();
+onmessage = ({ data }) => { last = last.then(() => answer(data)); };

@@ -9,7 +9,7 @@ import sys
 # Debian's libjs-codemirror and libjs-leaflet, before our own
 LIBRARIES = ["codemirror/codemirror.js", "codemirror/addon/dialog/dialog.js", "codemirror/addon/search/searchcursor.js", "codemirror/addon/search/search.js", "leaflet/leaflet.min.js"]
 LIBRARY_STYLES = ["codemirror/codemirror.css", "codemirror/addon/dialog/dialog.css", "leaflet/leaflet.css"]
-SCRIPTS = ["texts.js", "network.js", "driving.js", "example.js", "client.js", "editor.js", "plane.js", "sheet.js", "painter.js", "map.js", "geomap.js", "panels.js", "workbench.js"]
+SCRIPTS = ["texts.js", "network.js", "driving.js", "example.js", "client.js", "editor.js", "plane.js", "sheet.js", "painter.js", "map.js", "geomap.js", "panels.js", "files.js", "controls.js", "workbench.js"]
 WORKER = ["texts.js", "lines.js", "mending.js", "driving.js", "reader.js", "worker.js"]
 
 

@@ -18,10 +18,9 @@ from chrome import Chrome   # noqa: E402
 
 N, MDF = "network.rndf", "mission.mdf"
 STILL = 3000        # ms: longer may the page never stand still; on an idle machine it is far less
-WATCH = """window.tolds = 0; window.opens = 0; window.yard = null; window.wrongs = []; window.long = [0]; window.saved = [];
+WATCH = """window.tolds = 0; window.opens = 0; window.yard = null; window.wrongs = []; window.long = [0];
 document.addEventListener("yard-told", () => { window.tolds++; });
 document.addEventListener("yard-opened", () => { window.opens++; });
-document.addEventListener("yard-saved", (event) => { window.saved.push(event.detail.name); });
 document.addEventListener("yard-ready", (event) => { window.yard = event.detail; });
 document.addEventListener("securitypolicyviolation", (event) => window.wrongs.push(event.blockedURI + " " + event.violatedDirective));
 window.addEventListener("error", (event) => window.wrongs.push(String(event.message)));
