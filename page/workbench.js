@@ -19,6 +19,7 @@ class Workbench {
         this.network = null;             // what the map shows
         this.missionLines = null;
         this.fitNext = true;
+        this.settled = Promise.resolve();
         this.editor = new Editor(at("editor"), { changed: (which, by) => this.changed(by), cursor: (which, line) => this.cursor(which, line), leave: () => at("divider").focus() });
         this.map = new YardMap(at("map"), { picked: (feature) => this.picked(feature), pointed: (row) => this.panel && this.panel.pointed && this.panel.pointed(row),
             describe: (feature) => this.network.describe(feature), drawn: () => { at("drawing").textContent = this.map ? this.map.painter.simplified : ""; } });
@@ -153,6 +154,7 @@ class Workbench {
         const began = this.asked = performance.now();
         const slow = setTimeout(() => { at("busy").hidden = false; }, 400);
         try {
+            await this.settled;
             const answer = await this.reader.ask(ask, words);
             return generation === this.generation ? answer : null;
         } catch (why) {
@@ -171,10 +173,13 @@ class Workbench {
         return !!this.asked && performance.now() - this.asked > 400;
     }
 
-    // Ends a question that takes too long; the texts are read again for the next.
-    async stop() {
-        await this.reader.restart();
-        if (this.editor.isGiven("rndf")) await this.reader.ask("read", { edition: at("edition").value, rndf: this.editor.content("rndf"), mdf: this.editor.content("mdf") });
+    // Ends a question that takes too long; the texts are read again before the next.
+    stop() {
+        this.settled = (async () => {
+            await this.reader.restart();
+            if (this.editor.isGiven("rndf")) await this.reader.ask("read", { edition: at("edition").value, rndf: this.editor.content("rndf"), mdf: this.editor.content("mdf") });
+        })();
+        return this.settled;
     }
 
     // ## What is said

@@ -398,6 +398,35 @@ def names(page):
     page.same("nor a question to the network", page.value("window.wrongs.splice(0).length"), 1)
 
 
+# ## A question that takes long: 32,768 goals on a ring, each behind the next, so that each search goes all the way round
+
+def long_question(page):
+    count = 32768
+    ring = ["RNDF_name>ring", "num_segments>1", "num_zones>0", "segment>1", "num_lanes>1", "lane>1.1", "num_waypoints>%d" % count] + ["checkpoint>1.1.%d>%d" % (i, i) for i in range(1, count + 1)] + ["exit>1.1.%d>1.1.1" % count] \
+        + ["1.1.%d>45.%06d>-93.000000" % (i, i) for i in range(1, count + 1)] + ["end_lane", "end_segment", "end_file"]
+    goals = ["MDF_name>m", "RNDF>ring", "checkpoints", "num_checkpoints>%d" % count] + [str(i) for i in range(count, 0, -1)] + ["end_checkpoints", "speed_limits", "num_speed_limits>1", "1>0>15", "end_speed_limits", "end_file"]
+    page.give([("ring.rndf", text(ring)), ("ring.mdf", text(goals))])
+    page.press_button("#tool-drive")
+
+    def ask():
+        page.value("(() => { const field = document.querySelector('#panel input'); field.value = '1.1.1'; field.focus(); })()")
+        page.chrome.press("Enter")
+        page.chrome.until("!document.getElementById('busy').hidden", 20)
+    ask()
+    page.press_button("#stop")
+    page.chrome.until("document.getElementById('busy').hidden", 20)
+    page.same("stopped", page.answer(), "")
+    ask()
+    page.value("yard.tab('rndf'); yard.editor.view.setCursor({ line: 3, ch: 0 }); yard.editor.view.focus()")
+    page.wait(lambda: page.chrome.type("x"))
+    page.chrome.until("!!yard.read")
+    page.hold("typed into meanwhile", state="bad", lines=["4"], bytes=["x"])
+    page.wait(lambda: page.value("yard.editor.view.undo()"))
+    page.chrome.until("/driven/.test((document.querySelector('#panel .answer') || {}).textContent)", 180)
+    page.same("and asked again to its end", page.answer(), "ring.mdf: can be driven from 1.1.1")
+    page.press_button("#panel-close")
+
+
 # ## The largest
 
 def largest(page, folder):
@@ -430,7 +459,7 @@ def main(path, pictures, large=None):
         page = Page(path, pictures, folder)
         page.picture("empty")
         page.same("the version", page.value("/^reader \\S+$/.test(document.getElementById('version').textContent) && /^[0-9a-f]{64}$/.test(document.getElementById('about-sha').textContent)"), True)
-        for part in (reading, typing, example, names):
+        for part in (reading, typing, example, names, long_question):
             part(page)
         if large:
             largest(page, large)
