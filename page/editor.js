@@ -49,8 +49,8 @@ const Editor = (() => {
             this.texts = { rndf: this.blank("rndf"), mdf: this.blank("mdf") };
             this.shown = "rndf";
             this.view = CodeMirror(element, {
-                lineNumbers: true, lineSeparator: "\n", mode: "yard", indentUnit: 8, tabSize: 8, indentWithTabs: true, smartIndent: false, electricChars: false, undoDepth: 1000, styleActiveLine: false,
-                specialCharPlaceholder: placeholder, screenReaderLabel: "text of the file", gutters: ["CodeMirror-linenumbers", "faults"],
+                lineNumbers: true, lineSeparator: "\n", mode: "yard", indentUnit: 8, tabSize: 8, indentWithTabs: true, smartIndent: false, electricChars: false, undoDepth: 1000,
+                specialCharPlaceholder: placeholder, screenReaderLabel: "text of the file",
                 extraKeys: { "Tab": (view) => view.replaceSelection("\t"), "Shift-Tab": false, "Esc": () => hooks.leave(), "Ctrl-S": false, "Cmd-S": false, "Alt-G": (view) => this.askLine(view) },
             });
             this.view.swapDoc(this.texts.rndf.doc);

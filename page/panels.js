@@ -36,6 +36,7 @@ class MendPanel {
         const answer = await bench.question("mend");
         if (!answer) return;
         this.answer = answer;
+        this.generation = bench.generation;
         this.said.textContent = !answer.accepted ? answer.sentence.trim() : answer.rows ? answer.rows.toLocaleString("en") + (answer.rows === 1 ? " line" : " lines") + " would change:" : answer.sentence;
         this.said.dataset.state = answer.accepted ? "good" : "bad";
         if (!answer.accepted) {
@@ -54,11 +55,13 @@ class MendPanel {
     }
 
     takeIt() {
+        const { bench } = this;
         const { bytes, changes, rows } = this.answer;
-        this.bench.editor.show("rndf");
-        this.bench.editor.replace("rndf", bytes, changes, rows);
-        this.bench.showTabs();
-        this.bench.changed();
+        if (this.generation !== bench.generation) return;        // of a text that has changed since
+        bench.editor.show("rndf");
+        bench.editor.replace("rndf", bytes, changes, rows);
+        bench.showTabs();
+        bench.changed();
     }
 
     close() {}

@@ -20,13 +20,14 @@ const Texts = (() => {
     // What is typed above 255 goes into a text of bytes as UTF-8.
     function encode(text, encoding) {
         if (encoding !== "bytes") return new TextEncoder().encode(text);
-        const bytes = [];
+        const bytes = new Uint8Array(3 * text.length);
+        const encoder = new TextEncoder();
+        let length = 0;
         for (const sign of text) {
-            const code = sign.codePointAt(0);
-            if (code < 256) bytes.push(code);
-            else bytes.push(...new TextEncoder().encode(sign));
+            if (sign.charCodeAt(0) < 256) bytes[length++] = sign.charCodeAt(0);
+            else length += encoder.encodeInto(sign, bytes.subarray(length)).written;
         }
-        return Uint8Array.from(bytes);
+        return bytes.slice(0, length);
     }
 
     // How many lines a text has, and how long the longest is.

@@ -203,8 +203,8 @@ class Workbench {
     }
 
     picked(feature) {
-        const lines = feature && this.network.linesOf(feature);
-        if (lines && this.read) {
+        const lines = feature && this.read && this.read.network && this.network.linesOf(feature);        // not of a map in grey
+        if (lines) {
             this.selectLines("rndf", lines[0], lines[1]);
             this.map.select(feature);
         } else if (!feature) {

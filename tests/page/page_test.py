@@ -221,6 +221,15 @@ def typing(page):
     page.wait(lambda: chrome.type(text(M).decode()))
     chrome.until("!!yard.read")
     page.hold("the MDF typed", said=accepted(N, MDF, counts=PAIR_COUNTS), goals=["1"])
+    # bytes that are no UTF-8 stay as they are, whatever is typed beside them
+    latin = text(A).replace(b"yard_a", b"caf\xe9")
+    page.give([("latin.rndf", latin)])
+    page.value("yard.editor.view.setCursor({ line: 0, ch: 14 }); yard.editor.view.focus()")
+    page.wait(lambda: chrome.type("\u20ac"))
+    chrome.until("!!yard.read")
+    changed = latin.replace(b"caf\xe9", b"caf\xe9" + "\u20ac".encode())
+    page.hold("a letter in Latin 1", refusal=told("latin.rndf", changed, 1, 4, 14)[0], bytes=["\u00e9"])
+    page.same("its bytes", bytes(page.value("[...yard.editor.bytesOf('rndf')]")), changed)
     # a fault far from the cursor comes into view when typing pauses
     page.give([(N, text(ins(A, 9, *["stop>1.1.1"] * 500)))])
     page.value("yard.editor.view.setCursor({ line: 6, ch: 15 }); yard.editor.view.focus()")
@@ -280,6 +289,13 @@ def example(page):
     time.sleep(0.3)
     page.same("Alt-G goes to a line", page.value("[yard.editor.view.getCursor().line, yard.map.painter.selected.kind]"), [108, "perimeter"])
 
+    # a map in grey is not linked to a text that has changed
+    page.value("yard.editor.view.setSelection({ line: 0, ch: 0 }); yard.editor.view.replaceRange('\\nx', { line: 0, ch: 0 }, undefined, '+input')")
+    time.sleep(0.4)
+    chrome.click(*page.place("1.1.1", "1.1.2"))
+    page.same("a click on a map in grey", page.selection()[0:2], ["rndf", 2])
+    page.wait(lambda: page.value("yard.editor.view.undo()"))
+
     # mending
     good = page.content("rndf")
     page.press_button("#tool-mend")
@@ -293,6 +309,10 @@ def example(page):
               ["example.rndf:3: the count is 4, not 9", "example.rndf:12: option given again, taken out", "example.rndf:%d: behind end_file, taken out" % len(bad)])
     page.same("before and after", page.value("[...document.querySelectorAll('.changes pre')].map((one) => one.textContent)"), ["num_segments\t9\nnum_segments\t4", "lane_width\t12", "x"])
     page.picture("mend")
+    page.value("yard.editor.view.replaceRange('x', { line: 0, ch: 0 }, undefined, '+input'); document.querySelector('#panel .main').click()")
+    page.same("of a text that has changed meanwhile nothing is taken", page.content("rndf"), "x" + "\n".join(bad))
+    page.wait(lambda: page.value("yard.editor.view.undo()"))
+    time.sleep(0.4)
     page.wait(lambda: page.press_button("#panel .main"))
     page.chrome.until("yard.read && yard.read.answer.accepted")
     mended = "\n".join(lines[:10] + ["lane_width\t3"] + lines[11:])
