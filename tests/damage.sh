@@ -1,5 +1,5 @@
 #!/bin/sh
-# tests/damage.sh [--built] [COUNT | long] [SEED] [SORT]
+# tests/damage.sh [--target x86-64 | aarch64] [--built] [--install] [COUNT | long] [SEED] [SORT]
 #
 # Compares the library for C with the independent reader in tests/oracle on pairs of texts, well-formed and damaged: 4,000 of them, or COUNT, or 200,000 (`long`). The pairs come from
 # SEED (1 if not given) and are the same on every machine. Compared are the reply, the names, the row counts and every number of every lent table; the tables are lent full of other
@@ -18,26 +18,26 @@
 # five signs of comments, separators and line ends, each at four places of an RNDF; `tests/damage.sh 200196 1 packed-bytes` has every prefix and every change of one byte of yard A's form and of a yard's with zones, each with
 # tables for it and with fewer.
 #
-# Builds the library first (`rt staticlib yard`), unless --built is given. Needs python3 and a C compiler (Debian: gcc; on Arm gcc-x86-64-linux-gnu, and the kit's emulator runs it);
-# what is missing it installs, where it may.
+# The library is that of the target (this machine, if none is named), made by tools/library.sh unless --built is given; on another machine an emulator runs it. Needs python3 and a C compiler for the
+# target (tests/need.sh has the packages); what is missing is said, and --install installs it.
 # It runs on all cores that it may use. Processor time on Arm, without the emulator: 4,000 pairs with their maps and routes a minute, 36,000, which write over 20,000 maps, 4, 200,000 some 20. `python3 tests/damage/compare.py --mutants COUNT SEED` tells whether these
 # pairs notice each of the small mistakes of tests/oracle/mutate.py in a copy of the oracle (4,000 notice all but two or three, 20,000 all); `python3 tests/damage/compare.py --oracle COUNT SEED [SORT]` runs the same with the oracle in place of the library; `python3 tests/damage/compare.py --judgements COUNT SEED` holds the
 # oracle's judgement of packed forms to a second one, without the library.
 set -eu
 root=$(cd "$(dirname "$0")/.." && pwd -P)
-if [ "${1:-}" = --built ]; then shift; else (cd "$root" && rt staticlib yard) >&2; fi
+. "$root/tests/need.sh"
+options "$@"
+shift "$taken"
 count=${1:-4000}
 [ "$count" != long ] || count=200000
-case $count${2:-} in *[!0-9]*) echo "usage: tests/damage.sh [--built] [COUNT | long] [SEED] [SORT]" >&2; exit 2 ;; esac
-library=$root/target/staticlib/libyard.a
-[ -f "$library" ] || { echo "tests/damage.sh: $library is not built" >&2; exit 2; }
+case $count${2:-} in *[!0-9]*) missing "usage: tests/damage.sh [--target x86-64 | aarch64] [--built] [--install] [COUNT | long] [SEED] [SORT]" ;; esac
 work=$(mktemp -d)
 trap 'rm -rf "$work"' EXIT
 
-. "$root/tests/need.sh"
-find_compiler
 need python3 python3
-"$compiler" -std=c11 -O2 -Wall -Wextra -Wpedantic -Wconversion -Werror -static -I"$root/include" "$root/tests/damage/reader.c" "$library" -o "$work/reader.x86"
-printf '#!/bin/sh\nexec %s "%s"\n' "${emulator:+\"$emulator\"}" "$work/reader.x86" >"$work/reader"
+find_compiler
+find_library
+"$compiler" -std=c11 -O2 -Wall -Wextra -Wpedantic -Wconversion -Werror -static -I"$root/include" "$root/tests/damage/reader.c" "$library" -o "$work/reader.$target"
+printf '#!/bin/sh\nexec %s "%s"\n' "${emulator:+\"$emulator\"}" "$work/reader.$target" >"$work/reader"
 chmod +x "$work/reader"
 python3 "$root/tests/damage/compare.py" "$work/reader" "$count" "${2:-1}" ${3:+"$3"}

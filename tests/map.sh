@@ -6,10 +6,10 @@
 set -eu
 root=$(cd "$(dirname "$0")/.." && pwd -P)
 here=$root/tests/map
-if ! command -v ogrinfo >/dev/null 2>&1 || ! command -v ogr2ogr >/dev/null 2>&1; then
-    [ "${1:-}" = --install ] || { echo "tests/map.sh: missing: gdal-bin (Debian's package); tests/map.sh --install installs it" >&2; exit 2; }
-    { apt-get update -qq && apt-get install -y -qq --no-install-recommends gdal-bin; } >&2
-fi
+. "$root/tests/need.sh"
+options "$@"
+shift "$taken"
+need ogrinfo gdal-bin
 work=$(mktemp -d)
 trap 'rm -rf "$work"' EXIT
 

@@ -1,5 +1,5 @@
 #!/bin/sh
-# tests/missions.sh [--built] [COUNT | all] [SEED]
+# tests/missions.sh [--target x86-64 | aarch64] [--built] [--install] [COUNT | all] [SEED]
 #
 # "L5 has a good route exactly when this, given the room, accepts" (request L13), tried out: asks the library whether missions can be driven (kastepuhm_check_mission), holds the answer to what
 # the library itself says of routes (kastepuhm_check_route), and both to the independent implementation in tests/oracle. 2,000 missions of each sort, or COUNT, from SEED (1 if not given):
@@ -11,21 +11,21 @@
 # missions with the oracle's, and the lent tables and work space.
 # Printed: how often each answer came, how many lists were tried, each case that differs (five at most); the last line is 'seed S: N missions, K differ'; the status is 0 if none differs.
 #
-# Builds the library first (`rt staticlib yard`), unless --built is given; needs what tests/damage.sh needs, and runs on all cores that it may use.
+# Target, library and what it needs: as tests/damage.sh. Runs on all cores that it may use.
 set -eu
 root=$(cd "$(dirname "$0")/.." && pwd -P)
-if [ "${1:-}" = --built ]; then shift; else (cd "$root" && rt staticlib yard) >&2; fi
+. "$root/tests/need.sh"
+options "$@"
+shift "$taken"
 count=${1:-2000}
-case ${count#all}${2:-} in *[!0-9]*) echo "usage: tests/missions.sh [--built] [COUNT | all] [SEED]" >&2; exit 2 ;; esac
-library=$root/target/staticlib/libyard.a
-[ -f "$library" ] || { echo "tests/missions.sh: $library is not built" >&2; exit 2; }
+case ${count#all}${2:-} in *[!0-9]*) missing "usage: tests/missions.sh [--target x86-64 | aarch64] [--built] [--install] [COUNT | all] [SEED]" ;; esac
 work=$(mktemp -d)
 trap 'rm -rf "$work"' EXIT
 
-. "$root/tests/need.sh"
-find_compiler
 need python3 python3
-"$compiler" -std=c11 -O2 -Wall -Wextra -Wpedantic -Wconversion -Werror -static -I"$root/include" "$root/tests/damage/ways.c" "$library" -o "$work/ways.x86"
-printf '#!/bin/sh\nexec %s "%s"\n' "${emulator:+\"$emulator\"}" "$work/ways.x86" >"$work/ways"
+find_compiler
+find_library
+"$compiler" -std=c11 -O2 -Wall -Wextra -Wpedantic -Wconversion -Werror -static -I"$root/include" "$root/tests/damage/ways.c" "$library" -o "$work/ways.$target"
+printf '#!/bin/sh\nexec %s "%s"\n' "${emulator:+\"$emulator\"}" "$work/ways.$target" >"$work/ways"
 chmod +x "$work/ways"
 python3 "$root/tests/damage/ways.py" "$work/ways" "$count" "${2:-1}"

@@ -1,4 +1,4 @@
-# Sourced by the `run-..` scripts, which set `root`, the repository's folder. The programs are compiled for x86-64 and run under the kit's loader
+# Sourced by the `run-..` scripts and tools/library.sh, which set `root`, the repository's folder. The programs are compiled for x86-64 and run under the kit's loader
 # and C library, as `rt` runs them; on Arm the kit's emulator runs them. Whatever can't be done ends the script with status 2.
 self=$(basename "$0")
 
