@@ -1,11 +1,19 @@
 /*
- * kastepuhm.h: the yard reader for C (and C++). Link target/staticlib/libyard.a, which `rt staticlib yard` writes, into an x86-64 Linux program:
+ * kastepuhm.h: the yard reader for C and C++. `tools/library.sh` proves the library and writes target/lib/x86-64/libyard.a and target/lib/aarch64/libyard.a, for Linux programs:
  *
- *     rt staticlib yard
- *     cc -std=c11 -Iinclude yours.c target/staticlib/libyard.a
+ *     tools/library.sh
+ *     cc -std=c11 -Iinclude yours.c target/lib/x86-64/libyard.a
  *
- * The library needs nothing else but memset of the C library, which any C program links anyway (`nm -u target/staticlib/libyard.a` lists what it leaves open);
- * a program without a C library has to bring its own. tests/callers/caller.c is a whole caller, tests/callers/caller.rs the same in Rust; tests/callers.sh builds and runs both. The header and the library belong together: build both from the same commit.
+ * or, behind `tools/install.sh PREFIX`, `cc yours.c $(pkg-config --cflags --libs kastepuhm)`. In short, with what stands at the end of this file:
+ *
+ *     size_t rows = kastepuhm_rows_for(text, length);
+ *     uint32_t *words = malloc(KASTEPUHM_TABLES_WORDS(rows) * sizeof *words);
+ *     kastepuhm_tables tables = kastepuhm_tables_in(words, rows);
+ *     kastepuhm_answer answer = kastepuhm_read_rndf_into(KASTEPUHM_MARCH_2007, text, length, &tables);
+ *
+ * The library needs nothing else but memset of the C library, which any C program links anyway (`nm -u target/lib/x86-64/libyard.a` lists what it leaves open);
+ * a program without a C library has to bring its own. tests/callers/caller.c is a whole caller, caller.cpp one in C++, caller.rs one in Rust over the crate in bindings/rust; tests/callers.sh builds and runs them.
+ * The header and the library belong together: take both from the same commit, or the same release.
  *
  * What it does
  *   It reads the text of a route network (RNDF) and of a mission (MDF) in the format of March 14, 2007, or in its edition of December 6, 2006, as document 01 narrows it, and either fills
@@ -25,10 +33,15 @@
  *   Everything is yours before, during and after the call. The library keeps no pointer, allocates nothing, has no state of its own, prints nothing, reads no file and always
  *   returns. Calls in several threads at once do not disturb each other as long as no two of them write the same tables, work space or output; texts and packed bytes may be shared.
  *
- * Stack, as the kit's compiler builds it (tests/stack.py measures it)
+ * Machines
+ *   x86-64 and 64-bit Arm (aarch64: any armv8-a, little endian), both with the C calling conventions of Linux and both position independent; all that is said here holds for both. The x86-64 library is
+ *   what the kit makes of the proved source; the other is made by the same compiler of the same code, with no more changed than how an answer is handed back (tools/library.sh). Tested are both alike
+ *   (tests/callers.sh, tests/damage.sh, each with --target). On other machines, 32-bit Arm among them, this header declares nothing that exists. The page's module (WebAssembly) is called in another way: see tools/page.sh.
+ *
+ * Stack, as the kit's compiler builds it, on either machine (tests/stack.py [--target ..] measures it)
  *   kastepuhm_read_rndf, kastepuhm_write_rndf, kastepuhm_write_map, kastepuhm_write_packed and kastepuhm_read_packed take less than 8 KiB, kastepuhm_mend, kastepuhm_read_pair, kastepuhm_write_mdf, kastepuhm_check_route and
  *   kastepuhm_check_mission less than 12 KiB: 4,096 bytes of marks for each file, or for the packed bytes, are in it.
- *   kastepuhm_point_of takes a few words. Give a thread that calls them a stack to match.
+ *   kastepuhm_sentence takes less than 2 KiB, kastepuhm_point_of, kastepuhm_points_of and kastepuhm_is_mission a few words. Give a thread that calls them a stack to match.
  *
  * Time
  *   Linear in the length of the texts, of the lent tables and of the lent output; of kastepuhm_points_of, kastepuhm_check_route, kastepuhm_check_mission and kastepuhm_read_packed, see there.
@@ -36,12 +49,16 @@
 #ifndef KASTEPUHM_H
 #define KASTEPUHM_H
 
+#include <stdbool.h>
 #include <stddef.h>
 #include <stdint.h>
 
 #ifdef __cplusplus
 extern "C" {
 #endif
+
+/* Of this header and the library that belongs to it; the same as in the file VERSION. */
+#define KASTEPUHM_VERSION "1.0.0"
 
 /* A longer text is refusal 1, and so are longer packed bytes. */
 #define KASTEPUHM_LONGEST_TEXT 16777215u
@@ -506,6 +523,176 @@ kastepuhm_list_answer kastepuhm_points_of(
     const uint32_t *checkpoints, size_t checkpoints_length,
     const uint32_t *numbers, size_t numbers_length,
     uint32_t *points, size_t points_length);
+
+/*
+ * A refusal in words, as planners are told it: what `run-check` prints.
+ *
+ *     network.rndf:9:12: the entry is no declared lane waypoint or perimeter point (12)
+ *     exit	1.1.2	1.1.3
+ *         	     	^
+ *
+ * `name` is what the text is to be called, `text` the one of the refusal's file (1 the RNDF, 2 the MDF), and line, number and column are the answer's. Every line ends with a line feed. A line or column that
+ * is 0 is not named, and without a column no line is shown. Tabs are shown as they stand, other bytes outside 32 to 126 as \xNN, of a line over 512 bytes the first 513. Of a refusal with file 0, and of
+ * kastepuhm_mend and kastepuhm_read_packed, hand over 0 for line and column: what the answer has for a line there is no line of a text. (11 of the work space is told as that of a table.)
+ *
+ * It returns how many bytes the sentence has. Where that is more than out_length, the output has only the first out_length of them; where it is 16,777,216, there are more than 16,777,215. Bytes behind
+ * the sentence stay as they were: no 0 byte is put. For a refusal that this library gave, name_length + KASTEPUHM_SENTENCE_BYTES are enough (counted by hand, not proved).
+ */
+#define KASTEPUHM_SENTENCE_BYTES 4608
+size_t kastepuhm_sentence(
+    const uint8_t *name, size_t name_length,
+    const uint8_t *text, size_t text_length,
+    uint32_t line,
+    uint8_t number,
+    uint32_t column,
+    uint8_t *out, size_t out_length);
+
+/* Does the text begin as an MDF does? Its first field, behind blank lines and comments, is MDF_name. Nothing else is asked of it: it may be refused all the same. */
+bool kastepuhm_is_mission(const uint8_t *text, size_t text_length);
+
+/*
+ * The tables in one struct, so that a call is one line. Each function that takes tables has one of the same name with _into behind it, which takes these in their place and does nothing else than hand
+ * them over, each pointer with its length: all that is said above holds for them. The struct is only read; it may be kept from call to call, and tables may be of different lengths.
+ */
+typedef struct kastepuhm_tables {
+    uint32_t *segments;
+    size_t segments_length;        /* in elements, not rows: as many rows as wanted times KASTEPUHM_SEGMENT_STRIDE */
+    uint32_t *lanes;
+    size_t lanes_length;
+    uint32_t *zones;
+    size_t zones_length;
+    uint32_t *spots;
+    size_t spots_length;
+    int32_t *points;
+    size_t points_length;
+    uint32_t *checkpoints;
+    size_t checkpoints_length;
+    uint32_t *stops;
+    size_t stops_length;
+    uint32_t *exits;
+    size_t exits_length;
+} kastepuhm_tables;
+
+typedef struct kastepuhm_mission_tables {
+    uint32_t *goals;
+    size_t goals_length;
+    uint32_t *limits;
+    size_t limits_length;
+} kastepuhm_mission_tables;
+
+/*
+ * How many rows are enough in every table for a text: its lines, and at least 1. With so many refusal 11 never comes of it, since every row has a line of its own (counted by hand from the format and not
+ * proved). The list of kastepuhm_mend takes as many. A text over KASTEPUHM_LONGEST_TEXT is refused before any row is needed.
+ * It is more than needed: eight tables of so many rows take some 4 times the bytes of an ordinary text, and 96 bytes for a line that is blank; where this matters, count by the bytes of the shortest rows as
+ * crates/yard_check/src/main.rt does. Of packed bytes, bytes_length / 6 rows are enough.
+ */
+static inline size_t kastepuhm_rows_for(const uint8_t *text, size_t text_length)
+{
+    size_t lines = 0, i;
+    if (text_length > 0 && text_length <= KASTEPUHM_LONGEST_TEXT) {
+        for (i = 0; i < text_length; i++)
+            if (text[i] == 10)
+                lines++;
+        if (text[text_length - 1] != 10)
+            lines++;
+    }
+    return lines > 0 ? lines : 1;
+}
+
+/* The words that the eight tables of an RNDF take, and the two of an MDF, with so many rows in each. */
+#define KASTEPUHM_TABLES_WORDS(rows) ((size_t)24 * (rows))
+#define KASTEPUHM_MISSION_TABLES_WORDS(rows) ((size_t)4 * (rows))
+
+/* Eight tables of so many rows each, one behind the other in KASTEPUHM_TABLES_WORDS(rows) words of yours. What the words hold before does not matter. */
+static inline kastepuhm_tables kastepuhm_tables_in(uint32_t *words, size_t rows)
+{
+    kastepuhm_tables t;
+    t.segments = words;
+    t.segments_length = rows * KASTEPUHM_SEGMENT_STRIDE;
+    t.lanes = t.segments + t.segments_length;
+    t.lanes_length = rows * KASTEPUHM_LANE_STRIDE;
+    t.zones = t.lanes + t.lanes_length;
+    t.zones_length = rows * KASTEPUHM_ZONE_STRIDE;
+    t.spots = t.zones + t.zones_length;
+    t.spots_length = rows * KASTEPUHM_SPOT_STRIDE;
+    t.points = (int32_t *)(t.spots + t.spots_length);
+    t.points_length = rows * KASTEPUHM_POINT_STRIDE;
+    t.checkpoints = t.spots + t.spots_length + t.points_length;
+    t.checkpoints_length = rows * KASTEPUHM_CHECKPOINT_STRIDE;
+    t.stops = t.checkpoints + t.checkpoints_length;
+    t.stops_length = rows * KASTEPUHM_STOP_STRIDE;
+    t.exits = t.stops + t.stops_length;
+    t.exits_length = rows * KASTEPUHM_EXIT_STRIDE;
+    return t;
+}
+
+/* The two tables of an MDF likewise, in KASTEPUHM_MISSION_TABLES_WORDS(rows) words: of the same block, they begin at words + KASTEPUHM_TABLES_WORDS(the rows of the others). */
+static inline kastepuhm_mission_tables kastepuhm_mission_tables_in(uint32_t *words, size_t rows)
+{
+    kastepuhm_mission_tables m;
+    m.goals = words;
+    m.goals_length = rows * KASTEPUHM_GOAL_STRIDE;
+    m.limits = m.goals + m.goals_length;
+    m.limits_length = rows * KASTEPUHM_LIMIT_STRIDE;
+    return m;
+}
+
+#define KASTEPUHM_LENT_(t) \
+    (t)->segments, (t)->segments_length, (t)->lanes, (t)->lanes_length, (t)->zones, (t)->zones_length, (t)->spots, (t)->spots_length, \
+    (t)->points, (t)->points_length, (t)->checkpoints, (t)->checkpoints_length, (t)->stops, (t)->stops_length, (t)->exits, (t)->exits_length
+#define KASTEPUHM_MISSION_LENT_(m) (m)->goals, (m)->goals_length, (m)->limits, (m)->limits_length
+
+static inline kastepuhm_answer kastepuhm_read_rndf_into(uint32_t edition, const uint8_t *text, size_t text_length, const kastepuhm_tables *t)
+{
+    return kastepuhm_read_rndf(edition, text, text_length, KASTEPUHM_LENT_(t));
+}
+
+static inline kastepuhm_answer kastepuhm_read_pair_into(uint32_t edition, const uint8_t *rndf, size_t rndf_length, const uint8_t *mdf, size_t mdf_length,
+                                                        const kastepuhm_tables *t, const kastepuhm_mission_tables *m)
+{
+    return kastepuhm_read_pair(edition, rndf, rndf_length, mdf, mdf_length, KASTEPUHM_LENT_(t), KASTEPUHM_MISSION_LENT_(m));
+}
+
+static inline kastepuhm_answer kastepuhm_check_route_into(uint32_t edition, const uint8_t *rndf, size_t rndf_length, const uint8_t *mdf, size_t mdf_length,
+                                                          const kastepuhm_tables *t, const kastepuhm_mission_tables *m, uint32_t start, const uint32_t *route, size_t route_length)
+{
+    return kastepuhm_check_route(edition, rndf, rndf_length, mdf, mdf_length, KASTEPUHM_LENT_(t), KASTEPUHM_MISSION_LENT_(m), start, route, route_length);
+}
+
+static inline kastepuhm_answer kastepuhm_check_mission_into(uint32_t edition, const uint8_t *rndf, size_t rndf_length, const uint8_t *mdf, size_t mdf_length,
+                                                            const kastepuhm_tables *t, const kastepuhm_mission_tables *m, uint32_t start, uint32_t *work, size_t work_length)
+{
+    return kastepuhm_check_mission(edition, rndf, rndf_length, mdf, mdf_length, KASTEPUHM_LENT_(t), KASTEPUHM_MISSION_LENT_(m), start, work, work_length);
+}
+
+static inline kastepuhm_write_answer kastepuhm_write_rndf_into(uint32_t edition, const uint8_t *text, size_t text_length, const kastepuhm_tables *t, uint8_t *out, size_t out_length)
+{
+    return kastepuhm_write_rndf(edition, text, text_length, KASTEPUHM_LENT_(t), out, out_length);
+}
+
+static inline kastepuhm_write_answer kastepuhm_write_map_into(uint32_t edition, const uint8_t *text, size_t text_length, const kastepuhm_tables *t, uint8_t *out, size_t out_length)
+{
+    return kastepuhm_write_map(edition, text, text_length, KASTEPUHM_LENT_(t), out, out_length);
+}
+
+static inline kastepuhm_write_answer kastepuhm_write_packed_into(uint32_t edition, const uint8_t *text, size_t text_length, const kastepuhm_tables *t, uint8_t *out, size_t out_length)
+{
+    return kastepuhm_write_packed(edition, text, text_length, KASTEPUHM_LENT_(t), out, out_length);
+}
+
+static inline kastepuhm_write_answer kastepuhm_write_mdf_into(uint32_t edition, const uint8_t *rndf, size_t rndf_length, const uint8_t *mdf, size_t mdf_length,
+                                                              const kastepuhm_tables *t, const kastepuhm_mission_tables *m, uint8_t *out, size_t out_length)
+{
+    return kastepuhm_write_mdf(edition, rndf, rndf_length, mdf, mdf_length, KASTEPUHM_LENT_(t), KASTEPUHM_MISSION_LENT_(m), out, out_length);
+}
+
+static inline kastepuhm_answer kastepuhm_read_packed_into(const uint8_t *bytes, size_t bytes_length, const kastepuhm_tables *t)
+{
+    return kastepuhm_read_packed(bytes, bytes_length, KASTEPUHM_LENT_(t));
+}
+
+#undef KASTEPUHM_LENT_
+#undef KASTEPUHM_MISSION_LENT_
 
 #ifdef __cplusplus
 }

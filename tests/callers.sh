@@ -1,51 +1,70 @@
 #!/bin/sh
-# tests/callers.sh           builds the library for C and Rust (`rt staticlib yard`), compiles the two worked callers in tests/callers against it, and compares what they print
-# tests/callers.sh --built   the same with the library as it was last built
+# tests/callers.sh [--target x86-64 | aarch64] [--built] [--install]
+#
+# Compiles the three worked callers in tests/callers, in C, C++ and Rust (over the crate in bindings/rust), against the library for the target (this machine, if none is named), and compares what they
+# print. The library is made by tools/library.sh, where anything changed, unless --built is given.
 #
 # Compared: yard A as a pair and alone, yard A written untidily and with spaces for tabs (its house writing is the same), yard B (every table; its answer was worked out by hand), two damaged texts and a
-# missing file; these in the edition of December 6, 2006 too, with a boundary and a zone that it has not (request L10); routes over yard A (request L5), and whether its mission can be driven at all (request L13); yards A and B packed and unpacked, with too few rows and with damaged bytes (request L11); yard A with each kind of trouble, mended (request L9); then document 01's cases and the edges of the summary program's rules (tests/summary_cases.py), and every reply and every lent number of the oracle's corpus and of
-# 2,000 random pairs (tests/callers/corpus.c).
+# missing file; these in the edition of December 6, 2006 too, with a boundary and a zone that it has not (request L10); routes over yard A (request L5), and whether its mission can be driven at all (request L13);
+# yards A and B packed and unpacked, with too few rows and with damaged bytes (request L11); yard A with each kind of trouble, mended (request L9); refusals in words, also cut short, those of
+# tests/check_cases.py; whether texts begin as an MDF does; then document 01's cases and the edges of the summary program's rules (tests/summary_cases.py), and every reply and every lent number of the
+# oracle's corpus and of 2,000 random pairs (tests/callers/corpus.c). The caller in C++ prints no more than the first line of what the others print, but for refusals in words.
+# On the machine itself the crate's own tests are run too (cargo test).
 # The last line is 'N passed, M failed, K skipped'; the status is 0 if none failed.
 #
-# Needs a C compiler (Debian: gcc), for the Rust caller rustc with its standard library, for the cases and the corpus python3. What is not there is skipped, and that is said; but
-# without a C compiler nothing can be compared, and the script fails.
-# The library is x86-64 code. On Arm the callers are compiled for x86-64 and the kit's emulator runs them: Debian's gcc-x86-64-linux-gnu, and for the Rust caller
-# `rustup target add x86_64-unknown-linux-gnu`.
+# Needs a C compiler (Debian: gcc), for the others a C++ compiler (g++), rustc with its standard library for the target, cargo; for the cases and the corpus python3. What is not there is skipped, and that is
+# said; but without a C compiler nothing can be compared, and the script fails. For the other machine it takes Debian's cross compilers and an emulator (tests/need.sh); --install installs what is missing.
 set -eu
 root=$(cd "$(dirname "$0")/.." && pwd -P)
 here=$root/tests/callers
-case ${1:-} in
-'') (cd "$root" && rt staticlib yard) >&2 ;;
---built) ;;
-*) echo "usage: tests/callers.sh [--built]" >&2; exit 2 ;;
-esac
-library=$root/target/staticlib/libyard.a
-[ -f "$library" ] || { echo "tests/callers.sh: $library is not built" >&2; exit 2; }
+. "$root/tests/need.sh"
+options "$@"
+shift "$taken"
+[ $# -eq 0 ] || missing "usage: tests/callers.sh [--target x86-64 | aarch64] [--built] [--install]"
+find_compiler
+find_library
 work=$(mktemp -d)
 trap 'rm -rf "$work"' EXIT
-
-. "$root/tests/need.sh"
-find_compiler
 
 passed=0 failed=0 skipped=0
 pass() { passed=$((passed + 1)); }
 fail() { failed=$((failed + 1)); echo "FAILED $1"; }
 skip() { skipped=$((skipped + 1)); echo "skipped: $1"; }
 
-# The callers are linked statically, so that they run under the emulator without another system's libraries.
+# The callers are linked statically, so that they run under an emulator without another system's libraries.
 compile() { "$compiler" -std=c11 -O2 -Wall -Wextra -Wpedantic -Wconversion -Werror -static -I"$root/include" "$here/$1.c" "$library" -o "$work/$2"; }
 compile caller caller_c
 compile corpus corpus
 compile lists lists
 callers=caller_c
-target=x86_64-unknown-linux-gnu
+[ "$install" = no ] || find_cxx
+if [ -n "$cxx" ]; then
+    "$cxx" -std=c++17 -O2 -Wall -Wextra -Wpedantic -Werror -static -I"$root/include" "$here/caller.cpp" "$library" -o "$work/caller_cpp"
+    callers="$callers caller_cpp"
+else
+    skip "caller.cpp: there is no C++ compiler for $target (Debian: $cxx_package; --install)"
+fi
+case $target in x86-64) triple=x86_64-unknown-linux-gnu ;; aarch64) triple=aarch64-unknown-linux-gnu ;; esac
 if ! command -v rustc >/dev/null; then
     skip "caller.rs: there is no rustc"
-elif ! ls "$(rustc --print sysroot)/lib/rustlib/$target/lib/"libstd-* >/dev/null 2>&1; then
-    skip "caller.rs: rustc has no standard library for $target (rustup target add $target)"
+elif ! ls "$(rustc --print sysroot)/lib/rustlib/$triple/lib/"libstd-* >/dev/null 2>&1; then
+    skip "caller.rs: rustc has no standard library for $triple (rustup target add $triple)"
 else
-    rustc --edition 2021 -O -D warnings --target "$target" -C target-feature=+crt-static -C linker="$compiler" -L native="$(dirname "$library")" -l static=yard "$here/caller.rs" -o "$work/caller_rs"
+    rustc_for() { rustc --edition 2021 -O -D warnings --target "$triple" "$@"; }
+    rustc_for --crate-type rlib --crate-name kastepuhm -L native="$(dirname "$library")" -l static=yard "$root/bindings/rust/src/lib.rs" -o "$work/libkastepuhm.rlib"
+    rustc_for -C target-feature=+crt-static -C linker="$compiler" --extern kastepuhm="$work/libkastepuhm.rlib" "$here/caller.rs" -o "$work/caller_rs"
     callers="$callers caller_rs"
+fi
+if [ "$target" != "$this" ]; then
+    skip "cargo test: its programs are for this machine, $this"
+elif ! command -v cargo >/dev/null; then
+    skip "cargo test: there is no cargo"
+elif (cd "$root/bindings/rust" && CARGO_TARGET_DIR=$root/target/cargo KASTEPUHM_LIB_DIR=$(dirname "$library") cargo test --offline) >"$work/cargo" 2>&1; then
+    pass
+    echo "cargo test: $(sed -n 's/^test result: ok. \([1-9].* passed\);.*/\1/p' "$work/cargo" | tail -n 1)"
+else
+    fail "cargo test in bindings/rust"
+    tail -n 30 "$work/cargo"
 fi
 
 # compare LABEL EXPECTED WORDS..: what each caller prints, given these words, with the file EXPECTED
@@ -53,11 +72,13 @@ compare() {
     label=$1 expected=$2
     shift 2
     for caller in $callers; do
-        if ${emulator:+"$emulator"} "$work/$caller" "$@" >"$work/printed" && cmp -s "$expected" "$work/printed"; then
+        cp "$expected" "$work/wanted"
+        case $caller,$* in caller_cpp,*\ tell*) ;; caller_cpp,*) head -n 1 "$expected" >"$work/wanted" ;; esac
+        if ${emulator:+"$emulator"} "$work/$caller" "$@" >"$work/printed" && cmp -s "$work/wanted" "$work/printed"; then
             pass
         else
             fail "$caller on $label: expected '<', printed '>'"
-            diff "$expected" "$work/printed" || true
+            diff "$work/wanted" "$work/printed" || true
         fi
     done
 }
@@ -242,6 +263,40 @@ mended 'solid_yellow, mended' '' "$work/yellow.rndf" "$work/yellow.rndf"
 echo 'refused 0 0 26 0' >"$work/answer"
 compare 'solid_yellow, mended, 2006' "$work/answer" --2006 "$work/yellow.rndf" mend
 
+# what planners are told of a refusal: whole, cut short by a byte and to none; the longest, of a line of bytes that take four signs each; in the MDF; nothing to tell. Names are as they are given.
+cd "$work"
+cp "$root/crates/yard_check/data/network.rndf" told.rndf
+sed 's/^network\.rndf:/told.rndf:/' "$root/crates/yard_check/stdout" >told
+bytes=$(wc -c <told)
+compare 'yard A with an entry 1.1.3, told' told told.rndf tell
+compare 'the same with its mission' told told.rndf "$a/mission.mdf" tell
+for cut in 0 1 "$((bytes - 1))" "$bytes" "$((bytes + 1))"; do
+    { echo "$bytes" && head -c "$cut" told; } >answer
+    compare "the first $cut bytes of it" answer told.rndf tell "$cut"
+done
+{ head -c 600 /dev/zero | tr '\000' '\377' && echo; } >long.rndf
+{
+    echo 'long.rndf:1:513: the line is over 512 bytes (2)'
+    awk 'BEGIN { for (i = 0; i < 513; i++) line = line "\\xff"; print line; printf "%2048s^\n", "" }'
+} >answer
+compare 'a long line, told' answer long.rndf tell
+printf 'goal.mdf:5:1: the goal is no checkpoint of the RNDF (15)\n8\n^\n' >answer
+compare 'yard A with goal 8, told' answer "$a/network.rndf" goal.mdf tell
+echo accepted >answer
+compare 'yard A, told' answer "$a/network.rndf" "$a/mission.mdf" tell
+compare 'yard B, told' answer "$here/yard_b/network.rndf" tell
+compare 'no RNDF, told' missing none.rndf tell
+# whether a text begins as an MDF does
+printf '\n/* round 1 */\r\n \tMDF_name round' >first.mdf
+printf 'MDF_names\tround\n' >almost.mdf
+echo 'a mission' >answer
+compare 'the kind of a mission' answer "$a/mission.mdf" kind
+compare 'the kind of one behind blank lines and a comment' answer first.mdf kind
+echo 'no mission' >answer
+compare 'the kind of a network' answer "$a/network.rndf" kind
+compare 'the kind of MDF_names' answer almost.mdf kind
+compare 'the kind of nothing' answer empty.packed kind
+
 # document 01's cases, by the first line that a caller prints
 if command -v python3 >/dev/null; then
     for caller in $callers; do
@@ -249,6 +304,11 @@ if command -v python3 >/dev/null; then
         chmod +x "$work/first_line"
         if python3 "$root/tests/summary_cases.py" --command "$work/first_line" >"$work/cases"; then pass; else fail "$caller on tests/summary_cases.py"; fi
         sed "s/^/$caller on tests\/summary_cases.py: /" "$work/cases"
+        # refusals in words, as the planners' program has to print them
+        printf '#!/bin/sh\nexec %s "%s" "$@" tell\n' "${emulator:+\"$emulator\"}" "$work/$caller" >"$work/tell"
+        chmod +x "$work/tell"
+        if python3 "$root/tests/check_cases.py" --sentences "$work/tell" >"$work/cases"; then pass; else fail "$caller on tests/check_cases.py"; fi
+        sed "s/^/$caller on tests\/check_cases.py: /" "$work/cases"
     done
     # the oracle's answers, number by number
     python3 "$root/tests/oracle/cases.py" "$work" >/dev/null

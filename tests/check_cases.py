@@ -4,6 +4,8 @@
     python3 tests/check_cases.py           builds the program, then runs every case in a folder of its own
     python3 tests/check_cases.py --built   runs it as it was last built
     python3 tests/check_cases.py --oracle  runs nothing, and holds the oracle to the same answers
+    python3 tests/check_cases.py --sentences PROGRAM   runs a caller of the library instead, on the cases that have texts: it is given [--2006] and the names, and prints the refusal in
+                                           words, or `accepted` (tests/callers.sh)
 
 Every answer is worked out by hand: file, line, number and column; the words are those of README.md's table. The oracle (tests/oracle) is held to the same
 four. Works on x86-64 and on Arm, by way of `run-check`. The last line says how many of the cases passed; the status is 0 if all did.
@@ -308,6 +310,14 @@ def run(files, arguments):
         return ran.stdout.decode("ascii", "replace"), ran.returncode
 
 
+def by_caller(program, files, older):
+    with tempfile.TemporaryDirectory() as folder:
+        for name, content in files.items():
+            with open(os.path.join(folder, name), "wb") as out:
+                out.write(content)
+        return subprocess.run([program] + ["--2006"] * older + list(files), cwd=folder, stdout=subprocess.PIPE).stdout.decode("ascii", "replace")
+
+
 def by_oracle(rndf, mdf, edition):
     """The oracle's reply in the program's words, with the tables that the program has."""
     room = {"segments": 4 * (MOST // 92 + 1), "lanes": 5 * (MOST // 58 + 1), "zones": 6 * (MOST // 102 + 1), "spots": 2 * (MOST // 66 + 1),
@@ -324,12 +334,14 @@ def main():
     parser = argparse.ArgumentParser()
     parser.add_argument("--built", action="store_true")
     parser.add_argument("--oracle", action="store_true", help="run nothing: only hold the oracle to the answers worked out by hand")
+    parser.add_argument("--sentences", metavar="PROGRAM", help="run this caller of the library")
     options = parser.parse_args()
-    if not options.built and not options.oracle:
+    if not options.built and not options.oracle and not options.sentences:
         data = os.path.join(here, "..", "crates", "yard_check", "data")
         if subprocess.run([RUN, os.path.join(data, N), os.path.join(data, MDF)]).returncode != 1:
             return 1
-    every = not_checked()
+    every, sentences = not_checked(), 0
+    wrong = []
     then, now = older()
     present = [(case, oracle.PRESENT, []) for case in one_refusal_each() + largest() + as_printed() + now]
     for (label, rndf, mdf, want), edition, option in present + [(case, oracle.DECEMBER_2006, OLDER) for case in then]:
@@ -341,10 +353,21 @@ def main():
         assert found == want, (label, found)
         if options.oracle:
             continue
+        if options.sentences:
+            sentences += 1
+            line = told(want[0], files[want[0]], *want[1:]) if len(want) == 4 else want
+            if by_caller(options.sentences, files, edition == oracle.DECEMBER_2006) != ("accepted" if line[1] == 0 else line[0]) + "\n":
+                wrong.append(label)
+            continue
         every.append((label, files, option + list(files), told(want[0], files[want[0]], *want[1:]) if len(want) == 4 else want))
     if options.oracle:
         print("the oracle agrees")
         return 0
+    if options.sentences:
+        for label in wrong:
+            print("differs: %s" % label)
+        print("%d sentences, %d differ" % (sentences, len(wrong)))
+        return 1 if wrong else 0
     failed = 0
     for label, files, arguments, want in every:
         got = run(files, arguments)

@@ -3,9 +3,11 @@
  * length and first line of the house writing, and the network's map; caller NETWORK MISSION START [POINT ..] prints whether the route of these points is drivable from there (request L5);
  * caller NETWORK MISSION drive START ROWS whether the mission can be driven from there at all, with so many rows of work space (request L13);
  * caller NETWORK pack the bytes of the packed network, and caller FILE unpack [ROWS ..] what stands in the tables of such bytes, with so many rows lent of the first tables (request L11);
- * caller NETWORK mend [ROWS [BYTES]] the lines that were mended, and the mended text, with so many rows of the list and so many bytes of the output lent (request L9).
+ * caller NETWORK mend [ROWS [BYTES]] the lines that were mended, and the mended text, with so many rows of the list and so many bytes of the output lent (request L9);
+ * caller NETWORK [MISSION] tell [BYTES] "accepted" or the refusal in words (with BYTES: how many bytes they have, and the first BYTES of them); caller FILE kind whether it begins as an MDF does.
  * With --2006 before all these words the texts are read in the edition of December 6, 2006 (request L10), else in the present one.
- * Texts up to 8,192 bytes, 256 points and 128 rows of every other table, as the summary program has them; all of it lies in this program's own memory.
+ * Texts up to 8,192 bytes, 256 points and 128 rows of every other table, as the summary program has them; all of it lies in this program's own memory. `tell` takes texts of any length and lends what
+ * they need. Most calls are those that take the tables in a struct; read_rndf and write_mdf are called plainly, so that both ways are tried.
  */
 #include "kastepuhm.h"
 
@@ -20,6 +22,9 @@ _Static_assert(sizeof(kastepuhm_list_answer) == 5 * sizeof(uint32_t), "a list's 
 _Static_assert(KASTEPUHM_GOAL_STRIDE == 1, "a goal's row is its number");
 _Static_assert(sizeof(kastepuhm_write_answer) == 30 * sizeof(uint32_t), "a writer's answer has one word more");
 _Static_assert(sizeof(kastepuhm_mend_answer) == 7 * sizeof(uint32_t), "the mending tool's answer has 7 words");
+_Static_assert(KASTEPUHM_TABLES_WORDS(1) == KASTEPUHM_SEGMENT_STRIDE + KASTEPUHM_LANE_STRIDE + KASTEPUHM_ZONE_STRIDE + KASTEPUHM_SPOT_STRIDE + KASTEPUHM_POINT_STRIDE + KASTEPUHM_CHECKPOINT_STRIDE
+               + KASTEPUHM_STOP_STRIDE + KASTEPUHM_EXIT_STRIDE, "eight rows, one of each table");
+_Static_assert(KASTEPUHM_MISSION_TABLES_WORDS(1) == KASTEPUHM_GOAL_STRIDE + KASTEPUHM_LIMIT_STRIDE, "two rows, one of each table");
 #endif
 
 #define LENGTH(table) (sizeof(table) / sizeof((table)[0]))
@@ -40,6 +45,9 @@ static uint32_t stops[ROWS * KASTEPUHM_STOP_STRIDE];
 static uint32_t exits[ROWS * KASTEPUHM_EXIT_STRIDE];
 static uint32_t goals[ROWS * KASTEPUHM_GOAL_STRIDE];
 static uint32_t limits[ROWS * KASTEPUHM_LIMIT_STRIDE];
+static const kastepuhm_tables tables = {segments, LENGTH(segments), lanes, LENGTH(lanes), zones, LENGTH(zones), spots, LENGTH(spots), points, LENGTH(points),
+                                        checkpoints, LENGTH(checkpoints), stops, LENGTH(stops), exits, LENGTH(exits)};
+static const kastepuhm_mission_tables mission_tables = {goals, LENGTH(goals), limits, LENGTH(limits)};
 static uint32_t goal_points[ROWS];
 static uint32_t route[STEPS];
 static uint32_t work[POINTS * KASTEPUHM_WORK_STRIDE];
@@ -237,8 +245,7 @@ static void print_route(size_t rndf_length, size_t mdf_length, char **words, int
     kastepuhm_answer a;
     for (int i = 1; i < count; i++)
         route[i - 1] = (uint32_t)strtoul(words[i], NULL, 10);
-    a = kastepuhm_check_route(edition, rndf, rndf_length, mdf, mdf_length, segments, LENGTH(segments), lanes, LENGTH(lanes), zones, LENGTH(zones), spots, LENGTH(spots), points, LENGTH(points),
-                              checkpoints, LENGTH(checkpoints), stops, LENGTH(stops), exits, LENGTH(exits), goals, LENGTH(goals), limits, LENGTH(limits), start, route, (size_t)count - 1);
+    a = kastepuhm_check_route_into(edition, rndf, rndf_length, mdf, mdf_length, &tables, &mission_tables, start, route, (size_t)count - 1);
     if (a.accepted)
         print_summary(&a);
     else
@@ -256,8 +263,7 @@ static void print_drive(size_t rndf_length, size_t mdf_length, char **words)
     if (rows > POINTS)
         rows = POINTS;
     memset(work, 0xAA, sizeof work);
-    a = kastepuhm_check_mission(edition, rndf, rndf_length, mdf, mdf_length, segments, LENGTH(segments), lanes, LENGTH(lanes), zones, LENGTH(zones), spots, LENGTH(spots), points, LENGTH(points),
-                                checkpoints, LENGTH(checkpoints), stops, LENGTH(stops), exits, LENGTH(exits), goals, LENGTH(goals), limits, LENGTH(limits), start, work, rows * KASTEPUHM_WORK_STRIDE);
+    a = kastepuhm_check_mission_into(edition, rndf, rndf_length, mdf, mdf_length, &tables, &mission_tables, start, work, rows * KASTEPUHM_WORK_STRIDE);
     if (a.accepted)
         print_summary(&a);
     else
@@ -270,8 +276,7 @@ static void print_drive(size_t rndf_length, size_t mdf_length, char **words)
 
 static void print_packed(size_t rndf_length)
 {
-    kastepuhm_write_answer w = kastepuhm_write_packed(edition, rndf, rndf_length, segments, LENGTH(segments), lanes, LENGTH(lanes), zones, LENGTH(zones), spots, LENGTH(spots), points, LENGTH(points),
-                                                      checkpoints, LENGTH(checkpoints), stops, LENGTH(stops), exits, LENGTH(exits), packed, LENGTH(packed));
+    kastepuhm_write_answer w = kastepuhm_write_packed_into(edition, rndf, rndf_length, &tables, packed, LENGTH(packed));
     if (!w.answer.accepted) {
         printf("refused %" PRIu32 " %" PRIu32 " %" PRIu32 " %" PRIu32 "\n", w.answer.file, w.answer.line, w.answer.number, w.answer.column);
         return;
@@ -284,16 +289,23 @@ static void print_packed(size_t rndf_length)
 static void print_unpacked(size_t length, char **words, int count)
 {
     size_t rows[8] = {ROWS, ROWS, ROWS, ROWS, POINTS, ROWS, ROWS, ROWS};
+    kastepuhm_tables lent = tables;
     kastepuhm_answer a;
     for (int i = 0; i < count && i < 8; i++) {
-        size_t lent = (size_t)strtoul(words[i], NULL, 10);
-        if (lent < rows[i])
-            rows[i] = lent;
+        size_t asked = (size_t)strtoul(words[i], NULL, 10);
+        if (asked < rows[i])
+            rows[i] = asked;
     }
     memset(lanes, 0xAA, sizeof lanes);
-    a = kastepuhm_read_packed(rndf, length, segments, rows[0] * KASTEPUHM_SEGMENT_STRIDE, lanes, rows[1] * KASTEPUHM_LANE_STRIDE, zones, rows[2] * KASTEPUHM_ZONE_STRIDE,
-                              spots, rows[3] * KASTEPUHM_SPOT_STRIDE, points, rows[4] * KASTEPUHM_POINT_STRIDE, checkpoints, rows[5] * KASTEPUHM_CHECKPOINT_STRIDE,
-                              stops, rows[6] * KASTEPUHM_STOP_STRIDE, exits, rows[7] * KASTEPUHM_EXIT_STRIDE);
+    lent.segments_length = rows[0] * KASTEPUHM_SEGMENT_STRIDE;
+    lent.lanes_length = rows[1] * KASTEPUHM_LANE_STRIDE;
+    lent.zones_length = rows[2] * KASTEPUHM_ZONE_STRIDE;
+    lent.spots_length = rows[3] * KASTEPUHM_SPOT_STRIDE;
+    lent.points_length = rows[4] * KASTEPUHM_POINT_STRIDE;
+    lent.checkpoints_length = rows[5] * KASTEPUHM_CHECKPOINT_STRIDE;
+    lent.stops_length = rows[6] * KASTEPUHM_STOP_STRIDE;
+    lent.exits_length = rows[7] * KASTEPUHM_EXIT_STRIDE;
+    a = kastepuhm_read_packed_into(rndf, length, &lent);
     if (a.accepted) {
         print_summary(&a);
         print_network(&a, rndf);
@@ -335,6 +347,84 @@ static void print_mended(size_t rndf_length, char **words, int count)
         }
 }
 
+/* A file of any length, in memory of its own; NULL where there is none. */
+static uint8_t *load_whole(const char *path, size_t *length)
+{
+    FILE *file = fopen(path, "rb");
+    size_t room = 1 << 16;
+    uint8_t *text = file != NULL ? malloc(room) : NULL;
+    *length = 0;
+    while (text != NULL) {
+        uint8_t *larger;
+        *length += fread(text + *length, 1, room - *length, file);
+        if (*length < room)
+            break;
+        room *= 2;
+        larger = realloc(text, room);
+        if (larger == NULL)
+            free(text);
+        text = larger;
+    }
+    if (file != NULL)
+        fclose(file);
+    return text;
+}
+
+/* The words are the names of one or two files; bytes is how many bytes of the sentence are asked for, -1 for all. Nothing here is as large as the texts may be: what they need is lent. */
+static void print_told(char **words, int count, long bytes)
+{
+    size_t length[2] = {0, 0}, mission_rows = 0, rows, room, told;
+    uint8_t *text[2] = {NULL, NULL}, *sentence;
+    uint32_t *block;
+    kastepuhm_tables t;
+    kastepuhm_mission_tables m;
+    kastepuhm_answer a;
+    int i;
+    for (i = 0; i < count; i++) {
+        text[i] = load_whole(words[i], &length[i]);
+        if (text[i] == NULL) {
+            puts("no file");
+            return;
+        }
+    }
+    rows = kastepuhm_rows_for(text[0], length[0]);
+    if (count == 2)
+        mission_rows = kastepuhm_rows_for(text[1], length[1]);
+    block = malloc((KASTEPUHM_TABLES_WORDS(rows) + KASTEPUHM_MISSION_TABLES_WORDS(mission_rows)) * sizeof *block);
+    if (block == NULL) {
+        puts("no memory");
+        return;
+    }
+    t = kastepuhm_tables_in(block, rows);
+    m = kastepuhm_mission_tables_in(block + KASTEPUHM_TABLES_WORDS(rows), mission_rows);
+    if (count == 2)
+        a = kastepuhm_read_pair_into(edition, text[0], length[0], text[1], length[1], &t, &m);
+    else
+        a = kastepuhm_read_rndf_into(edition, text[0], length[0], &t);
+    free(block);
+    if (a.accepted) {
+        puts("accepted");
+        return;
+    }
+    i = a.file == 2;
+    room = bytes < 0 ? strlen(words[i]) + KASTEPUHM_SENTENCE_BYTES : (size_t)bytes;
+    sentence = malloc(room + 1);
+    if (sentence == NULL) {
+        puts("no memory");
+        return;
+    }
+    memset(sentence, 0xAA, room + 1);
+    told = kastepuhm_sentence((const uint8_t *)words[i], strlen(words[i]), text[i], length[i], a.line, (uint8_t)a.number, a.column, sentence, room);
+    if (bytes >= 0)
+        printf("%lu\n", (unsigned long)told);
+    fwrite(sentence, 1, told < room ? told : room, stdout);
+    if (sentence[told < room ? told : room] != 0xAA)
+        printf("and the byte behind it was written\n");
+    free(sentence);
+    free(text[0]);
+    free(text[1]);
+}
+
 int main(int count, char **words)
 {
     size_t rndf_length, mdf_length;
@@ -346,13 +436,25 @@ int main(int count, char **words)
         words++;
         count--;
     }
+    if ((count == 3 || count == 4) && strcmp(words[2], "tell") == 0) {
+        print_told(words + 1, 1, count == 4 ? atol(words[3]) : -1);
+        return 0;
+    }
+    if ((count == 4 || count == 5) && strcmp(words[3], "tell") == 0) {
+        print_told(words + 1, 2, count == 5 ? atol(words[4]) : -1);
+        return 0;
+    }
     drive = count > 3 && strcmp(words[3], "drive") == 0;
     if (count < 2 || count > 4 + STEPS || (drive && count != 6)) {
-        fputs("usage: caller [--2006] NETWORK [MISSION [START [POINT ..] | drive START ROWS] | pack | unpack [ROWS ..] | mend [ROWS [BYTES]]]\n", stderr);
+        fputs("usage: caller [--2006] NETWORK [MISSION [START [POINT ..] | drive START ROWS | tell [BYTES]] | tell [BYTES] | kind | pack | unpack [ROWS ..] | mend [ROWS [BYTES]]]\n", stderr);
         return 2;
     }
     if (!load(words[1], rndf, &rndf_length))
         return 0;
+    if (count == 3 && strcmp(words[2], "kind") == 0) {
+        puts(kastepuhm_is_mission(rndf, rndf_length) ? "a mission" : "no mission");
+        return 0;
+    }
     if (count == 3 && strcmp(words[2], "pack") == 0) {
         print_packed(rndf_length);
         return 0;
@@ -379,8 +481,7 @@ int main(int count, char **words)
         a = kastepuhm_read_rndf(edition, rndf, rndf_length, segments, LENGTH(segments), lanes, LENGTH(lanes), zones, LENGTH(zones), spots, LENGTH(spots), points, LENGTH(points),
                                 checkpoints, LENGTH(checkpoints), stops, LENGTH(stops), exits, LENGTH(exits));
     else
-        a = kastepuhm_read_pair(edition, rndf, rndf_length, mdf, mdf_length, segments, LENGTH(segments), lanes, LENGTH(lanes), zones, LENGTH(zones), spots, LENGTH(spots), points, LENGTH(points),
-                                checkpoints, LENGTH(checkpoints), stops, LENGTH(stops), exits, LENGTH(exits), goals, LENGTH(goals), limits, LENGTH(limits));
+        a = kastepuhm_read_pair_into(edition, rndf, rndf_length, mdf, mdf_length, &tables, &mission_tables);
     if (!a.accepted) {
         printf("refused %" PRIu32 " %" PRIu32 " %" PRIu32 " %" PRIu32 "\n", a.file, a.line, a.number, a.column);
         return 0;
@@ -389,16 +490,14 @@ int main(int count, char **words)
     print_network(&a, rndf);
     if (count == 3)
         print_mission(&a);
-    w = kastepuhm_write_rndf(edition, rndf, rndf_length, segments, LENGTH(segments), lanes, LENGTH(lanes), zones, LENGTH(zones), spots, LENGTH(spots), points, LENGTH(points),
-                             checkpoints, LENGTH(checkpoints), stops, LENGTH(stops), exits, LENGTH(exits), house, LENGTH(house));
+    w = kastepuhm_write_rndf_into(edition, rndf, rndf_length, &tables, house, LENGTH(house));
     print_house("network", &w);
     if (count == 3) {
         w = kastepuhm_write_mdf(edition, rndf, rndf_length, mdf, mdf_length, segments, LENGTH(segments), lanes, LENGTH(lanes), zones, LENGTH(zones), spots, LENGTH(spots), points, LENGTH(points),
                                 checkpoints, LENGTH(checkpoints), stops, LENGTH(stops), exits, LENGTH(exits), goals, LENGTH(goals), limits, LENGTH(limits), house, LENGTH(house));
         print_house("mission", &w);
     }
-    w = kastepuhm_write_map(edition, rndf, rndf_length, segments, LENGTH(segments), lanes, LENGTH(lanes), zones, LENGTH(zones), spots, LENGTH(spots), points, LENGTH(points),
-                            checkpoints, LENGTH(checkpoints), stops, LENGTH(stops), exits, LENGTH(exits), map, LENGTH(map));
+    w = kastepuhm_write_map_into(edition, rndf, rndf_length, &tables, map, LENGTH(map));
     print_map(&w);
     return 0;
 }
