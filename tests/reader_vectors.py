@@ -4,7 +4,7 @@
 The answers are the oracle's (tests/oracle), written from document 01 and the readings alone; it shares nothing with
 the product. Cases that carry an answer worked out by hand are held to it. Everything is from a fixed seed.
 Run it again after a change of the corpus:  python3 tests/reader_vectors.py
-With --check it writes nothing, and says which cases differ from their answer by hand.
+With --check it writes nothing, and says which cases differ from their answer by hand and which files of the crate are not what it would write.
 With --mutants it writes nothing either, and puts each small mistake of tests/oracle/mutate.py into the oracle to see whether
 some case notices.
 
@@ -597,6 +597,20 @@ def mutants():
     return 1 if survive else 0
 
 
+def differ(crate, written):
+    """The files of a crate that are not what would be written; they are said. tests/writer_vectors.py takes this too."""
+    found = []
+    for name, whole in written.items():
+        path = os.path.join(crate, name)
+        with open(path, "rb") as there:
+            if there.read() != whole:
+                found.append(path)
+    found += [path for path in (os.path.join(crate, "data", name) for name in os.listdir(os.path.join(crate, "data"))) if os.path.relpath(path, crate) not in written]
+    for path in found:
+        print("NOT AS THE ORACLE HAS IT:", os.path.relpath(path))
+    return found
+
+
 def main():
     for part in (rooms, entries, checkpoints, values, lines, edges, two_faults, missions, columns, spot_checkpoints, editions, dates):
         part()
@@ -617,15 +631,15 @@ def main():
     for line in collect.wrong + cases.wrong:
         print("WRONG:", line)
     assert len(files) == FILES, "the program opens %d files" % FILES
-    if sys.argv[1:] == ["--check"]:
-        return 1 if collect.wrong + cases.wrong else 0
     crate = os.path.join(here, "..", "crates", "reader_vectors")
+    written = {os.path.join("data", "cases_%d" % i): whole for i, whole in enumerate(files, 1)}
+    written["stdout"] = b"".join(case.said() for case in collect.taken)
+    if sys.argv[1:] == ["--check"]:
+        return 1 if differ(crate, written) + collect.wrong + cases.wrong else 0
     os.makedirs(os.path.join(crate, "data"), exist_ok=True)
-    for i, whole in enumerate(files, 1):
-        with open(os.path.join(crate, "data", "cases_%d" % i), "wb") as out:
+    for name, whole in written.items():
+        with open(os.path.join(crate, name), "wb") as out:
             out.write(whole)
-    with open(os.path.join(crate, "stdout"), "wb") as out:
-        out.write(b"".join(case.said() for case in collect.taken))
     return 1 if collect.wrong + cases.wrong else 0
 
 

@@ -4,7 +4,7 @@
 The answers are the oracle's (tests/oracle), written from document 01 and the readings alone; it writes from the tables that
 it read, and shares nothing with the product. Everything is from a fixed seed.
 Run it again after a change of the corpus:  python3 tests/writer_vectors.py
-With --check it writes nothing.  With --mutants it writes nothing either, and puts each of the small mistakes below into the oracle's writer to see whether some
+With --check it writes nothing, and says which files of the crate are not what it would write.  With --mutants it writes nothing either, and puts each of the small mistakes below into the oracle's writer to see whether some
 case notices.
 
 A case is a line of fixed length, its label and an LF, the RNDF, the MDF and an LF. That line is `1` (the RNDF is written),
@@ -23,7 +23,7 @@ here = os.path.dirname(os.path.abspath(__file__))
 sys.path.insert(0, os.path.join(here, "oracle"))
 import generate   # noqa: E402
 import oracle     # noqa: E402
-from reader_vectors import MISSION_D, YARD_D  # noqa: E402
+from reader_vectors import MISSION_D, YARD_D, differ  # noqa: E402
 from yards import MISSION_B, ROUND_1, YARD_A, YARD_B, YARD_C, cut, ins, put, text  # noqa: E402
 
 FILES = 2
@@ -313,15 +313,15 @@ def main():
     for key in sorted(tally, key=str):
         print(*key, tally[key])
     assert len(files) == FILES, "the program opens %d files" % FILES
-    if sys.argv[1:] == ["--check"]:
-        return 0
     crate = os.path.join(here, "..", "crates", "writer_vectors")
+    written = {os.path.join("data", "cases_%d" % i): whole for i, whole in enumerate(files, 1)}
+    written["stdout"] = b"".join(case.said() for case in taken)
+    if sys.argv[1:] == ["--check"]:
+        return 1 if differ(crate, written) else 0
     os.makedirs(os.path.join(crate, "data"), exist_ok=True)
-    for i, whole in enumerate(files, 1):
-        with open(os.path.join(crate, "data", "cases_%d" % i), "wb") as out:
+    for name, whole in written.items():
+        with open(os.path.join(crate, name), "wb") as out:
             out.write(whole)
-    with open(os.path.join(crate, "stdout"), "wb") as out:
-        out.write(b"".join(case.said() for case in taken))
     return 0
 
 
