@@ -317,7 +317,9 @@ def main():
     written = {os.path.join("data", "cases_%d" % i): whole for i, whole in enumerate(files, 1)}
     written["stdout"] = b"".join(case.said() for case in taken)
     if sys.argv[1:] == ["--check"]:
-        return 1 if differ(crate, written) else 0
+        found = differ(crate, written)
+        print("%d cases, %d files of the crate are not as the oracle has them" % (len(taken), len(found)))
+        return 1 if found else 0
     os.makedirs(os.path.join(crate, "data"), exist_ok=True)
     for name, whole in written.items():
         with open(os.path.join(crate, name), "wb") as out:
