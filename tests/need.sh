@@ -40,8 +40,8 @@ need() {
         shift 2
     done
     [ -n "$packages" ] || return 0
-    [ "$install" = yes ] || missing "$lacking is missing; --install would run: apt-get install $packages"
-    [ "$(id -u)" = 0 ] && command -v apt-get >/dev/null 2>&1 || missing "$lacking is missing, and only root with apt-get can install $packages"
+    [ "$install" = yes ] || missing "missing: $lacking; --install would run: apt-get install $packages"
+    [ "$(id -u)" = 0 ] && command -v apt-get >/dev/null 2>&1 || missing "missing: $lacking; only root with apt-get can install $packages"
     echo "installing $packages, for $lacking" >&2
     # shellcheck disable=SC2086
     { apt-get update -qq && apt-get install -y -qq --no-install-recommends $packages; } >&2 || missing "apt-get could not install $packages"
@@ -86,7 +86,7 @@ find_cxx() {
 # find_library: sets `library`, the proved library for the target. tools/library.sh makes it, where anything changed since it was made; with --built it is taken as it is.
 find_library() {
     library=$root/target/lib/$target/libyard.a
-    [ "$built" = yes ] || "$root/tools/library.sh" "$target" >&2 || missing "tools/library.sh $target failed"
+    [ "$built" = yes ] || "$root/tools/library.sh" "$target" >&2 || exit 2   # it has said why
     [ -f "$library" ] || missing "$library is not built (tools/library.sh $target)"
 }
 

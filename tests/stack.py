@@ -44,11 +44,11 @@ def tool(name, target, package, install):
     found = shutil.which(begin + name) or shutil.which(command)
     if not found and install:
         if os.geteuid() or not shutil.which("apt-get"):
-            raise Missing("%s is missing, and only root with apt-get can install %s" % (command, package))
+            raise Missing("missing: %s; only root with apt-get can install %s" % (command, package))
         subprocess.run(["apt-get", "install", "-y", "-qq", "--no-install-recommends", package], stdout=sys.stderr)
         found = shutil.which(command)
     if not found:
-        raise Missing("%s is missing; --install would run: apt-get install %s" % (command, package))
+        raise Missing("missing: %s; --install would run: apt-get install %s" % (command, package))
     return found
 
 
