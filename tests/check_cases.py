@@ -7,7 +7,7 @@
     python3 tests/check_cases.py --sentences PROGRAM   runs a caller of the library instead, on the cases that have texts: it is given [--2006] and the names, and prints the refusal in
                                            words, or `accepted` (tests/callers.sh)
 
-Every answer is worked out by hand: file, line, number and column; the words are those of README.md's table. The oracle (tests/oracle) is held to the same
+Every answer is worked out by hand: file, line, number and column; the words are those of docs/REFUSALS.md's table. The oracle (tests/oracle) is held to the same
 four. Works on x86-64 and on Arm, by way of `run-check`. The last line says how many of the cases passed; the status is 0 if all did.
 
 What is printed of a refusal (request L7), as compilers print it:

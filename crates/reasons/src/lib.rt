@@ -9,7 +9,7 @@ ghost use Rattle.reasons.specs.Reasons.{reason, reason-of};
 ghost use Rattle.reasons.specs.Parts.{reason-from};
 
 // THE TABLE of reasons, in seven parts, each of which hands on the numbers that it does not have: to check a `match` whose arms each call something takes as long as the square of
-// the arms. README.md's table of refusal numbers has the same words (tests/reasons.py).
+// the arms. docs/REFUSALS.md has the same words (tests/reasons.py).
 
 // 1 to 4: the text's bytes. The others: see below.
 pub fn put_reason(out: &mut [u8], at: usize, number: u8) -> usize
