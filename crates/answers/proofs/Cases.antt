@@ -27,7 +27,7 @@ unfolding place
 no-place n e = rw (eq-eqb n 0 e)
 
 pub some-place : (n : ℕ) → (n ≡ 0 → ⊥) → ascii ":" ++ houseInteger n ≡ place n
-unfolding place
+unfolding place houseInteger
 some-place n d = rw (ne-eqb n 0 d)
 
 -- ## 4, and every other number

@@ -14,15 +14,15 @@ use Rattle.reasons.specs.Reasons.{reason, reasons, reason-of}
 use Rattle.answers.specs.Answers.{place, detail, why-of, sentence, unplaced, counted, next, rndf-answer, goal-number, way-from, no-way, no-start}
 
 a-line : sentence (ascii "n.rndf") (ascii "a\n\tb  c\r\n") 2 12 5 ≡ ascii "n.rndf:2:5: the entry is no declared lane waypoint or perimeter point (12)\n\tb  c\n\t   ^\n"
-unfolding ascii sentence why-of detail place reason reasons houseInteger decimal spell line-in linesOf dropCr picture shown shown-byte blanks blank
+unfolding ascii sentence why-of detail place reason reasons decimal spell line-in linesOf dropCr picture shown shown-byte blanks blank
 a-line = refl
 
 a-byte : sentence (ascii "n.rndf") (ascii "a\\b") 1 4 2 ≡ ascii "n.rndf:1:2: a byte that is not allowed: a backslash (4)\na\\b\n ^\n"
-unfolding ascii sentence why-of detail place reason reasons houseInteger decimal spell line-in linesOf dropCr picture shown shown-byte blanks blank byte-words byte-alone byte-from-42 sameBytes
+unfolding ascii sentence why-of detail place reason reasons decimal spell line-in linesOf dropCr picture shown shown-byte blanks blank byte-words byte-alone byte-from-42 sameBytes
 a-byte = refl
 
 no-line : sentence (ascii "network.rndf") [] 0 1 0 ≡ ascii "network.rndf: the text is over 16,777,215 bytes (1)\n"
-unfolding ascii sentence why-of detail place reason reasons houseInteger decimal spell picture
+unfolding ascii sentence why-of detail place reason reasons decimal spell picture
 no-line = refl
 
 one-lane : counted 1 (ascii "lane") ≡ ascii "1 lane"
@@ -51,5 +51,5 @@ later-goal = refl
 
 -- of packed bytes: no line is named, and no text is shown
 no-network : rndf-answer (ascii "yard.packed") [] [] (Rndf.Refused (refusal 0 0 29 0)) ≡ ascii "yard.packed: the records are not the packed form of a network (29)\n"
-unfolding ascii rndf-answer sentence why-of detail place reason reasons houseInteger decimal spell picture
+unfolding ascii rndf-answer sentence why-of detail place reason reasons decimal spell picture
 no-network = refl

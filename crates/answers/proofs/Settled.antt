@@ -1,15 +1,25 @@
 -- THE THEOREM of document 01's "Prove that no second reply or memory would satisfy it", for the sentences: the contract of each public function settles every byte of the lent output and the place that is returned,
 -- for every output, place, name and reply; and some output and place satisfy it. Assumes nothing.
-use mathlib.Core.Path.{_≡_, refl, ap}
-use mathlib.Core.List.{List}
-use Prim.Native.Nat.{ℕ}
-use Rattle.terms.specs.Ascii.{Bytes}
-use Rattle.output.specs.Pen.{Pen, pen, put, Wrote}
+use mathlib.Core.Path.{_≡_, refl, sym, ap, _∙_}
+use mathlib.Core.List.{List, _++_}
+use Prim.Native.Nat.{ℕ, _<_}
+use native.Mathlib.Omega.{arith}
+use lib.ListN.{length, length-append}
+use Rattle.terms.specs.Ascii.{Bytes, ascii}
+use Rattle.output.specs.Output.{Fits}
+use Rattle.output.specs.Ended.{Output}
+use Rattle.output.specs.Pen.{Pen, pen, put, Wrote, outputOf, answerOf}
+use Rattle.output.specs.declared.Finished as DF
+use Rattle.output.specs.declared.Finished.the-variants.{Written, TooLong}
 use Rattle.output.proofs.Writing.{wrote-one}
+use Rattle.output.proofs.Whole.{output-is}
 use Rattle.replies.specs.declared.RndfReply.{RndfReply}
 use Rattle.replies.specs.declared.PairReply.{PairReply}
+use Rattle.shown.specs.Shown.{line-in}
 use Rattle.reasons.specs.Reasons.{reason, reason-of}
+use Rattle.answers.specs.Sentences.{place, why-of, WholeOrNone, whole, too-long}
 use Rattle.answers.specs.Answers.{sentence, rndf-answer, pair-answer, no-start, mission-answer}
+use Rattle.answers.proofs.Wholes.{told-whole, told-none}
 
 -- these bytes were put into the output `before` from this place on, which left `after` and the next place. The shape of all these contracts
 abbrev pub Puts : Bytes → (before : Bytes) (at : ℕ) (after : Bytes) (then : ℕ) → Type 0
@@ -62,3 +72,32 @@ no-start-settled rndf start = settled (no-start rndf start)
 -- `put_mission_answer`
 pub mission-answer-settled : (rndf mdf rndf-text mdf-text start : Bytes) (goals : List ℕ) (reply : PairReply) → SettledBy (mission-answer rndf mdf rndf-text mdf-text start goals reply)
 mission-answer-settled rndf mdf rndf-text mdf-text start goals reply = settled (mission-answer rndf mdf rndf-text mdf-text start goals reply)
+
+-- ## `write_sentence`, and the library's `kastepuhm_sentence`
+module _ (said : Bytes) (lent : ℕ) where
+  -- no second number, and no second output
+  pub whole-or-none-one : {told told′ : ℕ} {out out′ : Bytes} → WholeOrNone said lent told out → WholeOrNone said lent told′ out′ → (told ≡ told′) × (out ≡ out′)
+  whole-or-none-one (whole f t o) (whole f′ t′ o′) = (t ∙ sym t′, o ∙ sym o′)
+  whole-or-none-one (whole f t o) (too-long never t′ o′) = absurd (never f)
+  whole-or-none-one (too-long never t o) (whole f′ t′ o′) = absurd (never f′)
+  whole-or-none-one (too-long never t o) (too-long never′ t′ o′) = (t ∙ sym t′, o ∙ sym o′)
+
+  ended : (out : Bytes) (answer : DF.Finished) → Output lent said out answer → (told : ℕ) × (out : Bytes) × WholeOrNone said lent told out
+  ended out (Written n) o = (n, out, told-whole o)
+  ended out TooLong o = (0, out, told-none o)
+
+  -- one there is
+  pub whole-or-none-some : (told : ℕ) × (out : Bytes) × WholeOrNone said lent told out
+  whole-or-none-some = ended (outputOf lent said) (answerOf lent said) (output-is lent said)
+
+-- no sentence is empty: 0 is told of none that fits
+module _ (name text : Bytes) (line number column : ℕ) where
+  some-byte : 0 < length (sentence name text line number column)
+  unfolding sentence ascii
+  some-byte =
+      let front = name ++ place line ++ place column in
+      omega (arith, length-append (front ++ ascii ": ") (why-of (line-in text line) number column), length-append front (ascii ": "))
+
+  pub none-never-fits : (lent : ℕ) (out : Bytes) → WholeOrNone (sentence name text line number column) lent 0 out → Fits lent (sentence name text line number column) → ⊥
+  none-never-fits lent out (whole f t o) g = omega (arith, t, some-byte)
+  none-never-fits lent out (too-long never t o) g = never g

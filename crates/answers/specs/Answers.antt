@@ -1,8 +1,8 @@
--- WHAT A READER MUST BELIEVE. What a planner is told of a reply: one sentence, with the names of the files, and of a refusal the line. Assumes nothing.
+-- WHAT A READER MUST BELIEVE. What a planner is told of a reply: one sentence, with the names of the files; of a refusal that of Sentences. Assumes nothing.
 use mathlib.Core.List.{List, [], _++_}
 use Prim.Native.Nat.{ℕ, suc, _-_}
 use lib.Dec.{eqb, ltb}
-use lib.ListN.{length, drop}
+use lib.ListN.{length}
 use Rattle.terms.specs.Ascii.{Bytes, ascii}
 use Rattle.terms.specs.Words.{pick}
 use Rattle.scan.specs.Allowed.{separates}
@@ -19,26 +19,11 @@ use Rattle.replies.specs.declared.RndfReply.{RndfReply}
 use Rattle.replies.specs.declared.RndfReply.the-variants as Rndf
 use Rattle.replies.specs.declared.PairReply.{PairReply}
 use Rattle.replies.specs.declared.PairReply.the-variants as Pair
-use Rattle.shown.specs.Shown.{picture, line-in, byte-words}
-use Rattle.reasons.specs.Reasons.{reason, reason-of}
+use Rattle.shown.specs.Shown.{picture, line-in}
+use Rattle.reasons.specs.Reasons.{reason-of}
+unfoldable pub use Rattle.answers.specs.Sentences.{place, detail, why-of, sentence}
 
 -- ## A refusal
--- 01: 1, 11 and 19 have the line 0, and L7: they and 10 the column 0: what is 0 is not named
-unfoldable pub place : ℕ → Bytes
-place n = pick (eqb n 0) [] (ascii ":" ++ houseInteger n)
-
--- "for 4 the byte in words": `: a backslash`
-unfoldable pub detail : (line : Bytes) (number column : ℕ) → Bytes
-detail line number column = pick (eqb number 4) (ascii ": " ++ byte-words (drop (column - 1) line)) []
-
--- the reason and its number, and below them the line with a caret under the column
-unfoldable pub why-of : (line : Bytes) (number column : ℕ) → Bytes
-why-of line number column = reason number ++ detail line number column ++ ascii " (" ++ houseInteger number ++ ascii ")\n" ++ picture line column
-
--- as compilers print it: `network.rndf:9:12: the entry is no declared lane waypoint or perimeter point (12)`, and the line of the file's text
-unfoldable pub sentence : (name text : Bytes) (line number column : ℕ) → Bytes
-sentence name text line number column = name ++ place line ++ place column ++ ascii ": " ++ why-of (line-in text line) number column
-
 -- a refusal of file 0 is about no line of a text: the reason alone
 unfoldable pub unplaced : (name : Bytes) (number : ℕ) → Bytes
 unplaced name number = name ++ ascii ": " ++ reason-of 0 number ++ ascii " (" ++ houseInteger number ++ ascii ")\n"

@@ -1,2 +1,3 @@
 -- The sentences that planners get.
+pub mod Sentences
 pub mod Answers

@@ -1,9 +1,12 @@
 // The readers' replies in plain words, one sentence each: `network.rndf:9:12: the entry is no declared lane waypoint or perimeter point (12)` with the
-// line and a caret below it, or the rows used. What is put are the definitions of specs/Answers, for every name, text and reply; nothing is required.
+// line and a caret below it, or the rows used. What is put are the definitions of specs/Sentences and Answers, for every name, text and reply; nothing is required.
 // Rests on `output` (each put ensures `Wrote`), `reasons` (the words of each number), `shown` and `replies`.
 use counts::Counts;
 use counts::MissionCounts;
 use find_line::mdf_line;
+use output::Finished;
+use output::clear_output;
+use output::finish;
 use output::put_byte;
 use output::put_bytes;
 use output::put_integer;
@@ -21,9 +24,11 @@ use shown::put_picture;
 use statement::orders;
 ghost use mathlib.Core.Path.{_≡_};
 ghost use mathlib.Core.List.{_++_};
+ghost use lib.ListN.{length};
 ghost use Rattle.terms.specs.Ascii.{ascii};
 ghost use Rattle.output.specs.Pen.{pen, Wrote};
-ghost use Rattle.answers.specs.Answers.{place, detail, why-of, sentence, unplaced, refused, counted, next, network-counts, mission-counts, rndf-accepted, rndf-answer, pair-answer, goal-number, way-from, no-way, goal-line, goal-column, stuck-at, stuck, no-start, not-driven, mission-answer};
+ghost use Rattle.answers.specs.Sentences.{place, detail, why-of, sentence, WholeOrNone};
+ghost use Rattle.answers.specs.Answers.{unplaced, refused, counted, next, network-counts, mission-counts, rndf-accepted, rndf-answer, pair-answer, goal-number, way-from, no-way, goal-line, goal-column, stuck-at, stuck, no-start, not-driven, mission-answer};
 
 // ## Refusals
 
@@ -78,6 +83,26 @@ pub fn put_sentence(
     let c = put_place(out, b, column);
     let d = put_bytes(out, c, b": ");
     put_why(out, d, line_of(text, line), number, column)
+}
+
+// The same alone in an output, for callers of the library: its length; where it does not fit, 0, and the output is zero over its whole length.
+pub fn write_sentence(
+    name: &[u8],
+    text: &[u8],
+    line: u32,
+    number: u8,
+    column: u32,
+    out: &mut [u8],
+) -> u32
+    ensures { λ r. ⌜ WholeOrNone (sentence (now (name .entry)) (now (text .entry)) line number column) (length (now (out .entry))) r (now (out .exit)) ⌝ }
+{
+    clear_output(out);
+    let at = put_sentence(out, 0, name, text, line, number, column);
+    let finished = finish(out, at);
+    match finished {
+        Finished::Written(n) => n as u32,
+        Finished::TooLong => 0,
+    }
 }
 
 // The sentence of a refusal that is about no line of a text.

@@ -1,10 +1,6 @@
 -- WHAT A READER MUST BELIEVE. The words of each refusal number: those of README.md's table. Assumes nothing.
-use mathlib.Core.List.{List, [], _∷_}
-use Prim.Native.Nat.{ℕ}
-use lib.Dec.{eqb}
 use lib.ListN.{getD}
-use Rattle.terms.specs.Ascii.{Bytes, ascii}
-use Rattle.terms.specs.Words.{pick}
+use Rattle.terms.specs.Words.{List, [], _∷_, ℕ, eqb, Bytes, ascii, pick}
 
 -- no reply has such a number
 abbrev pub no-reason : Bytes

@@ -1,15 +1,10 @@
 -- WHAT A READER MUST BELIEVE. A line of a text as planners see it, with a caret under one byte; a byte that is not allowed in words; a text's first word. Assumes nothing.
-use mathlib.Core.List.{List, [], _∷_, _++_}
-use mathlib.Core.Bool.{Bool, _||_}
-use Prim.Native.Nat.{ℕ, _+_, _-_, _/_, _%_}
-use lib.Dec.{eqb, ltb}
-use lib.ListN.{length, getD, take}
-use Rattle.terms.specs.Ascii.{Bytes, ascii}
-use Rattle.terms.specs.Words.{pick}
+use lib.ListN.{getD}
+use Rattle.terms.specs.Words.{List, [], _∷_, _++_, Bool, _||_, ℕ, _+_, _-_, _/_, _%_, length, take, eqb, ltb, Bytes, ascii, pick}
 use Rattle.scan.specs.Allowed.{inside}
-use Rattle.scan.specs.Reach.{sameBytes}
-use Rattle.line.specs.Lines.{linesOf, dropCr}
-use Rattle.line.specs.Forms.{outerOf, spanAt, part}
+use Rattle.scan.specs.Begins.{sameBytes}
+use Rattle.line.specs.Line.{Field}
+use Rattle.line.specs.Cutting.{linesOf, dropCr, outerOf, fieldsAt}
 
 -- ## A line
 -- the last digit of a number in base 16, in small letters
@@ -56,9 +51,13 @@ unfoldable pub byte-words : Bytes → Bytes
 byte-words s = pick (order-mark s) (ascii "a byte order mark") (pick (ltb 0 (length s)) (byte-alone (getD s 0 0)) [])
 
 -- ## The first word of a text
+abbrev pub first-bytes : List Field → Bytes
+first-bytes [] = []
+first-bytes (f ∷ fields) = f .bytes
+
 -- of a line: its first field, which stands before any comment
 unfoldable pub word-in : Bytes → Bytes
-word-in line = let s = outerOf (dropCr line) in part s (spanAt s 0)
+word-in line = first-bytes (fieldsAt 0 (outerOf (dropCr line)))
 
 -- of the first of these lines that has one
 unfoldable pub first-word : List Bytes → Bytes

@@ -2,16 +2,17 @@
 // `edition` is the number of `edition`/specs/Editions: 1 reads by the edition of December 6, 2006, any other number by the present one.
 // Every function here takes plain slices (C hands over a pointer, then how many elements) and numbers, requires nothing of them, keeps nothing and allocates nothing.
 //
-// The answers and the contracts are `answer_fields`, with their laws; what a reader must believe beside them: replies/specs/Replies, writings/specs/Writes, unpackings/specs/Unpacks, mend_law/specs/Mends, pair_checks/specs/Checks, reach_checks/specs/Checks, look_up/specs/LookUp, Listed.
+// The answers and the contracts are `answer_fields`, with their laws; what a reader must believe beside them: replies/specs/Replies, writings/specs/Writes, unpackings/specs/Unpacks, mend_law/specs/Mends, pair_checks/specs/Checks, reach_checks/specs/Checks, look_up/specs/LookUp, Listed, answers/specs/Sentences, shown/specs/Shown.
 //
 // Left out: asking for a name (`rows::name_of`), since a part of a slice cannot be returned to C. There a name is `text + start`, of a packed network `bytes + start`, for `length` bytes.
 //
-// Rests on `answer_fields`, `edition`, `reader`, `writer`, `map_writer`, `packer`, `unpacker`, `mend`, `route`, `reach`, `look_up` and what they rest on.
+// Rests on `answer_fields`, `edition`, `reader`, `writer`, `map_writer`, `packer`, `unpacker`, `mend`, `route`, `reach`, `look_up`, `answers`, `shown` and what they rest on.
 use answer_fields::Answer;
 use answer_fields::ListAnswer;
 use answer_fields::MendAnswer;
 use answer_fields::Name;
 use answer_fields::WriteAnswer;
+use answers::write_sentence;
 use counts::Counts;
 use counts::MissionCounts;
 use edition::edition_of;
@@ -32,6 +33,7 @@ use route::check_route;
 use rows::FileRow;
 use rows::MissionFileRow;
 use rows::Stretch;
+use shown::is_mission_first;
 use unpacker::read_packed;
 use writer::write_mdf;
 use writer::write_rndf;
@@ -44,6 +46,8 @@ ghost use Rattle.edition.specs.Editions.{edition-numbered};
 ghost use Rattle.look_up.specs.LookUp.{PointOf};
 ghost use Rattle.house_text.specs.House.{HouseRndf};
 ghost use Rattle.writings.specs.Writes.{MapOf, PackedOf};
+ghost use Rattle.shown.specs.Shown.{mission-first};
+ghost use Rattle.answers.specs.Sentences.{sentence, WholeOrNone};
 ghost use Rattle.answer_fields.specs.Answers.{named, laid-out, taken, refused, rndf-answer, pair-answer, write-answer, write-mdf-answer, list-answer, mend-answer, AnswersRndf, AnswersPair, AnswersRoute, AnswersMission, AnswersWrite, AnswersWriteMdf, AnswersUnpack, AnswersMend, AnswersList};
 
 fn named(s: Stretch) -> Name
@@ -595,4 +599,28 @@ pub extern "C" fn kastepuhm_points_of(
 {
     let reply = points_of(checkpoints, numbers, points);
     list_answer(reply)
+}
+
+// What planners are told of a refusal: `network.rndf:9:12: the entry is no declared lane waypoint or perimeter point (12)`, and below it the line with a caret. How many bytes it has; where the output
+// is shorter, 0, and the output is zero.
+#[no_mangle]
+pub extern "C" fn kastepuhm_sentence(
+    name: &[u8],
+    text: &[u8],
+    line: u32,
+    number: u8,
+    column: u32,
+    out: &mut [u8],
+) -> u32
+    ensures { λ r. ⌜ WholeOrNone (sentence (now (name .entry)) (now (text .entry)) line number column) (length (now (out .entry))) r (now (out .exit)) ⌝ }
+{
+    write_sentence(name, text, line, number, column, out)
+}
+
+// Does the text begin as an MDF does?
+#[no_mangle]
+pub extern "C" fn kastepuhm_is_mission(text: &[u8]) -> bool
+    ensures { λ r. ⌜ r ≡ mission-first (now (text .entry)) ⌝ }
+{
+    is_mission_first(text)
 }

@@ -1,6 +1,7 @@
 -- `answers::put_why` meets its contract: a run of puts. Assumes nothing.
 use mathlib.Core.Path.{refl, _∙_}
 use Rattle.terms.specs.Ascii.{ascii}
+use Rattle.number.specs.House.{houseInteger}
 use Rattle.output.proofs.Writing.{_then_}
 use Rattle.answers.specs.Answers.{why-of}
 use Rattle.answers.proofs.put_why.Statement.{statement}
@@ -47,7 +48,7 @@ same-length c =
     f .put-picture .kept .0 ∙ e .put-bytes2 .kept .0 ∙ d .put-integer .kept .0 ∙ b .put-bytes .kept .0 ∙ a .put-detail .kept .0 ∙ a .before .before .before .before .put-reason .kept .0
 
 returns : tie.Need-returns
-unfolding ascii why-of
+unfolding ascii why-of houseInteger
 returns c =
     let f = c .before .before in
     let e = f .before .before .before .before in
