@@ -535,11 +535,11 @@ kastepuhm_list_answer kastepuhm_points_of(
  * is 0 is not named, and without a column no line is shown. Tabs are shown as they stand, other bytes outside 32 to 126 as \xNN, of a line over 512 bytes the first 513. Of a refusal with file 0, and of
  * kastepuhm_mend and kastepuhm_read_packed, hand over 0 for line and column: what the answer has for a line there is no line of a text. (11 of the work space is told as that of a table.)
  *
- * It returns how many bytes the sentence has. Where that is more than out_length, the output has only the first out_length of them; where it is 16,777,216, there are more than 16,777,215. Bytes behind
- * the sentence stay as they were: no 0 byte is put. For a refusal that this library gave, name_length + KASTEPUHM_SENTENCE_BYTES are enough (counted by hand, not proved).
+ * It returns how many bytes the sentence has, and every byte of the output behind them is 0; or 0 where it does not fit (or has over 16,777,215 bytes), and then every byte of the output is 0. For a refusal
+ * that this library gave, name_length + KASTEPUHM_SENTENCE_BYTES are enough (counted by hand, not proved).
  */
 #define KASTEPUHM_SENTENCE_BYTES 4608
-size_t kastepuhm_sentence(
+uint32_t kastepuhm_sentence(
     const uint8_t *name, size_t name_length,
     const uint8_t *text, size_t text_length,
     uint32_t line,

@@ -169,7 +169,7 @@ const Yard = (() => {
             this.bytes(nameAt, nameBytes.length).set(nameBytes);
             this.bytes(textAt, text.length).set(text);
             const length = this.wasm.kastepuhm_sentence(nameAt, BigInt(nameBytes.length), textAt, BigInt(text.length), line, number, column, outputAt, BigInt(most));
-            return new TextDecoder().decode(this.bytes(outputAt, Math.min(Number(length), most)).slice());
+            return new TextDecoder().decode(this.bytes(outputAt, length).slice());
         }
     };
 })();

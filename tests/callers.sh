@@ -6,7 +6,7 @@
 #
 # Compared: yard A as a pair and alone, yard A written untidily and with spaces for tabs (its house writing is the same), yard B (every table; its answer was worked out by hand), two damaged texts and a
 # missing file; these in the edition of December 6, 2006 too, with a boundary and a zone that it has not (request L10); routes over yard A (request L5), and whether its mission can be driven at all (request L13);
-# yards A and B packed and unpacked, with too few rows and with damaged bytes (request L11); yard A with each kind of trouble, mended (request L9); refusals in words, also cut short, those of
+# yards A and B packed and unpacked, with too few rows and with damaged bytes (request L11); yard A with each kind of trouble, mended (request L9); refusals in words, also into too few bytes, those of
 # tests/check_cases.py; whether texts begin as an MDF does; then document 01's cases and the edges of the summary program's rules (tests/summary_cases.py), and every reply and every lent number of the
 # oracle's corpus and of 2,000 random pairs (tests/callers/corpus.c). The caller in C++ prints no more than the first line of what the others print, but for refusals in words.
 # On the machine itself the crate's own tests are run too (cargo test).
@@ -263,7 +263,7 @@ mended 'solid_yellow, mended' '' "$work/yellow.rndf" "$work/yellow.rndf"
 echo 'refused 0 0 26 0' >"$work/answer"
 compare 'solid_yellow, mended, 2006' "$work/answer" --2006 "$work/yellow.rndf" mend
 
-# what planners are told of a refusal: whole, cut short by a byte and to none; the longest, of a line of bytes that take four signs each; in the MDF; nothing to tell. Names are as they are given.
+# what planners are told of a refusal: whole, into a byte too few and into none; the longest, of a line of bytes that take four signs each; in the MDF; nothing to tell. Names are as they are given.
 cd "$work"
 cp "$root/crates/yard_check/data/network.rndf" told.rndf
 sed 's/^network\.rndf:/told.rndf:/' "$root/crates/yard_check/stdout" >told
@@ -271,8 +271,8 @@ bytes=$(wc -c <told)
 compare 'yard A with an entry 1.1.3, told' told told.rndf tell
 compare 'the same with its mission' told told.rndf "$a/mission.mdf" tell
 for cut in 0 1 "$((bytes - 1))" "$bytes" "$((bytes + 1))"; do
-    { echo "$bytes" && head -c "$cut" told; } >answer
-    compare "the first $cut bytes of it" answer told.rndf tell "$cut"
+    if [ "$cut" -lt "$bytes" ]; then echo 0; else echo "$bytes" && cat told; fi >answer
+    compare "told into $cut bytes" answer told.rndf tell "$cut"
 done
 { head -c 600 /dev/zero | tr '\000' '\377' && echo; } >long.rndf
 {

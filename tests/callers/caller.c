@@ -370,7 +370,7 @@ static uint8_t *load_whole(const char *path, size_t *length)
     return text;
 }
 
-/* The words are the names of one or two files; bytes is how many bytes of the sentence are asked for, -1 for all. Nothing here is as large as the texts may be: what they need is lent. */
+/* The words are the names of one or two files; bytes is how many are lent for the sentence, -1 for enough. Nothing here is as large as the texts may be: what they need is lent. */
 static void print_told(char **words, int count, long bytes)
 {
     size_t length[2] = {0, 0}, mission_rows = 0, rows, room, told;
@@ -417,9 +417,14 @@ static void print_told(char **words, int count, long bytes)
     told = kastepuhm_sentence((const uint8_t *)words[i], strlen(words[i]), text[i], length[i], a.line, (uint8_t)a.number, a.column, sentence, room);
     if (bytes >= 0)
         printf("%lu\n", (unsigned long)told);
-    fwrite(sentence, 1, told < room ? told : room, stdout);
-    if (sentence[told < room ? told : room] != 0xAA)
-        printf("and the byte behind it was written\n");
+    fwrite(sentence, 1, told, stdout);
+    if (sentence[room] != 0xAA)
+        printf("and the byte behind the output was written\n");
+    for (; told < room; told++)
+        if (sentence[told] != 0) {
+            printf("and the output is not zero behind it\n");
+            break;
+        }
     free(sentence);
     free(text[0]);
     free(text[1]);

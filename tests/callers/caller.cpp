@@ -105,7 +105,7 @@ void tell(const std::vector<std::string> &names, std::optional<std::size_t> byte
                                                 a.line, static_cast<std::uint8_t>(a.number), a.column, out.data(), out.size() - 1);
     if (bytes)
         std::printf("%zu\n", told);
-    std::fwrite(out.data(), 1, std::min(told, out.size() - 1), stdout);
+    std::fwrite(out.data(), 1, told, stdout);
 }
 
 void pack(const Bytes &text)

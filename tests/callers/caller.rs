@@ -265,7 +265,7 @@ fn run(edition: Edition, network: &str, mission: Option<&str>) -> Result<(), &'s
     Ok(())
 }
 
-/// One or two files of any length; `bytes` is how many bytes of the sentence are asked for.
+/// One or two files of any length; `bytes` is how many are lent for the sentence.
 fn run_tell(edition: Edition, files: &[String], bytes: Option<usize>) -> Result<(), &'static str> {
     let texts = files.iter().map(|file| load_whole(file)).collect::<Result<Vec<_>, _>>()?;
     let rows = kastepuhm::rows_for(&texts[0]);

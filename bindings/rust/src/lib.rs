@@ -660,7 +660,7 @@ extern "C" {
         number: u8,
         column: u32,
         out: *mut u8, out_length: usize,
-    ) -> usize;
+    ) -> u32;
 
     fn kastepuhm_is_mission(
         text: *const u8, text_length: usize,
@@ -766,12 +766,12 @@ pub fn points_of(checkpoints: &[u32], numbers: &[u32], points: &mut [u32]) -> Li
 }
 
 /// A refusal in words, as planners are told it: `network.rndf:9:12: the entry is no declared lane waypoint or perimeter point (12)`, and below it the line with a caret. `name` is what the text is to be
-/// called, `text` the one of the refusal's file. How many bytes the sentence has: where that is more than the output has, the output has only the first of them.
+/// called, `text` the one of the refusal's file. How many bytes the sentence has, and the output is zero behind them; 0 where it does not fit, and then the output is zero.
 pub fn sentence(name: &[u8], text: &[u8], why: Refusal, out: &mut [u8]) -> usize {
     // Numbers go up to 31; any other is told as `no such refusal`. A refusal of neither file is about no line.
     let number = u8::try_from(why.number).unwrap_or(0);
     let (line, column) = if why.file == 0 { (0, 0) } else { (why.line, why.column) };
-    unsafe { kastepuhm_sentence(name.as_ptr(), name.len(), text.as_ptr(), text.len(), line, number, column, out.as_mut_ptr(), out.len()) }
+    unsafe { kastepuhm_sentence(name.as_ptr(), name.len(), text.as_ptr(), text.len(), line, number, column, out.as_mut_ptr(), out.len()) as usize }
 }
 
 /// Does the text begin as an MDF does? It may be refused all the same.
