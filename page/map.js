@@ -29,7 +29,8 @@ class YardMap {
     fit() {
         if (!this.painter.network) return;
         this.map.invalidateSize({ animate: false });
-        this.map.fitBounds(this.painter.plane.whole(), { padding: [28, 28], maxZoom: 20, animate: false });
+        const label = this.painter.network.goals.length ? 64 : 28;       // a goal's label stands on the right of its point
+        this.map.fitBounds(this.painter.plane.whole(), { paddingTopLeft: [28, 28], paddingBottomRight: [label, 28], maxZoom: 20, animate: false });
     }
 
     // The network is of an earlier text: it is shown in grey.

@@ -67,6 +67,10 @@ class Page:
         self.chrome.until("yard.map.painter.base.finished !== false")
         self.chrome.picture(os.path.join(self.pictures, name + ".png"))
 
+    def settle(self):
+        """Until the worker has answered what was asked, and what it told is shown."""
+        self.value("(async () => { for (let i = 0; i < 3; i++) { await yard.reader.ask('kind', { bytes: new Uint8Array(1) }); await new Promise((done) => requestAnimationFrame(() => setTimeout(done, 60))); } })()")
+
     def wait(self, act):
         """Does something, and waits until the texts were read again."""
         before = self.value("window.tolds")
@@ -91,7 +95,7 @@ class Page:
 
     def edition(self, year):
         self.value("(() => { const e = document.getElementById('edition'); e.value = '%s'; e.dispatchEvent(new Event('change')); })()" % year)
-        time.sleep(0.3)
+        self.settle()
 
     def press_button(self, selector):
         """By a click of the mouse in its middle."""
@@ -186,7 +190,7 @@ def reading(page):
 def typing(page):
     chrome = page.chrome
     page.value("yard.editor.close('rndf'); yard.editor.close('mdf'); yard.editor.show('rndf'); yard.changed()")
-    time.sleep(0.5)
+    page.settle()
     page.value("yard.editor.view.focus()")
     page.wait(lambda: chrome.type(text(A[:13]).decode()))
     chrome.until("yard.read && !yard.reading")
@@ -200,7 +204,7 @@ def typing(page):
     chrome.until("!!yard.read")
     page.hold("a count too high", refusal=told(N, wrong, 12, 5, 1)[0], lines=["12"], bytes=["e"], old=True, lanes=1)
     chrome.press("F8")
-    time.sleep(0.2)
+    page.settle()
     page.same("F8 goes to the fault", page.value("(() => { const c = yard.editor.view.getCursor(); return [c.line, c.ch, yard.editor.view.hasFocus()]; })()"), [11, 0, True])
     page.wait(lambda: chrome.press("z", "KeyZ", 2))
     chrome.until("!!yard.read")
@@ -256,10 +260,10 @@ def example(page):
                                           ("a checkpoint", page.place("2.1.3"), 41, 41, "checkpoint 2\non 2.1.3\ngoal 1, 5 of the mission")]:
         chrome.move(at[0], 150)
         chrome.move(*at)
-        time.sleep(0.3)
+        page.settle()
         page.same("under the pointer: " + label, page.value("(document.querySelector('.tip') || {}).textContent"), words)
         chrome.click(*at)
-        time.sleep(0.3)
+        page.settle()
         page.same("a click on " + label, page.selection(), ["rndf", first, last])
     at = page.place("5.0.1", "5.0.5")
     chrome.click(*at)
@@ -281,17 +285,17 @@ def example(page):
     chrome.press("f", "KeyF", 2)
     chrome.type("West_Rd")
     chrome.press("Enter")
-    time.sleep(0.3)
+    page.settle()
     page.same("Ctrl-F finds", page.value("yard.editor.view.getSelection()"), "West_Rd")
     chrome.press("g", "KeyG", 1)
     chrome.type("109")
     chrome.press("Enter")
-    time.sleep(0.3)
+    page.settle()
     page.same("Alt-G goes to a line", page.value("[yard.editor.view.getCursor().line, yard.map.painter.selected.kind]"), [108, "perimeter"])
 
     # a map in grey is not linked to a text that has changed
     page.value("yard.editor.view.setSelection({ line: 0, ch: 0 }); yard.editor.view.replaceRange('\\nx', { line: 0, ch: 0 }, undefined, '+input')")
-    time.sleep(0.4)
+    page.settle()
     chrome.click(*page.place("1.1.1", "1.1.2"))
     page.same("a click on a map in grey", page.selection()[0:2], ["rndf", 2])
     page.wait(lambda: page.value("yard.editor.view.undo()"))
@@ -299,12 +303,12 @@ def example(page):
     # mending
     good = page.content("rndf")
     page.press_button("#tool-mend")
-    time.sleep(0.4)
+    page.settle()
     page.same("nothing to mend", page.answer(), "example.rndf: nothing to mend")
     lines = good.split("\n")
     bad = lines[:2] + ["num_segments\t9"] + lines[3:10] + ["lane_width\t3"] + lines[10:-1] + ["x"]
     page.give([("example.rndf", "\n".join(bad).encode())])
-    time.sleep(0.4)
+    page.settle()
     page.same("what would change", page.value("[...document.querySelectorAll('.changes .link')].map((one) => one.textContent)"),
               ["example.rndf:3: the count is 4, not 9", "example.rndf:12: option given again, taken out", "example.rndf:%d: behind end_file, taken out" % len(bad)])
     page.same("before and after", page.value("[...document.querySelectorAll('.changes pre')].map((one) => one.textContent)"), ["num_segments\t9\nnum_segments\t4", "lane_width\t12", "x"])
@@ -312,7 +316,7 @@ def example(page):
     page.value("yard.editor.view.replaceRange('x', { line: 0, ch: 0 }, undefined, '+input'); document.querySelector('#panel .main').click()")
     page.same("of a text that has changed meanwhile nothing is taken", page.content("rndf"), "x" + "\n".join(bad))
     page.wait(lambda: page.value("yard.editor.view.undo()"))
-    time.sleep(0.4)
+    page.settle()
     page.wait(lambda: page.press_button("#panel .main"))
     page.chrome.until("yard.read && yard.read.answer.accepted")
     mended = "\n".join(lines[:10] + ["lane_width\t3"] + lines[11:])
@@ -320,26 +324,26 @@ def example(page):
     page.wait(lambda: page.value("yard.editor.view.undo()"))
     page.same("and undone by one step", page.content("rndf"), "\n".join(bad))
     page.give([("example.rndf", good.replace("exit\t1.1.3\t5.0.2", "exit\t1.1.3\t9.0.2").encode())])
-    time.sleep(0.4)
+    page.settle()
     page.same("past mending", page.answer(), "example.rndf: past mending (26)")
     page.give([("example.rndf", good.encode())])
 
     # driving
     page.press_button("#tool-drive")
-    time.sleep(0.3)
+    page.settle()
     chrome.click(*page.place("1.1.1"))
-    time.sleep(0.5)
+    page.settle()
     page.same("driven from a click", [page.value("document.querySelector('#panel input').value"), page.answer()], ["1.1.1", "example.mdf: can be driven from 1.1.1"])
     page.value("document.querySelector('#panel input').value = ''; document.querySelector('#panel input').focus()")
     chrome.type("1.1.9")
     chrome.press("Enter")
-    time.sleep(0.3)
+    page.settle()
     page.same("no such point", page.answer(), "1.1.9 is no point of example.rndf (30)")
     page.give([("example.rndf", good.replace("exit\t6.0.3\t2.2.3\n", "").encode())])
     page.value("document.querySelector('#panel input').value = ''; document.querySelector('#panel input').focus()")
     chrome.type("4.2.1")
     chrome.press("Enter")
-    time.sleep(0.6)
+    page.settle()
     page.same("a goal that can't be reached", page.answer(), "example.mdf:8:1: goal 4 can't be reached from goal 21 (31)\n4\n^")
     page.same("its line", page.selection(), ["mdf", 8, 8])
     page.same("marked on the map", page.value("yard.network.pointId(yard.map.painter.missed)"), "4.1.2")
@@ -348,21 +352,21 @@ def example(page):
 
     # a route
     page.press_button("#tool-route")
-    time.sleep(0.3)
+    page.settle()
     for point in ("1.1.1", "1.1.5", "2.1.1", "2.1.4"):
         chrome.click(*page.place(point))
-        time.sleep(0.3)
+        page.settle()
     page.same("clicks make a route", page.value("document.querySelector('#panel textarea').value"), "1.1.1 1.1.2 1.1.3 1.1.4 1.1.5 2.1.1 2.1.2 2.1.3 2.1.4")
     page.same("goals are missing", page.answer(), "a goal is not met in order (23)\ngoal 2 of the mission, checkpoint 12 on 5.2.2\n(every step is a move)")
     chrome.click(*page.place("4.1.1"))
-    time.sleep(0.4)
+    page.settle()
     page.same("a step that is no move", [page.answer(), page.value("yard.map.painter.route.bad")], ["a step of the route is no move (22)\nstep 9, from 2.1.4 to 4.1.1", 9])
     page.picture("route")
     way = "2.1.3 2.1.4 3.1.1 3.1.2 3.1.3 3.1.4 3.1.5 4.1.1 4.1.2 4.1.3 4.1.4 1.1.1 1.1.2 1.1.3 5.0.2 5.2.2 5.0.4 3.2.2 3.2.3 6.0.1 6.1.2 6.0.3 2.2.3 2.2.4 1.2.1 1.2.2 1.2.3 5.0.3 1.1.4 1.1.5 2.1.1 2.1.2 2.1.3 2.1.4 " \
           "3.1.1 3.1.2 3.1.3 3.1.4 3.1.5 4.1.1 4.1.2 4.1.3 4.1.4 1.1.1 1.1.2 1.1.3 1.1.4 1.1.5 2.1.1 2.1.2 2.1.3"
     page.value("(() => { const t = document.querySelector('#panel textarea'); t.focus(); t.select(); })()")
     chrome.type(way)
-    time.sleep(0.6)
+    page.settle()
     page.same("a good route, typed", page.answer(), "The route is good: %d moves, every goal met in order." % (len(way.split()) - 1))
     page.picture("route-good")
     chrome.press("Escape")
@@ -388,7 +392,10 @@ def example(page):
     page.value("yard.editor.show('rndf'); yard.editor.view.focus()")
     os.unlink(os.path.join(page.folder, "example.rndf"))
     chrome.press("s", "KeyS", 2)
-    time.sleep(0.6)
+    for _ in range(100):
+        if os.path.exists(os.path.join(page.folder, "example.rndf")):
+            break
+        time.sleep(0.05)
     page.same("Ctrl-S", os.path.exists(os.path.join(page.folder, "example.rndf")), True)
     page.hold("after all", said="example.rndf with example.mdf: accepted; 4 segments, 2 zones, 8 lanes, 53 points, 4 spots, 9 checkpoints, 4 stops, 14 exits, 5 goals, 6 speed limits")
 
@@ -405,7 +412,7 @@ def names(page):
         at = page.place(point, to)
         page.chrome.move(at[0], at[1] - 30)
         page.chrome.move(*at)
-        time.sleep(0.4)
+        page.settle()
         page.same("the name as text", page.value("(() => { const tip = document.querySelector('.tip'); return tip && [tip.textContent.split('\\n')[1], tip.querySelectorAll('*').length]; })()"), [name, 1])
     page.press_button("#fit")
     page.chrome.move(1000, 150)
@@ -414,27 +421,31 @@ def names(page):
     page.same("no script but the page's own", page.value("[window.ran === undefined, window.wrongs.splice(0).length]"), [True, 1])
     page.same("nor one in the worker", page.value("new Promise((done) => { const w = new Worker(URL.createObjectURL(new Blob(['try { eval(\"1\"); postMessage(\"ran\"); } catch { postMessage(\"stopped\"); }']))); w.onmessage = (e) => done(e.data); })"), "stopped")
     page.value("fetch('https://example.org/').catch(() => {})")
-    time.sleep(0.3)
+    page.settle()
     page.same("nor a question to the network", page.value("window.wrongs.splice(0).length"), 1)
 
 
-# ## A question that takes long: 32,768 goals on a ring, each behind the next, so that each search goes all the way round
+# ## A question that takes minutes: 32,768 goals on a ring of as many lanes, each behind the next, so that each search goes all the way round
 
 def long_question(page):
     count = 32768
-    ring = ["RNDF_name>ring", "num_segments>1", "num_zones>0", "segment>1", "num_lanes>1", "lane>1.1", "num_waypoints>%d" % count] + ["checkpoint>1.1.%d>%d" % (i, i) for i in range(1, count + 1)] + ["exit>1.1.%d>1.1.1" % count] \
-        + ["1.1.%d>45.%06d>-93.000000" % (i, i) for i in range(1, count + 1)] + ["end_lane", "end_segment", "end_file"]
+    ring = ["RNDF_name>ring", "num_segments>1", "num_zones>0", "segment>1", "num_lanes>%d" % count]
+    for i in range(1, count + 1):
+        ring += ["lane>1.%d" % i, "num_waypoints>1", "checkpoint>1.%d.1>%d" % (i, i), "exit>1.%d.1>1.%d.1" % (i, i % count + 1), "1.%d.1>45.%06d>-93.000000" % (i, i), "end_lane"]
     goals = ["MDF_name>m", "RNDF>ring", "checkpoints", "num_checkpoints>%d" % count] + [str(i) for i in range(count, 0, -1)] + ["end_checkpoints", "speed_limits", "num_speed_limits>1", "1>0>15", "end_speed_limits", "end_file"]
-    page.give([("ring.rndf", text(ring)), ("ring.mdf", text(goals))])
+    page.give([("ring.rndf", text(ring + ["end_segment", "end_file"])), ("ring.mdf", text(goals))])
     page.press_button("#tool-drive")
 
     def ask():
         page.value("(() => { const field = document.querySelector('#panel input'); field.value = '1.1.1'; field.focus(); })()")
         page.chrome.press("Enter")
         page.chrome.until("!document.getElementById('busy').hidden", 20)
+
+    def stop():
+        page.press_button("#stop")
+        page.chrome.until("document.getElementById('busy').hidden", 20)
     ask()
-    page.press_button("#stop")
-    page.chrome.until("document.getElementById('busy').hidden", 20)
+    stop()
     page.same("stopped", page.answer(), "")
     ask()
     page.value("yard.tab('rndf'); yard.editor.view.setCursor({ line: 3, ch: 0 }); yard.editor.view.focus()")
@@ -442,8 +453,9 @@ def long_question(page):
     page.chrome.until("!!yard.read")
     page.hold("typed into meanwhile", state="bad", lines=["4"], bytes=["x"])
     page.wait(lambda: page.value("yard.editor.view.undo()"))
-    page.chrome.until("/driven/.test((document.querySelector('#panel .answer') || {}).textContent)", 180)
-    page.same("and asked again to its end", page.answer(), "ring.mdf: can be driven from 1.1.1")
+    page.chrome.until("!document.getElementById('busy').hidden", 20)      # the panel asks again of the text as it was
+    stop()
+    page.hold("and stopped again", state="good", lines=[])
     page.press_button("#panel-close")
 
 
