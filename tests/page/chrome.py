@@ -70,6 +70,18 @@ class Chrome:
             time.sleep(0.05)
         raise TimeoutError(expression)
 
+    def page_thread(self):
+        """Milliseconds of processor time that the pages' own threads have had: unlike the clock's they do not hang on what else the machine does."""
+        session, self.session = self.session, None
+        found = [one["id"] for one in self.ask("SystemInfo.getProcessInfo")["processInfo"] if one["type"] == "renderer"]
+        self.session = session
+        total = 0
+        for process in found:
+            with open("/proc/%d/task/%d/stat" % (process, process)) as f:
+                fields = f.read().rsplit(")", 1)[1].split()
+            total += int(fields[11]) + int(fields[12])
+        return total * 1000 // os.sysconf("SC_CLK_TCK")
+
     # ## What a person does
 
     def move(self, x, y):

@@ -17,7 +17,7 @@ from check_cases import A, M, Z, ins, padded, put, text, told   # noqa: E402
 from chrome import Chrome   # noqa: E402
 
 N, MDF = "network.rndf", "mission.mdf"
-STILL = 3000        # ms: longer may the page never stand still; on an idle machine it is far less
+BUSY = 4000         # ms of processor time that the page's own thread may take to show a text of 16 MB, or what was typed into it; so it never stands still for longer
 WATCH = """window.tolds = 0; window.opens = 0; window.yard = null; window.wrongs = []; window.long = [0];
 document.addEventListener("yard-told", () => { window.tolds++; });
 document.addEventListener("yard-opened", () => { window.opens++; });
@@ -466,14 +466,16 @@ def largest(page, folder):
         paths = [os.path.join(folder, name)]
         mdf = paths[0].replace(".rndf", ".mdf")
         page.value("yard.editor.saved('rndf'); yard.editor.close('mdf'); window.long = [0]; window.began = performance.now()")
+        before = page.chrome.page_thread()
         page.wait(lambda: page.chrome.choose("#file", paths + ([mdf] if os.path.getsize(mdf) else [])))
         told_after = page.value("Math.round(performance.now() - window.began)")
         page.hold(name, state="good", tab="rndf")
         page.chrome.until("yard.map.painter.base.finished !== false", 120)
         drawn = page.value("Math.round(performance.now() - window.began)")
-        opened = page.value("Math.max(...window.long)")
+        opened, busy = page.value("Math.max(...window.long)"), page.chrome.page_thread() - before
         page.picture("large-" + name.replace(".rndf", "").replace("+", "-"))
         page.value("window.long = [0]; window.began = performance.now(); yard.editor.view.focus(); yard.editor.view.setCursor({ line: yard.editor.view.lineCount() - 5, ch: 0 })")
+        before = page.chrome.page_thread()
         page.wait(lambda: page.chrome.type("x"))
         page.chrome.until("!!yard.read", 60)
         typed = page.value("Math.round(performance.now() - window.began)")
@@ -481,9 +483,10 @@ def largest(page, folder):
         page.wait(lambda: page.value("yard.editor.view.undo()"))
         page.chrome.until("yard.read && yard.map.painter.base.finished !== false", 120)
         still = page.value("Math.max(...window.long)")
-        page.same(name + ": the page stood still for too long", max(opened, still) < STILL, True)
-        print("%-16s %8d bytes: told after %d ms, drawn after %d, after typing told after %d; the page stood still for at most %d ms when it was opened, %d when it was typed into; %s"
-              % (name, os.path.getsize(paths[0]), told_after, drawn, typed, opened, still, page.value("document.getElementById('drawing').textContent") or "all is drawn"))
+        again = page.chrome.page_thread() - before
+        page.same(name + ": too much for the page's own thread", max(busy, again) < BUSY, True)
+        print("%-16s %8d bytes: told after %d ms, drawn after %d, after typing told after %d; by the clock the page stood still for at most %d ms when it was opened, %d when it was typed into; its own thread took %d and %d ms; %s"
+              % (name, os.path.getsize(paths[0]), told_after, drawn, typed, opened, still, busy, again, page.value("document.getElementById('drawing').textContent") or "all is drawn"))
 
 
 def main(path, pictures, large=None):
