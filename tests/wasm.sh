@@ -9,7 +9,7 @@
 # Before them the page is built twice and has to have the same bytes. Prints what each part prints last, and 'N passed, M failed'; the status is 0 if none failed.
 #
 # Builds the library first (tools/library.sh wasm32), unless --built is given. Needs Debian's packages nodejs, python3, gcc, chromium, firefox-esr, libjs-codemirror and libjs-leaflet: what is missing it names, and installs
-# with --install. Time on two cores of their own: some 5 minutes, 4 of them the oracle's, for `damage`.
+# with --install. Time on two cores shared with eight others: 8 to 11 minutes for `damage`, 3 for `glue`, 3 for the browsers.
 set -eu
 root=$(cd "$(dirname "$0")/.." && pwd -P)
 stop() { echo "tests/wasm.sh: $*" >&2; exit 2; }
