@@ -1,0 +1,2 @@
+-- The forms of a place, executable.
+pub mod Listed
