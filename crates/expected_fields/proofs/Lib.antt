@@ -1,0 +1,9 @@
+pub mod Instances
+pub mod Passing
+pub mod Here
+pub mod NextField
+pub mod Faults
+pub mod Editions
+pub mod Words
+pub mod Maximum
+pub mod Files

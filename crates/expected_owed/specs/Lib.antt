@@ -1,0 +1,2 @@
+-- How many lines are still owed at a place (Owed).
+pub mod Owed
