@@ -2,8 +2,10 @@
 use mathlib.Core.Path.{_≡_, refl, sym, ap, _∙_}
 use mathlib.Core.List.{List, [], _∷_}
 use mathlib.Core.Bool.{Bool, true, false}
+use mathlib.Core.Logic.{_⊎_, inl, inr}
 use Prim.Native.Nat.{ℕ, suc, _+_, _-_, _≤_, _<_}
 use native.Mathlib.Omega.{arith}
+use lib.Seq.{take-all}
 use lib.ListN.{length, take, drop, length-drop, length-take}
 use lib.Dec.{eqb, ltb}
 use Rattle.terms.specs.Ascii.{Bytes}
@@ -32,7 +34,7 @@ use Rattle.refusal.proofs.Sized.{not-too-long}
 use Rattle.columns.specs.Locating.{onward, lineColumns}
 use Rattle.columns.specs.RndfColumns.{rndfWrong, rndfLineColumn, rndfColumnIn}
 use Rattle.columns.proofs.Bounds.{column-small}
-use Rattle.column.specs.Before.{linesBefore, linesFrom, bytesBefore, place-on, placeAfter, placeBehind, columnBehind}
+use Rattle.column.specs.Before.{linesBefore, linesFrom, bytesBefore, place-on, placeAfter, placeBehind, placeBefore, columnBehind}
 use Rattle.column.specs.declared.Standing as DS
 use Rattle.column.specs.declared.Standing.the-variants as Standing
 use Rattle.column.proofs.Lines.{lines-before, lines-from}
@@ -109,6 +111,24 @@ module _ (s : Bytes) (w n from : ℕ) (size : length s ≤ most) (starts : from 
       go : (x : DS.Standing) → columnBehind n x (linesOf (drop from s)) ≡ 0
       go Standing.No = refl
       go (Standing.At p) = rw (lines-end s from h) refl
+
+-- ## The place before a line
+-- `stop` cuts the text before it; where there is no such line, behind all of them
+pub before-so : (s : Bytes) (w from stop : ℕ) → length s ≤ most → from ≡ bytesBefore 1 w (linesOf s) → (stop ≡ from) ⊎ ((length s ≤ from) × (stop ≡ length s)) → placeBehind (take stop s) ≡ placeBefore s w
+unfolding placeBefore
+before-so s w from stop size starts h = ap placeBehind (go h ∙ ap (λ (k : ℕ). take k s) starts) ∙ sym (not-too-long s Standing.No (placeBehind (take (bytesBefore 1 w (linesOf s)) s)) size)
+  where
+    go : (stop ≡ from) ⊎ ((length s ≤ from) × (stop ≡ length s)) → take stop s ≡ take from s
+    go (inl e) = ap (λ (k : ℕ). take k s) e
+    go (inr (e, q)) = take-all stop s (omega arith) ∙ sym (take-all from s e)
+
+-- THE PLACE: behind the lines before line w, as they stand in the text
+pub place-before : (s : Bytes) (w : ℕ) → length s ≤ most → placeBefore s w ≡ placeAfter firstPlace 0 (linesBefore 1 w (linesOf s))
+unfolding placeBefore placeBehind
+place-before s w size =
+    let k = bytesBefore 1 w (linesOf s) in
+    let short : length (take k s) ≤ most = omega (arith, length-take k s) in
+    not-too-long s Standing.No _ size ∙ not-too-long (take k s) Standing.No _ short ∙ ap (placeAfter firstPlace 0) (sym (lines-before s w k refl))
 
 -- the line from here on, at the place that was found
 pub line-there : (s : Bytes) (from e : ℕ) → from < length s → e ≡ reach (stopsBy (Byte 10)) s from → (table : List (List ℕ)) → table ≡ rndf-table → (n : ℕ) (p : Place) (r : ℕ) → r ≡ rndfLineColumn table (take (e - from) (drop from s)) p n

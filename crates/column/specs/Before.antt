@@ -1,7 +1,7 @@
 -- Executable: the lines of an RNDF before the one that is wanted, the place behind them, and the column of the line that stands there. Assumes nothing.
 use mathlib.Core.List.{List, [], _∷_}
 use Prim.Native.Nat.{ℕ, suc, _+_}
-use lib.ListN.{length}
+use lib.ListN.{length, take}
 use lib.Dec.{eqb}
 use Rattle.terms.specs.Ascii.{Bytes}
 use Rattle.terms.specs.Words.{pick}
@@ -44,6 +44,10 @@ placeAfter p start (l ∷ ls) = place-on p (line rndf-judging l start p) (λ q. 
 -- behind a text
 unfoldable pub placeBehind : Bytes → DS.Standing
 placeBehind text = if-too-long text Standing.No (placeAfter firstPlace 0 (linesOf text))
+
+-- behind the lines before line i
+unfoldable pub placeBefore : Bytes → (i : ℕ) → DS.Standing
+placeBefore text i = if-too-long text Standing.No (placeBehind (take (bytesBefore 1 i (linesOf text)) text))
 
 -- ## The column of the first of these lines, at that place, with the refusal n; 0 where there is none
 unfoldable pub columnBehind : (n : ℕ) → DS.Standing → List Bytes → ℕ

@@ -39,10 +39,10 @@ ghost use Rattle.judge.specs.RndfLine.{rndfKind, judging};
 ghost use Rattle.columns.specs.Locating.{triedOf, knownField};
 ghost use Rattle.columns.specs.RndfColumns.{low-id, checkpointWrong, exitWrong, latitudeWrong, pointWrong, rndfWrong, rndfKindField, rndfFieldOf, rndfFieldsColumn, rndfContentColumn, rndfLineColumn, rndfColumnIn};
 ghost use Rattle.refusal.specs.Size.{most};
-ghost use Rattle.column.specs.Before.{bytesBefore, placeBehind, columnBehind};
+ghost use Rattle.column.specs.Before.{bytesBefore, placeBehind, placeBefore, columnBehind};
 
 // A place of the grammar; none behind a line that is refused.
-enum Standing {
+pub enum Standing {
     At(Place),
     No,
 }
@@ -212,6 +212,14 @@ fn field_of(table: &[[u8; 30]; 27], s: &[u8], f: Fields, p: Place, number: u8) -
     }
 }
 
+// The same of what stands before a comment, for who asks what may stand there.
+pub fn field_at_fault(table: &[[u8; 30]; 27], s: &[u8], p: Place, number: u8) -> u8
+    ensures { λ r. ⌜ r ≡ rndfFieldOf (now (table .entry)) (now (s .entry)) (fieldsIn (now (s .entry))) p number ⌝ }
+{
+    let f = fields_of(s);
+    field_of(table, s, f, p, number)
+}
+
 // The column of the field at fault, of what stands before a comment; 0 where no field does.
 fn fields_column(table: &[[u8; 30]; 27], s: &[u8], p: Place, number: u8) -> usize
     ensures { λ r. ⌜ r ≡ rndfFieldsColumn (now (table .entry)) (now (s .entry)) p number ⌝ }
@@ -300,6 +308,19 @@ fn place_behind(table: &[[u8; 30]; 27], text: &[u8]) -> Standing
         Walked::Fault(_) => Standing::No,
         Walked::Ended(place, _, _) => Standing::At(place),
     }
+}
+
+// The place behind the lines before line `wanted`; behind all of them where there is no such line. None behind a line that is refused, or where the text is too long.
+pub fn place_before(text: &[u8], wanted: u32) -> Standing
+    ensures { λ r. ⌜ r ≡ placeBefore (now (text .entry)) wanted ⌝ }
+{
+    if LONGEST_TEXT < text.len() {
+        return Standing::No;
+    }
+    let from = start_of_line(text, wanted);
+    let stop = if from < text.len() { from } else { text.len() };
+    let table = rndf_table();
+    place_behind(&table, &text[..stop])
 }
 
 // The column of the line that starts here.

@@ -121,7 +121,7 @@ module _ {L : Lang} (A : Machine L) (X : Lexis L) (J : Judging) (C : Ties A X J)
         go none q = counted p i n s g gs e k (refuses-is p i k ∙ ap numberOf q)
         go (some c) q = rw (not-zero A X J C (abs p) k c q)
 
-    field-is : (p : Pl) → Sound p → (n : ℕ) (s : Bytes) (gs : List Field) → fieldsAt 0 s ≡ fieldIn 0 s (fieldsIn s .a) ∷ gs → fieldOf J wrong s (fieldsIn s) p n ≡ Finding.fieldAt A X low (abs p) n (fieldIn 0 s (fieldsIn s .a)) gs
+    pub field-is : (p : Pl) → Sound p → (n : ℕ) (s : Bytes) (gs : List Field) → fieldsAt 0 s ≡ fieldIn 0 s (fieldsIn s .a) ∷ gs → fieldOf J wrong s (fieldsIn s) p n ≡ Finding.fieldAt A X low (abs p) n (fieldIn 0 s (fieldsIn s .a)) gs
     unfolding fieldOf Finding.fieldAt
     field-is p i n s gs e =
         let f = fieldIn 0 s (fieldsIn s .a) in

@@ -91,7 +91,7 @@ fn first_order(s: &[u8]) -> u8
 }
 
 // The kind of a line of an MDF, without its LF.
-fn mdf_line_kind(s: &[u8]) -> u8
+pub fn mdf_line_kind(s: &[u8]) -> u8
     ensures { λ r. ⌜ r ≡ mdfLineKind (now (s .entry)) ⌝ }
 {
     let e = fields_end(s);

@@ -1,7 +1,7 @@
 // The column of a refusal of an MDF, found again once the text is refused: one more walk to the line, and then the field or byte at fault. A good text pays nothing.
 // What it finds is said, and shown to be the law's column, in `columns`.
 //
-// proofs/Lines: one line of the walk.
+// specs/Before: the place behind the lines before the one that is wanted, and where it starts, executable. proofs/Lines: one line of the walk, and the column of the line where it ends.
 //
 // Rests on `columns`, `column_parts`, `walk` and what they rest on.
 use column_parts::bad_at;
@@ -23,13 +23,22 @@ use scan::far_byte_from;
 use scan::two_from;
 use statement::orders;
 ghost use mathlib.Core.Path.{_≡_};
-ghost use Prim.Native.Nat.{_<_};
+ghost use Prim.Native.Nat.{_<_, _≤_};
+ghost use lib.ListN.{length};
 ghost use Rattle.line.specs.Forms.{fieldsIn, part};
 ghost use Rattle.mission_judge.specs.MdfLine.{mdfKind, judging};
 ghost use Rattle.statement.specs.declared.Order.the-variants as or;
 ghost use Rattle.mission_place.specs.Step.{permitsOf};
 ghost use Rattle.columns.specs.Locating.{triedOf, knownField};
 ghost use Rattle.columns.specs.MdfColumns.{minimumWrong, limitWrong, mdfWrong, mdfKindField, mdfFieldOf, mdfFieldsColumn, mdfContentColumn, mdfLineColumn, mdfColumnIn};
+ghost use Rattle.refusal.specs.Size.{most};
+ghost use Rattle.mission_column.specs.Before.{arrived, missionPlaceBefore};
+
+// A place of the grammar; none behind a line that is refused.
+pub enum MissionStanding {
+    At(MissionPlace),
+    No,
+}
 
 // For 8 spellings alone count; for 9 the values that are permitted. They are tested here and not by `MissionPlace::step`, which the compiler so does inside the judge (as in `column`).
 fn tried(number: u8, id: u32, minimum: u32) -> bool
@@ -134,6 +143,14 @@ fn field_of(table: &[[u8; 13]; 12], s: &[u8], f: Fields, p: MissionPlace, number
     }
 }
 
+// The same of what stands before a comment, for who asks what may stand there.
+pub fn mission_field_at_fault(table: &[[u8; 13]; 12], s: &[u8], p: MissionPlace, number: u8) -> u8
+    ensures { λ r. ⌜ r ≡ mdfFieldOf (now (table .entry)) (now (s .entry)) (fieldsIn (now (s .entry))) p number ⌝ }
+{
+    let f = fields_of(s);
+    field_of(table, s, f, p, number)
+}
+
 // The column of the field at fault, of what stands before a comment; 0 where no field does.
 fn fields_column(table: &[[u8; 13]; 12], s: &[u8], p: MissionPlace, number: u8) -> usize
     ensures { λ r. ⌜ r ≡ mdfFieldsColumn (now (table .entry)) (now (s .entry)) p number ⌝ }
@@ -173,23 +190,28 @@ fn line_column(table: &[[u8; 13]; 12], s: &[u8], p: MissionPlace, number: u8) ->
     content_column(table, &s[..e], p, number)
 }
 
-// The column of a line of an MDF that is refused with this number; 0 where there is no such line, or the text is too long.
-pub fn mdf_column(text: &[u8], wanted: u32, number: u8) -> u32
-    ensures { λ r. ⌜ r ≡ mdfColumnIn (now (text .entry)) wanted number ⌝ }
+// ## The line in the text
+
+// A line of a text: the place behind the lines before it, and where it starts.
+enum Arrived {
+    At(MissionPlace, usize),
+    No,
+}
+
+// At line `wanted`; behind all lines where there is no such line. Not behind a line that is refused.
+fn arrive(text: &[u8], wanted: u32) -> Arrived
+    requires { ⌜ length (now text) ≤ most ⌝ }
+    ensures { λ r. ⌜ r ≡ arrived (now (text .entry)) wanted ⌝ }
 {
-    if LONGEST_TEXT < text.len() {
-        return 0;
-    }
     let table = mdf_table();
     let mut place = MissionPlace::start();
     let mut from: usize = 0;
     let mut line: u32 = 1;
     while from < text.len() {
-        let e = far_byte_from(text, from, 10);
         if line == wanted {
-            let column = line_column(&table, &text[from..e], place, number);
-            return column as u32;
+            return Arrived::At(place, from);
         }
+        let e = far_byte_from(text, from, 10);
         let v = mission_judge_line(&table, &text[from..e], from, place);
         match v {
             MissionVerdict::Blank => {}
@@ -197,11 +219,42 @@ pub fn mdf_column(text: &[u8], wanted: u32, number: u8) -> u32
                 place = q;
             }
             MissionVerdict::Bad(_) => {
-                return 0;
+                return Arrived::No;
             }
         }
         from = e + 1;
         line += 1;
     }
-    0
+    Arrived::At(place, from)
+}
+
+// The place behind the lines before line `wanted`; behind all of them where there is no such line. None behind a line that is refused, or where the text is too long.
+pub fn mission_place_before(text: &[u8], wanted: u32) -> MissionStanding
+    ensures { λ r. ⌜ r ≡ missionPlaceBefore (now (text .entry)) wanted ⌝ }
+{
+    if LONGEST_TEXT < text.len() {
+        return MissionStanding::No;
+    }
+    let Arrived::At(place, _) = arrive(text, wanted) else {
+        return MissionStanding::No;
+    };
+    MissionStanding::At(place)
+}
+
+// The column of a line of an MDF that is refused with this number; 0 where there is no such line, or the text is too long.
+pub fn mdf_column(text: &[u8], wanted: u32, number: u8) -> u32
+    ensures { λ r. ⌜ r ≡ mdfColumnIn (now (text .entry)) wanted number ⌝ }
+{
+    if LONGEST_TEXT < text.len() {
+        return 0;
+    }
+    let Arrived::At(place, from) = arrive(text, wanted) else {
+        return 0;
+    };
+    if text.len() <= from {
+        return 0;
+    }
+    let table = mdf_table();
+    let e = far_byte_from(text, from, 10);
+    line_column(&table, &text[from..e], place, number) as u32
 }

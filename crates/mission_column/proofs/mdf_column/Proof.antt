@@ -1,167 +1,97 @@
 -- `mission_column::mdf_column` meets its contract. Assumes nothing.
-use mathlib.Core.Path.{_≡_, refl, sym, ap, _∙_}
-use mathlib.Core.Logic.{⊎-elim}
-use Prim.Native.Nat.{ℕ, _+_, _-_, _≤_, _<_}
+use mathlib.Core.Path.{_≡_, sym, _∙_}
 use native.Mathlib.Omega.{arith}
-use lib.ListN.{length}
 use borrow.Author.Needs.{needs}
-use Rattle.scan.proofs.Reach.{reach-le}
+use Rattle.scan.specs.Reach.{stopsBy}
 use Rattle.scan.specs.declared.Until.the-variants.{Byte}
-use Rattle.scan.specs.Reach.{reach, stopsBy}
-use Rattle.refusal.specs.Size.{most}
-use Rattle.refusal.proofs.Sized.{too-long, not-too-long}
+use Rattle.scan.proofs.Reach.{reach-le}
+use Rattle.refusal.proofs.Sized.{too-long}
 use Rattle.columns.specs.MdfColumns.{mdfColumnIn}
-use Rattle.mission_column.proofs.Lines.{rest, at-end, this-line, other-line, small}
+use Rattle.mission_column.proofs.Lines.{not-there, no-line, line-there, small}
 use Rattle.mission_column.proofs.mdf_column.Statement.{statement}
 use Rattle.mission_column.proofs.mdf_column.Tie as tie
 
-abbrev Inv-loop : tie.InvT-loop
-Inv-loop text wanted number table place₀ from₀ line₀ place from line = (from ≤ length text + 1) × (line ≤ from + 1) × (rest text place from line wanted number ≡ mdfColumnIn text wanted number) × (length text ≤ most)
-
-abbrev μ-loop : tie.MeasureT-loop
-μ-loop text wanted number table place₀ from₀ line₀ place from line = length text + 1 - from
-
-returns : tie.Need-returns Inv-loop μ-loop
+returns : tie.Need-returns
 unfolding mdfColumnIn
 returns c = sym (too-long (c .before .before .args .text .now) _ _ (c .if1 .taken))
 
-mdf-table-requires : tie.Need-mdf-table-requires Inv-loop μ-loop
-mdf-table-requires c κs = search needs
+arrive-requires : tie.Need-arrive-requires
+arrive-requires c κs = search needs
 
-start-requires : tie.Need-start-requires Inv-loop μ-loop
-start-requires c κs = search needs
+enum-known-place : tie.Need-enum-known-place
+enum-known-place c = search needs
 
-loop-holds : tie.Need-loop-holds Inv-loop μ-loop
-unfolding mdfColumnIn
-loop-holds c = (omega arith, omega arith, rw (c .start .ensures) (sym (not-too-long (c .before .before .before .before .args .text .now) _ _ (omega arith))), omega arith)
-
-far-byte-from-requires : tie.Need-far-byte-from-requires Inv-loop μ-loop
-far-byte-from-requires c κs = search needs
-
-sub-line-column : tie.Need-sub-line-column Inv-loop μ-loop
-sub-line-column c = search needs
-
-part-line-column-start : tie.Need-part-line-column-start Inv-loop μ-loop
-part-line-column-start c = search needs
-
-part-line-column-end : tie.Need-part-line-column-end Inv-loop μ-loop
-part-line-column-end c =
-    let f = c .before .before in
-    let l = f .before .before in
-    let s = l .before .before .before .before .before .args .text .now in
-    omega (arith, f .far-byte-from .ensures, reach-le (stopsBy (Byte 10)) s (l .loop .from) (omega arith))
-
-line-column-requires : tie.Need-line-column-requires Inv-loop μ-loop
-line-column-requires c κs = search needs
-
-cast-result : tie.Need-cast-result Inv-loop μ-loop
-cast-result c =
-    let f = c .before .before .before .before in
-    let l = f .before .before in
-    let A = l .before .before .before .before .before .args in
-    let h = small (l .before .before .mdf-table .result) (A .text .now) (l .loop .from) (f .far-byte-from .result) (omega arith) (f .far-byte-from .ensures) (l .loop .place) (A .number) (l .loop .inv .3) in
-    search (needs, c .line-column .ensures, h)
-
-returns-2 : tie.Need-returns-2 Inv-loop μ-loop
-returns-2 c =
-    let f = c .before .before .before .before in
-    let l = f .before .before in
-    let A = l .before .before .before .before .before .args in
-    let t = l .before .before .mdf-table in
-    c .line-column .ensures ∙ sym (this-line (t .result) (t .ensures) (A .text .now) (l .loop .from) (f .far-byte-from .result) (omega arith) (f .far-byte-from .ensures) (l .loop .place) (l .loop .line) (A .wanted) (A .number) (c .before .before .before .if2 .taken)) ∙ l .loop .inv .2
-
-sub-mission-judge-line : tie.Need-sub-mission-judge-line Inv-loop μ-loop
-sub-mission-judge-line c = search needs
-
-part-mission-judge-line-start : tie.Need-part-mission-judge-line-start Inv-loop μ-loop
-part-mission-judge-line-start c = search needs
-
-part-mission-judge-line-end : tie.Need-part-mission-judge-line-end Inv-loop μ-loop
-part-mission-judge-line-end c =
-    let f = c .before .before in
-    let l = f .before .before in
-    let s = l .before .before .before .before .before .args .text .now in
-    omega (arith, f .far-byte-from .ensures, reach-le (stopsBy (Byte 10)) s (l .loop .from) (omega arith))
-
-mission-judge-line-requires : tie.Need-mission-judge-line-requires Inv-loop μ-loop
-mission-judge-line-requires c κs = search needs
-
-enum-told : tie.Need-enum-told Inv-loop μ-loop
+enum-told : tie.Need-enum-told
 enum-told c = search needs
 
-enum-known-v : tie.Need-enum-known-v Inv-loop μ-loop
-enum-known-v c = search needs
+returns-2 : tie.Need-returns-2
+returns-2 c =
+    let a = c .before .before in
+    let A = a .before .before .before .args in
+    not-there (A .text .now) (A .wanted) (A .number) (a .before .if1 .left) (sym (c .enum-told .given .1) ∙ a .arrive .ensures)
 
-enum-told-2 : tie.Need-enum-told-2 Inv-loop μ-loop
-enum-told-2 c = search needs
-
-returns-3 : tie.Need-returns-3 Inv-loop μ-loop
+returns-3 : tie.Need-returns-3
 returns-3 c =
-    let j = c .before .before in
-    let f = j .before .before .before .before in
-    let l = f .before .before in
-    let A = l .before .before .before .before .before .args in
-    let t = l .before .before .mdf-table in
-    sym (rw (c .enum-told2 .given .1) at (other-line (t .result) (t .ensures) (A .text .now) (l .loop .from) (f .far-byte-from .result) (omega arith) (f .far-byte-from .ensures) (l .loop .place) (l .loop .line) (A .wanted) (A .number) (omega (arith, l .loop .inv .3)) (j .before .before .before .if2 .left) (j .mission-judge-line .result) (j .mission-judge-line .ensures))) ∙ l .loop .inv .2
+    let k = c .before .before in
+    let a = k .before .before in
+    let A = a .before .before .before .args in
+    no-line (A .text .now) (A .wanted) (A .number) (a .before .if1 .left) (k .place .given .0 .0) (k .place .given .0 .1 .0) (sym (k .place .given .1) ∙ a .arrive .ensures) (c .if2 .taken)
 
-add-from : tie.Need-add-from Inv-loop μ-loop
-add-from c =
-    let f = c .before .before .before .before .before in
-    let l = f .before .before in
-    let s = l .before .before .before .before .before .args .text .now in
-    omega (arith, f .far-byte-from .ensures, reach-le (stopsBy (Byte 10)) s (l .loop .from) (omega arith))
+mdf-table-requires : tie.Need-mdf-table-requires
+mdf-table-requires c κs = search needs
 
-add-line : tie.Need-add-line Inv-loop μ-loop
-add-line c = search needs
+far-byte-from-requires : tie.Need-far-byte-from-requires
+far-byte-from-requires c κs = search needs
 
-loop-less : tie.Need-loop-less Inv-loop μ-loop
-loop-less c = search needs
+sub-line-column : tie.Need-sub-line-column
+sub-line-column c = search needs
 
-loop-again : tie.Need-loop-again Inv-loop μ-loop
-loop-again c =
-    let j = c .before in
-    let f = j .before .before .before .before in
-    let l = f .before .before in
-    let A = l .before .before .before .before .before .args in
-    let t = l .before .before .mdf-table in
-    let k = reach-le (stopsBy (Byte 10)) (A .text .now) (l .loop .from) (omega arith) in
-    let e = f .far-byte-from .ensures in
-    let o = other-line (t .result) (t .ensures) (A .text .now) (l .loop .from) (f .far-byte-from .result) (omega arith) e (l .loop .place) (l .loop .line) (A .wanted) (A .number) (omega (arith, l .loop .inv .3)) (j .before .before .before .if2 .left) (j .mission-judge-line .result) (j .mission-judge-line .ensures) in
-    ⊎-elim (λ w. (omega arith, omega arith, rw (w .2) (sym (rw (w .1 .given .1) at o) ∙ l .loop .inv .2), l .loop .inv .3)) (λ w. (omega arith, omega arith, rw (w .3) (sym (rw (w .1 .given .1) at o) ∙ l .loop .inv .2), l .loop .inv .3)) (c .match .came)
+part-line-column-start : tie.Need-part-line-column-start
+part-line-column-start c = search needs
 
-returns-4 : tie.Need-returns-4 Inv-loop μ-loop
+part-line-column-end : tie.Need-part-line-column-end
+part-line-column-end c =
+    let f = c .before in
+    let k = f .before .before .before .before in
+    let s = k .before .before .before .before .before .args .text .now in
+    omega (arith, f .far-byte-from .ensures, reach-le (stopsBy (Byte 10)) s (k .place .given .0 .1 .0) (omega (arith, f .before .before .if2 .left)))
+
+line-column-requires : tie.Need-line-column-requires
+line-column-requires c κs = search needs
+
+cast-result : tie.Need-cast-result
+cast-result c =
+    let f = c .before .before .before in
+    let k = f .before .before .before .before in
+    let a = k .before .before in
+    let A = a .before .before .before .args in
+    let t = f .before .mdf-table in
+    search (needs, c .line-column .ensures, small (t .result) (A .text .now) (k .place .given .0 .1 .0) (f .far-byte-from .result) (omega (arith, f .before .before .if2 .left)) (f .far-byte-from .ensures) (k .place .given .0 .0) (A .number) (a .before .if1 .left))
+
+returns-4 : tie.Need-returns-4
 returns-4 c =
-    let l = c .before in
-    let A = l .before .before .before .before .before .args in
-    sym (at-end (A .text .now) (l .loop .from) (omega arith) (l .loop .place) (l .loop .line) (A .wanted) (A .number)) ∙ l .loop .inv .2
+    let f = c .before .before .before in
+    let k = f .before .before .before .before in
+    let a = k .before .before in
+    let A = a .before .before .before .args in
+    let t = f .before .mdf-table in
+    c .line-column .ensures ∙ line-there (A .text .now) (A .wanted) (A .number) (a .before .if1 .left) (k .place .given .0 .0) (k .place .given .0 .1 .0) (sym (k .place .given .1) ∙ a .arrive .ensures) (f .far-byte-from .result) (omega (arith, f .before .before .if2 .left)) (f .far-byte-from .ensures) (t .result) (t .ensures)
 
 pub mdf-column-spec : {M : Type 1} → statement M
 mdf-column-spec =
     tie.close
     (tie.spec
-    Inv-loop
-    μ-loop
     returns
+    arrive-requires
+    enum-known-place
+    enum-told
+    returns-2
+    returns-3
     mdf-table-requires
-    start-requires
-    loop-holds
     far-byte-from-requires
     sub-line-column
     part-line-column-start
     part-line-column-end
     line-column-requires
     cast-result
-    returns-2
-    sub-mission-judge-line
-    part-mission-judge-line-start
-    part-mission-judge-line-end
-    mission-judge-line-requires
-    enum-told
-    enum-known-v
-    enum-told-2
-    returns-3
-    add-from
-    add-line
-    loop-less
-    loop-again
     returns-4)

@@ -1,0 +1,2 @@
+-- The place behind the lines before the one that is wanted.
+pub mod Before
