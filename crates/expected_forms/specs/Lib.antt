@@ -1,0 +1,3 @@
+-- The forms of a place, and the words of a list of them.
+pub mod Forms
+pub mod Listing

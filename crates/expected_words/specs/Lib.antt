@@ -1,0 +1,2 @@
+-- What the program's items and forms stand for.
+pub mod Items
