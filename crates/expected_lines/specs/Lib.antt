@@ -1,0 +1,2 @@
+-- What is told of a line.
+pub mod Words
