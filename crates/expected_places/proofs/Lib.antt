@@ -1,0 +1,10 @@
+pub mod SameForms
+pub mod Keywords
+pub mod KindListed
+pub mod RndfForms
+pub mod RndfKinds
+pub mod MdfForms
+pub mod LineWalks
+pub mod OwedBehind
+pub mod RndfPlaces
+pub mod MdfPlaces
