@@ -2,11 +2,11 @@
 // `edition` is the number of `edition`/specs/Editions: 1 reads by the edition of December 6, 2006, any other number by the present one.
 // Every function here takes plain slices (C hands over a pointer, then how many elements) and numbers, requires nothing of them, keeps nothing and allocates nothing.
 //
-// The answers and the contracts are `answer_fields`, with their laws; what a reader must believe beside them: replies/specs/Replies, writings/specs/Writes, unpackings/specs/Unpacks, mend_law/specs/Mends, pair_checks/specs/Checks, reach_checks/specs/Checks, look_up/specs/LookUp, Listed, answers/specs/Sentences, shown/specs/Shown.
+// The answers and the contracts are `answer_fields`, with their laws; what a reader must believe beside them: replies/specs/Replies, writings/specs/Writes, unpackings/specs/Unpacks, mend_law/specs/Mends, pair_checks/specs/Checks, reach_checks/specs/Checks, look_up/specs/LookUp, Listed, answers/specs/Sentences, shown/specs/Shown, expected_law/specs/Tells.
 //
 // Left out: asking for a name (`rows::name_of`), since a part of a slice cannot be returned to C. There a name is `text + start`, of a packed network `bytes + start`, for `length` bytes.
 //
-// Rests on `answer_fields`, `edition`, `reader`, `writer`, `map_writer`, `packer`, `unpacker`, `mend`, `route`, `reach`, `look_up`, `answers`, `shown` and what they rest on.
+// Rests on `answer_fields`, `edition`, `reader`, `writer`, `map_writer`, `packer`, `unpacker`, `mend`, `route`, `reach`, `look_up`, `answers`, `shown`, `expected` and what they rest on.
 use answer_fields::Answer;
 use answer_fields::ListAnswer;
 use answer_fields::MendAnswer;
@@ -16,6 +16,8 @@ use answers::write_sentence;
 use counts::Counts;
 use counts::MissionCounts;
 use edition::edition_of;
+use expected::write_expected;
+use expected_law::ExpectedAnswer;
 use look_up::ListReply;
 use look_up::point_of_word;
 use look_up::points_of;
@@ -47,6 +49,8 @@ ghost use Rattle.look_up.specs.LookUp.{PointOf};
 ghost use Rattle.house_text.specs.House.{HouseRndf};
 ghost use Rattle.writings.specs.Writes.{MapOf, PackedOf};
 ghost use Rattle.shown.specs.Shown.{mission-first};
+ghost use Rattle.expected_law.specs.Tells.{AnswersExpected};
+ghost use Rattle.expected.specs.Words.{expectedWords};
 ghost use Rattle.answers.specs.Sentences.{sentence, WholeOrNone};
 ghost use Rattle.answer_fields.specs.Answers.{named, laid-out, taken, refused, rndf-answer, pair-answer, write-answer, write-mdf-answer, list-answer, mend-answer, AnswersRndf, AnswersPair, AnswersRoute, AnswersMission, AnswersWrite, AnswersWriteMdf, AnswersUnpack, AnswersMend, AnswersList};
 
@@ -623,4 +627,20 @@ pub extern "C" fn kastepuhm_is_mission(text: &[u8]) -> bool
     ensures { λ r. ⌜ r ≡ mission-first (now (text .entry)) ⌝ }
 {
     is_mission_first(text)
+}
+
+// What may stand where a text was refused, in the planners' words, without a line feed: of the refusal's file, line and number. Nothing is told of 2, 3 and 4, nor without a line; 19 where the output is too short.
+#[no_mangle]
+pub extern "C" fn kastepuhm_expected(
+    edition: u32,
+    rndf: &[u8],
+    mdf: &[u8],
+    file: u32,
+    line: u32,
+    number: u8,
+    out: &mut [u8],
+) -> ExpectedAnswer
+    ensures { λ r. ⌜ AnswersExpected expectedWords (edition-numbered edition) (now (rndf .entry)) (now (mdf .entry)) file line number (length (now (out .entry))) r (now (out .exit)) ⌝ }
+{
+    write_expected(edition_of(edition), rndf, mdf, file, line, number, out)
 }
