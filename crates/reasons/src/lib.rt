@@ -36,20 +36,12 @@ fn put_reason_from_5(out: &mut [u8], at: usize, number: u8) -> usize
         5 => put_bytes(
             out,
             at,
-            b"unknown statement, or one that may not stand here (also too few or too many items)",
+            b"unknown statement, or one that may not stand here",
         ),
         6 => put_bytes(out, at, b"a single option given again"),
         7 => put_bytes(out, at, b"wrong number of fields"),
-        8 => put_bytes(
-            out,
-            at,
-            b"a field is not of its kind: spelling, length of a name, boundary word",
-        ),
-        9 => put_bytes(
-            out,
-            at,
-            b"a value that is not permitted here: range, not the due identifier, a point of another part, minimum above maximum",
-        ),
+        8 => put_bytes(out, at, b"a field is not of its kind"),
+        9 => put_bytes(out, at, b"a value that is not permitted here"),
         _ => put_reason_from_10(out, at, number),
     }
 }
