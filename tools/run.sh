@@ -112,3 +112,16 @@ run() {
     [ -x "$emulator" ] || emulator=
     ${emulator:+"$emulator"} "$toolchain/lib/ld-linux-x86-64.so.2" --library-path "$toolchain/lib" "$program" "$@"
 }
+
+# is_refused ANSWER: it ends as a refusal does: with a number, with the caret under the line, or below these with what may stand there. That last line may itself end as an acceptance does, so this is asked
+# before it.
+is_refused() {
+    case $1 in
+        *"^
+may stand here: "* | *" (10)
+may stand here: "* | *"^
+without a limit: "*) ;;
+        *" ("*")" | *^) ;;
+        *) return 1 ;;
+    esac
+}

@@ -1,8 +1,8 @@
 // The planners' program: `yard_check RNDF`, or `yard_check RNDF MDF`, names of files. With `--edition 2006` in front the RNDF is read by the edition of December 6,
-// 2006 (L10), with `--edition 2007` or without by the present one. It answers on standard output: what is wrong, with the file's name, the line, the column, the reason and its number, and below it the line with a caret; or the rows used; or why a file could not be checked. What is wrong with the
-// RNDF is told before anything about the MDF. `run-check` builds and runs it, and adds a status.
+// 2006 (L10), with `--edition 2007` or without by the present one. It answers on standard output: what is wrong, with the file's name, the line, the column, the reason and its number, below it the line with a caret, and what may stand there; or the rows used; or why a file could not be checked. What is
+// wrong with the RNDF is told before anything about the MDF. `run-check` builds and runs it, and adds a status.
 //
-// Proved is what goes into the output: the sentence (crate `answers`) of what the readers (crate `reader`) reply to these bytes, specs/Tells, and that of a file
+// Proved is what goes into the output: the sentence (crate `answers`) of what the readers (crate `reader`) reply to these bytes and what may stand where they refuse them (crate `expected`), specs/Tells, and the sentence of a file
 // that can't be taken (crate `files`). That the bytes are the file's, and that the output is what is printed, no contract can say.
 //
 // Memory: there is no heap, a program can't raise its stack, and the usual stack has 8 MiB. So a text may have 1,048,576 bytes, and every table has the
@@ -12,6 +12,7 @@ use answers::put_pair_answer;
 use answers::put_rndf_answer;
 use answers::put_sentence;
 use edition::Edition;
+use expected::put_expected_line;
 use files::Loaded;
 use files::is_argument;
 use files::load;
@@ -20,18 +21,22 @@ use files::put_trouble;
 use libc::STDOUT_FILENO;
 use reader::read_pair;
 use reader::read_rndf;
+use refusal::Refusal;
+use replies::PairReply;
+use replies::RndfReply;
 use scan::same;
 use shown::first;
 ghost use Rattle.law.specs.Tables.{lent, mission-lent};
-ghost use Rattle.yard_check.specs.Tells.{TellsRndf, TellsPair};
+ghost use Rattle.output.specs.Pen.{pen, Wrote};
+ghost use Rattle.yard_check.specs.Tells.{may-stand, rndf-may-stand, pair-may-stand, TellsRndf, TellsPair};
 
 const MOST_BYTES: usize = 1048576;
 
 // The longest name that a system opens.
 const MOST_NAME: usize = 4095;
 
-// Room for two names (8,190 bytes) and ten counts with their words; or for one name, a reason, and a line of 513 bytes with what stands below it, four to each.
-const MOST_ANSWER: usize = 8704;
+// Room for two names (8,190 bytes) and ten counts with their words; or for one name, a reason, a line of 513 bytes with what stands below it, four to each, and what may stand there (512).
+const MOST_ANSWER: usize = 9216;
 
 // The words of each table: so many to a row, and as many rows as the shortest lines that give one leave room for, with their LFs. The shortest point
 // has 24 bytes (`1.1.1 0.000000 0.000000`), a lane around it 58, a segment around that 92, a zone with one point 102, a spot 66;
@@ -57,6 +62,61 @@ const GOAL_WORDS: usize = 32768;
 const LIMIT_WORDS: usize = 3 * 32768;
 
 // ## What is told of texts
+
+// What may stand where the pair was refused, on a line of its own.
+fn put_may_stand(
+    out: &mut [u8],
+    at: usize,
+    edition: Edition,
+    rndf: &[u8],
+    mdf: &[u8],
+    why: Refusal,
+) -> usize
+    ensures { λ r. ⌜ Wrote (pen (now (out .entry)) at) (may-stand edition (now (rndf .entry)) (now (mdf .entry)) why) (pen (now (out .exit)) r) ⌝ }
+{
+    put_expected_line(
+        out,
+        at,
+        edition,
+        rndf,
+        mdf,
+        why.file as u32,
+        why.line,
+        why.number,
+    )
+}
+
+// Of an RNDF alone; nothing where it is accepted.
+fn put_rndf_may_stand(
+    out: &mut [u8],
+    at: usize,
+    edition: Edition,
+    rndf: &[u8],
+    reply: RndfReply,
+) -> usize
+    ensures { λ r. ⌜ Wrote (pen (now (out .entry)) at) (rndf-may-stand edition (now (rndf .entry)) reply) (pen (now (out .exit)) r) ⌝ }
+{
+    match reply {
+        RndfReply::Accepted(_, _) => at,
+        RndfReply::Refused(why) => put_may_stand(out, at, edition, rndf, b"", why),
+    }
+}
+
+fn put_pair_may_stand(
+    out: &mut [u8],
+    at: usize,
+    edition: Edition,
+    rndf: &[u8],
+    mdf: &[u8],
+    reply: PairReply,
+) -> usize
+    ensures { λ r. ⌜ Wrote (pen (now (out .entry)) at) (pair-may-stand edition (now (rndf .entry)) (now (mdf .entry)) reply) (pen (now (out .exit)) r) ⌝ }
+{
+    match reply {
+        PairReply::Accepted(_, _, _, _) => at,
+        PairReply::Refused(why) => put_may_stand(out, at, edition, rndf, mdf, why),
+    }
+}
 
 // An RNDF without an MDF; `trouble` is the sentence of what is the matter with the MDF, if one is asked for.
 fn tell_rndf(
@@ -88,7 +148,8 @@ fn tell_rndf(
         stops,
         exits,
     );
-    put_rndf_answer(out, 0, name, text, trouble, reply)
+    let n = put_rndf_answer(out, 0, name, text, trouble, reply);
+    put_rndf_may_stand(out, n, edition, text, reply)
 }
 
 // An RNDF with its MDF.
@@ -127,7 +188,8 @@ fn tell_pair(
         goals,
         limits,
     );
-    put_pair_answer(out, 0, rndf_name, mdf_name, rndf, mdf, reply)
+    let n = put_pair_answer(out, 0, rndf_name, mdf_name, rndf, mdf, reply);
+    put_pair_may_stand(out, n, edition, rndf, mdf, reply)
 }
 
 // ## Files
@@ -289,7 +351,7 @@ fn say_help() {
         b"With --edition 2006 the RNDF is read by the edition of December 6, 2006; without, or with --edition 2007, by the present one.\n",
     );
     say(
-        b"The answer is what is wrong first, as FILE:LINE:COLUMN: reason (NUMBER) and that line with a caret under the column; or what the files hold.\n",
+        b"The answer is what is wrong first, as FILE:LINE:COLUMN: reason (NUMBER), that line with a caret under the column, and what may stand there; or what the files hold.\n",
     );
     say(
         b"A file may have up to 1,048,576 bytes. The status is 0 accepted, 1 refused, 2 not checked.\n",

@@ -9,6 +9,7 @@
 // this program; of one over 16,777,215 bytes the answer is known without it: 1.
 use answers::put_sentence;
 use edition::Edition;
+use expected::put_expected_line;
 use files::Loaded;
 use files::is_argument;
 use files::load;
@@ -27,8 +28,8 @@ const MOST_FORM: usize = MOST_BYTES;
 // The longest name that a system opens.
 const MOST_NAME: usize = 4095;
 
-// Room for a name, a reason, and a line of 513 bytes with what stands below it, four to each.
-const MOST_ANSWER: usize = 8704;
+// Room for a name, a reason, a line of 513 bytes with what stands below it, four to each, and what may stand there (512).
+const MOST_ANSWER: usize = 9216;
 
 // The words of each table, as in `yard_check`.
 const SEGMENT_WORDS: usize = 4 * (MOST_BYTES / 92 + 1);
@@ -53,9 +54,11 @@ fn say(s: &[u8]) {
     io::write_all(STDERR_FILENO, s);
 }
 
-fn say_refused(name: &[u8], text: &[u8], line: u32, number: u8, column: u32) {
+// As `yard_check` says it: the sentence, and what may stand there.
+fn say_refused(edition: Edition, name: &[u8], text: &[u8], line: u32, number: u8, column: u32) {
     let mut out = [0u8; MOST_ANSWER];
-    let n = put_sentence(&mut out, 0, name, text, line, number, column);
+    let a = put_sentence(&mut out, 0, name, text, line, number, column);
+    let n = put_expected_line(&mut out, a, edition, text, b"", 1, line, number);
     say(first(&out, n));
 }
 
@@ -132,7 +135,14 @@ fn show(edition: Edition, name: &[u8], text: &[u8]) {
     );
     match reply {
         WriteReply::Written(_, _, n) => print(&out, n),
-        WriteReply::Refused(why) => say_refused(name, text, why.line, why.number, why.column),
+        WriteReply::Refused(why) => say_refused(
+            edition,
+            name,
+            text,
+            why.line,
+            why.number,
+            why.column,
+        ),
     }
 }
 
@@ -141,7 +151,7 @@ fn with_name(edition: Edition, name: &[u8]) {
     let loaded = load(name, &mut text);
     match loaded {
         Loaded::Bytes(n) => show(edition, name, first(&text, n)),
-        Loaded::OverLimit => say_refused(name, b"", 0, 1, 0),
+        Loaded::OverLimit => say_refused(edition, name, b"", 0, 1, 0),
         _ => say_matter(name, loaded),
     }
 }

@@ -13,6 +13,7 @@ use answers::put_no_start;
 use answers::put_pair_answer;
 use answers::put_sentence;
 use edition::Edition;
+use expected::put_expected_line;
 use files::Loaded;
 use files::is_argument;
 use files::load;
@@ -46,8 +47,8 @@ const MOST_BYTES: usize = 524288;
 // The longest name that a system opens.
 const MOST_NAME: usize = 4095;
 
-// Room for two names (8,190 bytes) with the words around them; or for one name, a reason, and a line of 513 bytes with what stands below it, four to each.
-const MOST_ANSWER: usize = 8704;
+// Room for two names (8,190 bytes) with the words around them; or for one name, a reason, a line of 513 bytes with what stands below it, four to each, and what may stand there (512).
+const MOST_ANSWER: usize = 9216;
 
 // The words of each table, as in `yard_check`.
 const SEGMENT_WORDS: usize = 4 * (MOST_BYTES / 92 + 1);
@@ -277,11 +278,28 @@ fn say_over_limit(name: &[u8]) {
     say(first(&out, n));
 }
 
-// Of a pair that the reader refuses.
-fn say_refused(rndf_name: &[u8], mdf_name: &[u8], rndf: &[u8], mdf: &[u8], why: Refusal) {
+// Of a pair that the reader refuses, as `yard_check` says it: the sentence, and what may stand there.
+fn say_refused(
+    edition: Edition,
+    rndf_name: &[u8],
+    mdf_name: &[u8],
+    rndf: &[u8],
+    mdf: &[u8],
+    why: Refusal,
+) {
     let mut out = [0u8; MOST_ANSWER];
     let reply = PairReply::Refused(why);
-    let n = put_pair_answer(&mut out, 0, rndf_name, mdf_name, rndf, mdf, reply);
+    let a = put_pair_answer(&mut out, 0, rndf_name, mdf_name, rndf, mdf, reply);
+    let n = put_expected_line(
+        &mut out,
+        a,
+        edition,
+        rndf,
+        mdf,
+        why.file as u32,
+        why.line,
+        why.number,
+    );
     say(first(&out, n));
 }
 
@@ -391,7 +409,7 @@ fn judge(
     match found {
         Start::At(row) => drive(edition, rndf_name, mdf_name, start, rndf, mdf, &goals, row),
         Start::Nothing => say_no_start(rndf_name, start),
-        Start::Refused(why) => say_refused(rndf_name, mdf_name, rndf, mdf, why),
+        Start::Refused(why) => say_refused(edition, rndf_name, mdf_name, rndf, mdf, why),
     }
 }
 

@@ -10,6 +10,7 @@
 use answers::put_sentence;
 use compared::put_compared;
 use edition::Edition;
+use expected::put_expected_line;
 use files::Loaded;
 use files::is_argument;
 use files::load;
@@ -27,7 +28,7 @@ const MOST_WRITING: usize = MOST_BYTES + 1;
 // The longest name that a system opens.
 const MOST_NAME: usize = 4095;
 
-// Room for two names with a line of 512 bytes each; or for one, a reason, and a line of 513 bytes with what stands below it, four to each.
+// Room for two names with a line of 512 bytes each; or for one, a reason, a line of 513 bytes with what stands below it, four to each, and what may stand there (512).
 const MOST_ANSWER: usize = 9728;
 
 // The words of each table, as in `yard_check`.
@@ -59,9 +60,11 @@ fn say(s: &[u8]) {
     io::write_all(STDOUT_FILENO, s);
 }
 
-fn say_refused(name: &[u8], text: &[u8], line: u32, number: u8, column: u32) {
+// As `yard_check` says it: the sentence, and what may stand there.
+fn say_refused(edition: Edition, name: &[u8], text: &[u8], line: u32, number: u8, column: u32) {
     let mut out = [0u8; MOST_ANSWER];
-    let n = put_sentence(&mut out, 0, name, text, line, number, column);
+    let a = put_sentence(&mut out, 0, name, text, line, number, column);
+    let n = put_expected_line(&mut out, a, edition, text, b"", 1, line, number);
     say(first(&out, n));
 }
 
@@ -141,7 +144,7 @@ fn file_text(edition: Edition, out: &mut [u8; MOST_WRITING], name: &[u8], text: 
     match reply {
         WriteReply::Written(_, _, n) => Filed::Bytes(n as usize),
         WriteReply::Refused(why) => {
-            say_refused(name, text, why.line, why.number, why.column);
+            say_refused(edition, name, text, why.line, why.number, why.column);
             Filed::Told
         }
     }
@@ -153,7 +156,7 @@ fn file_name(edition: Edition, out: &mut [u8; MOST_WRITING], name: &[u8]) -> Fil
     match loaded {
         Loaded::Bytes(n) => file_text(edition, out, name, first(&text, n)),
         Loaded::OverLimit => {
-            say_refused(name, b"", 0, 1, 0);
+            say_refused(edition, name, b"", 0, 1, 0);
             Filed::Told
         }
         _ => {

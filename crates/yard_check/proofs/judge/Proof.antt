@@ -16,7 +16,7 @@ enum-known-loaded : tie.Need-enum-known-loaded
 enum-known-loaded c = c .match .keys1
 
 slice-aggregate-tell-pair : tie.Need-slice-aggregate-tell-pair
-slice-aggregate-tell-pair c = sym (length-replicate {0} {A = ℕ} 8704 0)
+slice-aggregate-tell-pair c = sym (length-replicate {0} {A = ℕ} 9216 0)
 
 first-requires : tie.Need-first-requires
 first-requires c κs = tt
@@ -25,7 +25,7 @@ tell-pair-requires : tie.Need-tell-pair-requires
 tell-pair-requires c κs = tt
 
 slice-aggregate-first : tie.Need-slice-aggregate-first
-slice-aggregate-first c = sym (c .before .before .tell-pair .kept .1 .0 ∙ length-replicate {0} {A = ℕ} 8704 0)
+slice-aggregate-first c = sym (c .before .before .tell-pair .kept .1 .0 ∙ length-replicate {0} {A = ℕ} 9216 0)
 
 first-requires-2 : tie.Need-first-requires-2
 first-requires-2 c κs = tt
@@ -34,13 +34,13 @@ say-requires : tie.Need-say-requires
 say-requires c κs = tt
 
 slice-aggregate-tell-rndf : tie.Need-slice-aggregate-tell-rndf
-slice-aggregate-tell-rndf c = sym (length-replicate {0} {A = ℕ} 8704 0)
+slice-aggregate-tell-rndf c = sym (length-replicate {0} {A = ℕ} 9216 0)
 
 tell-rndf-requires : tie.Need-tell-rndf-requires
 tell-rndf-requires c κs = tt
 
 slice-aggregate-first-2 : tie.Need-slice-aggregate-first-2
-slice-aggregate-first-2 c = sym (c .before .before .tell-rndf .kept .1 .0 ∙ length-replicate {0} {A = ℕ} 8704 0)
+slice-aggregate-first-2 c = sym (c .before .before .tell-rndf .kept .1 .0 ∙ length-replicate {0} {A = ℕ} 9216 0)
 
 first-requires-3 : tie.Need-first-requires-3
 first-requires-3 c κs = tt

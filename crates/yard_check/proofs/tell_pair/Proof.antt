@@ -1,10 +1,8 @@
 -- `yard_check::tell_pair` meets its contract: what the reader replies, and what is put of it. Assumes nothing.
+use mathlib.Core.Path.{_∙_}
+use Rattle.output.proofs.Writing.{_then_}
 use Rattle.yard_check.proofs.tell_pair.Statement.{statement}
 use Rattle.yard_check.proofs.tell_pair.Tie as tie
-use Rattle.yard_check.proofs.tell_pair.Reads as reads
-use Rattle.yard_check.proofs.tell_pair.Lts as lts
-use Rattle.answers.proofs.put_pair_answer.Reads as put-pair-answer-reads
-use Rattle.reader.proofs.read_pair.Reads as read-pair-reads
 
 read-pair-requires : tie.Need-read-pair-requires
 read-pair-requires c κs = tt
@@ -12,11 +10,17 @@ read-pair-requires c κs = tt
 put-pair-answer-requires : tie.Need-put-pair-answer-requires
 put-pair-answer-requires c κs = tt
 
+put-pair-may-stand-requires : tie.Need-put-pair-may-stand-requires
+put-pair-may-stand-requires c κs = tt
+
 same-length : tie.Need-same-length
-same-length c = c .before .before .put-pair-answer .kept .0
+same-length c = c .before .before .put-pair-may-stand .kept .0 ∙ c .before .before .before .before .before .before .put-pair-answer .kept .0
 
 returns : tie.Need-returns
-returns c = record { reply = c .before .before .before .before .read-pair .result; read = c .before .before .before .before .read-pair .ensures; told = c .before .before .put-pair-answer .ensures }
+returns c =
+    let a = c .before .before .before .before .before .before in
+    let w = a .before .before .read-pair in
+    record { reply = w .result; read = w .ensures; told = a .put-pair-answer .ensures then c .before .before .put-pair-may-stand .ensures }
 
 pub tell-pair-spec : {M : Type 1} → statement M
 tell-pair-spec =
@@ -24,5 +28,6 @@ tell-pair-spec =
     (tie.spec
     read-pair-requires
     put-pair-answer-requires
+    put-pair-may-stand-requires
     same-length
     returns)

@@ -11,13 +11,13 @@ use Rattle.yard_check.proofs.judge.Reads as judge-reads
 use Rattle.yard_check.proofs.put_matter.Reads as put-matter-reads
 
 slice-aggregate-put-matter : tie.Need-slice-aggregate-put-matter
-slice-aggregate-put-matter c = sym (length-replicate {0} {A = ℕ} 8704 0)
+slice-aggregate-put-matter c = sym (length-replicate {0} {A = ℕ} 9216 0)
 
 put-matter-requires : tie.Need-put-matter-requires
 put-matter-requires c κs = tt
 
 slice-aggregate-first : tie.Need-slice-aggregate-first
-slice-aggregate-first c = sym (c .before .before .put-matter .kept .0 ∙ length-replicate {0} {A = ℕ} 8704 0)
+slice-aggregate-first c = sym (c .before .before .put-matter .kept .0 ∙ length-replicate {0} {A = ℕ} 9216 0)
 
 first-requires : tie.Need-first-requires
 first-requires c κs = tt
