@@ -18,9 +18,9 @@
  * What it does
  *   It reads the text of a route network (RNDF) and of a mission (MDF) in the format of March 14, 2007, or in its edition of December 6, 2006, as document 01 narrows it, and either fills
  *   the tables that you lend and accepts, or refuses with file, line, one number and the column in that line. It also puts the house writing of either file, a map of the network, or the network packed for a radio, into an output
- *   that you lend, and fills the tables from a packed network; and it tells whether a route is drivable, and whether a mission can be driven at all; and it mends three kinds of trouble in an RNDF. That it does so for all texts, all packed bytes, all tables, all outputs, all
+ *   that you lend, and fills the tables from a packed network; and it tells whether a route is drivable, and whether a mission can be driven at all; and it mends three kinds of trouble in an RNDF; and of a refusal it tells what may stand there. That it does so for all texts, all packed bytes, all tables, all outputs, all
  *   routes and all work spaces is proved of its source (crates/yard, crates/replies/specs/Replies.antt, crates/writings/specs/Writes.antt, crates/unpackings/specs/Unpacks.antt, crates/mend_law/specs/Mends.antt, crates/pair_checks/specs/Checks.antt,
- *   crates/reach_checks/specs/Checks.antt); the compiler, the declarations below and your calls are not part of that proof.
+ *   crates/reach_checks/specs/Checks.antt, crates/expected_law/specs/Tells.antt); the compiler, the declarations below and your calls are not part of that proof.
  *
  * What you hand over
  *   Every slice is a pointer and then its length: how many elements it has, not how many rows or bytes. Nothing is asked of what a slice holds, and no length is too short:
@@ -41,7 +41,7 @@
  * Stack, as the kit's compiler builds it, on either machine (tests/stack.py [--target ..] measures it)
  *   kastepuhm_read_rndf, kastepuhm_write_rndf, kastepuhm_write_map, kastepuhm_write_packed and kastepuhm_read_packed take less than 8 KiB, kastepuhm_mend, kastepuhm_read_pair, kastepuhm_write_mdf, kastepuhm_check_route and
  *   kastepuhm_check_mission less than 12 KiB: 4,096 bytes of marks for each file, or for the packed bytes, are in it.
- *   kastepuhm_sentence takes less than 2 KiB, kastepuhm_point_of, kastepuhm_points_of and kastepuhm_is_mission a few words. Give a thread that calls them a stack to match.
+ *   kastepuhm_expected takes less than 8 KiB, marks included, kastepuhm_sentence less than 2 KiB, kastepuhm_point_of, kastepuhm_points_of and kastepuhm_is_mission a few words. Give a thread that calls them a stack to match.
  *
  * Time
  *   Linear in the length of the texts, of the lent tables and of the lent output; of kastepuhm_points_of, kastepuhm_check_route, kastepuhm_check_mission and kastepuhm_read_packed, see there.
@@ -58,7 +58,7 @@ extern "C" {
 #endif
 
 /* Of this header and the library that belongs to it; the same as in the file VERSION. */
-#define KASTEPUHM_VERSION "1.0.0"
+#define KASTEPUHM_VERSION "1.1.0"
 
 /* A longer text is refusal 1, and so are longer packed bytes. */
 #define KASTEPUHM_LONGEST_TEXT 16777215u
@@ -236,7 +236,7 @@ enum {
     KASTEPUHM_NO_SUCH_ID = 16,         /* the limit's id is not in the RNDF */
     KASTEPUHM_LIMIT_AGAIN = 17,        /* the limit's id was already given */
     KASTEPUHM_LIMIT_MISSING = 18,      /* some segment or zone has no limit (line: that of end_speed_limits) */
-    KASTEPUHM_OUTPUT_TOO_LONG = 19,    /* writers only, after all others: the writing is over 16,777,215 bytes, or longer than the lent output (file: the one written; line 0) */
+    KASTEPUHM_OUTPUT_TOO_LONG = 19,    /* writers only, after all others: the writing is over 16,777,215 bytes, or longer than the lent output (file: the one written, of kastepuhm_expected 0; line 0) */
     KASTEPUHM_LISTS_DIFFER = 20,       /* kastepuhm_points_of only: the two lists differ in length (file 0, line 0) */
     KASTEPUHM_NO_BEGINNING = 21,       /* 21 to 24: kastepuhm_check_route only, after all others, file 0: the route is empty, or does not begin at a declared start (line 0) */
     KASTEPUHM_NO_MOVE = 22,            /* a step of the route is no move, the first (line: the place in the route that it leads to, from 0) */
@@ -534,6 +534,7 @@ kastepuhm_list_answer kastepuhm_points_of(
  * `name` is what the text is to be called, `text` the one of the refusal's file (1 the RNDF, 2 the MDF), and line, number and column are the answer's. Every line ends with a line feed. A line or column that
  * is 0 is not named, and without a column no line is shown. Tabs are shown as they stand, other bytes outside 32 to 126 as \xNN, of a line over 512 bytes the first 513. Of a refusal with file 0, and of
  * kastepuhm_mend and kastepuhm_read_packed, hand over 0 for line and column: what the answer has for a line there is no line of a text. (11 of the work space is told as that of a table.)
+ * kastepuhm_expected has the line that `run-check` prints below it.
  *
  * It returns how many bytes the sentence has, and every byte of the output behind them is 0; or 0 where it does not fit (or has over 16,777,215 bytes), and then every byte of the output is 0. For a refusal
  * that this library gave, name_length + KASTEPUHM_SENTENCE_BYTES are enough (counted by hand, not proved).
@@ -545,6 +546,46 @@ uint32_t kastepuhm_sentence(
     uint32_t line,
     uint8_t number,
     uint32_t column,
+    uint8_t *out, size_t out_length);
+
+/* What kastepuhm_expected answers. */
+typedef struct kastepuhm_expected_answer {
+    uint32_t accepted;             /* 1: the words are in the output, or there are none; 0: refused */
+    uint32_t file;                 /* 0 */
+    uint32_t line;                 /* 0 */
+    uint32_t number;               /* KASTEPUHM_OUTPUT_TOO_LONG where refused; 0 where accepted */
+    uint32_t column;               /* 0 */
+    uint32_t length;               /* bytes put; 0 where nothing is told, and where refused */
+} kastepuhm_expected_answer;
+
+/*
+ * What may stand where a text was refused, in the words that `run-check` prints below the line with the caret:
+ *
+ *     may stand here: 1.1.1 to 1.1.2
+ *
+ * Hand over the edition and the texts that were refused, and file, line and number of the refusal as the reader answered it; of an RNDF alone an empty MDF (length 0). No table is needed: they are zero
+ * after a refusal. What is told is exactly what would have been right there, by the lines and fields before it (5 to 10 and 25) or by the network (12 to 18), and never what the line may have meant:
+ *   5, 6, 10, 25   every statement that would be taken there, the due one first: `lane 1.1, segment_name NAME`; where it is nothing but points, goals or limits, how many lines of them are still owed
+ *   7              the fields of that statement: `exit POINT ENTRY (3 fields)`
+ *   8, 9           the field at fault: `a number from 1 to 32768`, `1.1.1`, `double_yellow, solid_white, broken_white`, `0, or a number from 10 to 32768`
+ *   12, 13         the points that may be entries, part by part: `1.1.1 to 1.1.2`; for a checkpoint's number a sentence
+ *   14, 15         the RNDF's name; its checkpoint numbers
+ *   16, 17, 18     the ids that have no limit yet (18 begins `without a limit: ` and not `may stand here: `)
+ *   2, 3, 4        nothing, and nothing for a refusal without a line or with any other number: `length` is 0
+ * Small letters, digits and points are typed as they stand; capitals stand for a field. Of a list of parts, numbers or ids the first six are told, and how many more there are. docs/REFUSALS.md has
+ * examples. Of a file, line or number that these texts do not get, what is told may be about a line that is good, or nothing is told.
+ *
+ * Of a refusal that the reader gave the words are printable ASCII, and KASTEPUHM_EXPECTED_BYTES are enough for them (counted by hand, not proved). No line feed and no 0 byte ends them: take `length`; every
+ * byte of the output behind them is 0. Where they are longer than the output, the answer is refusal 19 with file 0, and every byte of the output is 0. The output may not overlap a text.
+ */
+#define KASTEPUHM_EXPECTED_BYTES 512
+kastepuhm_expected_answer kastepuhm_expected(
+    uint32_t edition,
+    const uint8_t *rndf, size_t rndf_length,
+    const uint8_t *mdf, size_t mdf_length,
+    uint32_t file,
+    uint32_t line,
+    uint8_t number,
     uint8_t *out, size_t out_length);
 
 /* Does the text begin as an MDF does? Its first field, behind blank lines and comments, is MDF_name. Nothing else is asked of it: it may be refused all the same. */

@@ -7,8 +7,8 @@
 # Compared: yard A as a pair and alone, yard A written untidily and with spaces for tabs (its house writing is the same), yard B (every table; its answer was worked out by hand), two damaged texts and a
 # missing file; these in the edition of December 6, 2006 too, with a boundary and a zone that it has not (request L10); routes over yard A (request L5), and whether its mission can be driven at all (request L13);
 # yards A and B packed and unpacked, with too few rows and with damaged bytes (request L11); yard A with each kind of trouble, mended (request L9); refusals in words, also into too few bytes, those of
-# tests/check_cases.py; whether texts begin as an MDF does; then document 01's cases and the edges of the summary program's rules (tests/summary_cases.py), and every reply and every lent number of the
-# oracle's corpus and of 2,000 random pairs (tests/callers/corpus.c). The caller in C++ prints no more than the first line of what the others print, but for refusals in words.
+# tests/check_cases.py; what may stand where texts were refused, also into just enough bytes and into one too few; whether texts begin as an MDF does; then document 01's cases and the edges of the summary program's rules (tests/summary_cases.py), and every reply and every lent number of the
+# oracle's corpus and of 2,000 random pairs (tests/callers/corpus.c). The caller in C++ prints no more than the first line of what the others print, but for refusals in words and what may stand there.
 # On the machine itself the crate's own tests are run too (cargo test).
 # The last line is 'N passed, M failed, K skipped'; the status is 0 if none failed.
 #
@@ -73,7 +73,7 @@ compare() {
     shift 2
     for caller in $callers; do
         cp "$expected" "$work/wanted"
-        case $caller,$* in caller_cpp,*\ tell*) ;; caller_cpp,*) head -n 1 "$expected" >"$work/wanted" ;; esac
+        case $caller,$* in caller_cpp,*\ tell* | caller_cpp,*\ expect*) ;; caller_cpp,*) head -n 1 "$expected" >"$work/wanted" ;; esac
         if ${emulator:+"$emulator"} "$work/$caller" "$@" >"$work/printed" && cmp -s "$work/wanted" "$work/printed"; then
             pass
         else
@@ -267,11 +267,13 @@ compare 'solid_yellow, mended, 2006' "$work/answer" --2006 "$work/yellow.rndf" m
 cd "$work"
 cp "$root/crates/yard_check/data/network.rndf" told.rndf
 sed 's/^network\.rndf:/told.rndf:/' "$root/crates/yard_check/stdout" >told
-bytes=$(wc -c <told)
+# the sentence alone, without what may stand there
+head -n 3 told >sentence
+bytes=$(wc -c <sentence)
 compare 'yard A with an entry 1.1.3, told' told told.rndf tell
 compare 'the same with its mission' told told.rndf "$a/mission.mdf" tell
 for cut in 0 1 "$((bytes - 1))" "$bytes" "$((bytes + 1))"; do
-    if [ "$cut" -lt "$bytes" ]; then echo 0; else echo "$bytes" && cat told; fi >answer
+    if [ "$cut" -lt "$bytes" ]; then echo 0; else echo "$bytes" && cat sentence; fi >answer
     compare "told into $cut bytes" answer told.rndf tell "$cut"
 done
 { head -c 600 /dev/zero | tr '\000' '\377' && echo; } >long.rndf
@@ -280,12 +282,64 @@ done
     awk 'BEGIN { for (i = 0; i < 513; i++) line = line "\\xff"; print line; printf "%2048s^\n", "" }'
 } >answer
 compare 'a long line, told' answer long.rndf tell
-printf 'goal.mdf:5:1: the goal is no checkpoint of the RNDF (15)\n8\n^\n' >answer
+printf 'goal.mdf:5:1: the goal is no checkpoint of the RNDF (15)\n8\n^\nmay stand here: a checkpoint of the RNDF: 7\n' >answer
 compare 'yard A with goal 8, told' answer "$a/network.rndf" goal.mdf tell
 echo accepted >answer
 compare 'yard A, told' answer "$a/network.rndf" "$a/mission.mdf" tell
 compare 'yard B, told' answer "$here/yard_b/network.rndf" tell
 compare 'no RNDF, told' missing none.rndf tell
+
+# what may stand where yard A was refused, and yard B: into enough bytes, into just enough and into one too few; nothing is told of bytes, and of what is accepted
+# expects WORDS [--2006] NETWORK [MISSION]
+expects() {
+    words=$1
+    shift
+    if [ -n "$words" ]; then printf '%d\n%s\n' "${#words}" "$words"; else echo 0; fi >answer
+    compare "'$words' of $*" answer "$@" expect 512
+    compare "'$words' into just enough bytes" answer "$@" expect "${#words}"
+    [ -n "$words" ] || return 0
+    echo 'refused 0 0 19 0' >answer
+    compare "'$words' into a byte too few" answer "$@" expect "$((${#words} - 1))"
+    compare "'$words' into no bytes" answer "$@" expect 0
+}
+# changed SCRIPT: yard A by this script of sed; ordered SCRIPT: its mission
+changed() { sed "$1" "$a/network.rndf" >changed.rndf; }
+ordered() { sed "$1" "$a/mission.mdf" >ordered.mdf; }
+may='may stand here:'
+changed '6s/.*/end_segment/' && expects "$may lane 1.1, segment_name NAME" changed.rndf
+expects "$may 1.1.3 LATITUDE LONGITUDE (1 such line is still owed)" count.rndf "$a/mission.mdf"
+changed '7s/2/1/' && expects "$may 1.1.1" changed.rndf
+changed '5s/1/0/' && expects "$may a number from 1 to 32768" changed.rndf
+changed '5s/1/one/' && expects "$may a number from 1 to 32768" changed.rndf
+changed '8s/checkpoint/chekpoint/'
+expects "$may 1.1.1 LATITUDE LONGITUDE, lane_width NUMBER, left_boundary BOUNDARY, right_boundary BOUNDARY, checkpoint POINT NUMBER, stop POINT, exit POINT ENTRY" changed.rndf
+expects "$may 1.1.1 LATITUDE LONGITUDE, left_boundary BOUNDARY, right_boundary BOUNDARY, checkpoint POINT NUMBER, stop POINT, exit POINT ENTRY" again.rndf
+changed "9s/${tab}1.1.1//" && expects "$may exit POINT ENTRY (3 fields)" changed.rndf
+changed '12s/$/ x/' && expects "$may end_lane (1 field)" changed.rndf
+changed "9s/.*/exit${tab}1.2.2${tab}1.1/" && expects "$may X.Y.Z with X from 1 to 32768, Y from 0 to 32768, Z from 1 to 32768" changed.rndf
+changed '10s/45.000000/45.00000/' && expects "$may a latitude from -90.000000 to 90.000000, six digits behind the point" changed.rndf
+changed '10{h;d};11G' && expects "$may 1.1.1" changed.rndf
+changed '14d' && expects "$may end_file" changed.rndf
+expects "$may nothing but blank lines and comments, for the file has ended" behind.rndf
+expects "$may 1.1.1 to 1.1.2" entry.rndf "$a/mission.mdf"
+changed '8{p}' && expects "$may a number from 1 to 32768 that no line before declares" changed.rndf
+ordered "9s/.*/1${tab}10${tab}5/" && expects "$may 0, or a number from 10 to 32768" "$a/network.rndf" ordered.mdf
+ordered '2s/yard_a/yard_b/' && expects "$may yard_a" "$a/network.rndf" ordered.mdf
+expects "$may a checkpoint of the RNDF: 7" "$a/network.rndf" goal.mdf
+ordered '9s/1/2/' && expects "$may an id that has no limit yet: 1" "$a/network.rndf" ordered.mdf
+ordered '8s/1/2/;9{p}' && expects "$may nothing, for every segment and zone has its limit" "$a/network.rndf" ordered.mdf
+expects "$may double_yellow, solid_white, broken_white" --2006 yellow.rndf
+expects "$may a number from 1 to 32768" --2006 "$here/yard_b/network.rndf" "$here/yard_b/mission.mdf"
+sed "s/^num_speed_limits${tab}4/num_speed_limits${tab}2/; /^3${tab}/d; /^4${tab}/d" "$here/yard_b/mission.mdf" >ordered.mdf
+expects 'without a limit: 3, 4' "$here/yard_b/network.rndf" ordered.mdf
+changed '3s/$/\\/' && expects '' changed.rndf
+expects '' long.rndf
+echo accepted >answer
+compare 'yard A, and nothing else may stand there' answer "$a/network.rndf" "$a/mission.mdf" expect
+echo "$may end_file" >answer
+changed '14d'
+compare 'yard A without end_file, what may stand there' answer changed.rndf expect
+compare 'no RNDF, and what may stand there' missing none.rndf expect
 # whether a text begins as an MDF does
 printf '\n/* round 1 */\r\n \tMDF_name round' >first.mdf
 printf 'MDF_names\tround\n' >almost.mdf

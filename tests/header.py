@@ -9,7 +9,7 @@ import sys
 
 ROOT = os.path.dirname(os.path.dirname(os.path.abspath(__file__)))
 TYPES = {"uint32_t": "u32", "int32_t": "i32", "uint8_t": "u8", "size_t": "usize", "bool": "bool", "kastepuhm_name": "Name", "kastepuhm_answer": "Answer", "kastepuhm_write_answer": "WriteAnswer",
-         "kastepuhm_mend_answer": "MendAnswer", "kastepuhm_list_answer": "ListAnswer"}
+         "kastepuhm_mend_answer": "MendAnswer", "kastepuhm_list_answer": "ListAnswer", "kastepuhm_expected_answer": "ExpectedAnswer"}
 EDITIONS = {"MARCH_2007": "March2007", "DECEMBER_2006": "December2006"}
 
 

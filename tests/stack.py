@@ -25,7 +25,7 @@ MARKS = 4096
 TEXTS, TABLES = 2 * 8192, 15360
 LIBRARY = {"kastepuhm_read_rndf": 8 * 1024, "kastepuhm_read_pair": 12 * 1024, "kastepuhm_write_rndf": 8 * 1024, "kastepuhm_write_map": 8 * 1024, "kastepuhm_write_mdf": 12 * 1024,
            "kastepuhm_check_route": 12 * 1024, "kastepuhm_check_mission": 12 * 1024, "kastepuhm_write_packed": 8 * 1024, "kastepuhm_read_packed": 8 * 1024,
-           "kastepuhm_mend": 12 * 1024, "kastepuhm_sentence": 2 * 1024, "kastepuhm_is_mission": 64,
+           "kastepuhm_mend": 12 * 1024, "kastepuhm_expected": 8 * 1024, "kastepuhm_sentence": 2 * 1024, "kastepuhm_is_mission": 64,
            "kastepuhm_point_of": 64, "kastepuhm_points_of": 128}
 SUMMARY = 40 * 1024
 THIS = {"x86_64": "x86-64", "aarch64": "aarch64", "arm64": "aarch64"}.get(os.uname().machine)

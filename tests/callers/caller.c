@@ -4,9 +4,10 @@
  * caller NETWORK MISSION drive START ROWS whether the mission can be driven from there at all, with so many rows of work space (request L13);
  * caller NETWORK pack the bytes of the packed network, and caller FILE unpack [ROWS ..] what stands in the tables of such bytes, with so many rows lent of the first tables (request L11);
  * caller NETWORK mend [ROWS [BYTES]] the lines that were mended, and the mended text, with so many rows of the list and so many bytes of the output lent (request L9);
- * caller NETWORK [MISSION] tell [BYTES] "accepted" or the refusal in words (with BYTES: how many bytes they have, and the first BYTES of them); caller FILE kind whether it begins as an MDF does.
+ * caller NETWORK [MISSION] tell [BYTES] "accepted" or the refusal in words, and below them what may stand there (with BYTES: how many bytes the words have, and the first BYTES of them, and nothing below
+ * them); caller NETWORK [MISSION] expect [BYTES] what may stand there alone, with so many bytes lent: how many bytes were put and these, or the refusal; caller FILE kind whether it begins as an MDF does.
  * With --2006 before all these words the texts are read in the edition of December 6, 2006 (request L10), else in the present one.
- * Texts up to 8,192 bytes, 256 points and 128 rows of every other table, as the summary program has them; all of it lies in this program's own memory. `tell` takes texts of any length and lends what
+ * Texts up to 8,192 bytes, 256 points and 128 rows of every other table, as the summary program has them; all of it lies in this program's own memory. `tell` and `expect` take texts of any length and lend what
  * they need. Most calls are those that take the tables in a struct; read_rndf and write_mdf are called plainly, so that both ways are tried.
  */
 #include "kastepuhm.h"
@@ -22,6 +23,7 @@ _Static_assert(sizeof(kastepuhm_list_answer) == 5 * sizeof(uint32_t), "a list's 
 _Static_assert(KASTEPUHM_GOAL_STRIDE == 1, "a goal's row is its number");
 _Static_assert(sizeof(kastepuhm_write_answer) == 30 * sizeof(uint32_t), "a writer's answer has one word more");
 _Static_assert(sizeof(kastepuhm_mend_answer) == 7 * sizeof(uint32_t), "the mending tool's answer has 7 words");
+_Static_assert(sizeof(kastepuhm_expected_answer) == 6 * sizeof(uint32_t), "what may stand there is answered in 6 words");
 _Static_assert(KASTEPUHM_TABLES_WORDS(1) == KASTEPUHM_SEGMENT_STRIDE + KASTEPUHM_LANE_STRIDE + KASTEPUHM_ZONE_STRIDE + KASTEPUHM_SPOT_STRIDE + KASTEPUHM_POINT_STRIDE + KASTEPUHM_CHECKPOINT_STRIDE
                + KASTEPUHM_STOP_STRIDE + KASTEPUHM_EXIT_STRIDE, "eight rows, one of each table");
 _Static_assert(KASTEPUHM_MISSION_TABLES_WORDS(1) == KASTEPUHM_GOAL_STRIDE + KASTEPUHM_LIMIT_STRIDE, "two rows, one of each table");
@@ -370,8 +372,44 @@ static uint8_t *load_whole(const char *path, size_t *length)
     return text;
 }
 
-/* The words are the names of one or two files; bytes is how many are lent for the sentence, -1 for enough. Nothing here is as large as the texts may be: what they need is lent. */
-static void print_told(char **words, int count, long bytes)
+/* Whether the output ends where it was lent, and is zero behind what was put; if not, that is printed. */
+static void print_behind(const uint8_t *out, size_t put, size_t room)
+{
+    if (out[room] != 0xAA)
+        printf("and the byte behind the output was written\n");
+    for (; put < room; put++)
+        if (out[put] != 0) {
+            printf("and the output is not zero behind it\n");
+            break;
+        }
+}
+
+/* What may stand where these texts were refused. With as many bytes lent as are enough (-1): a line of its own, or none where nothing is told; with others: the answer too. */
+static void print_expected(uint8_t *const text[2], const size_t length[2], const kastepuhm_answer *why, long bytes)
+{
+    static const uint8_t none = 0;
+    size_t room = bytes < 0 ? KASTEPUHM_EXPECTED_BYTES : (size_t)bytes;
+    uint8_t *out = malloc(room + 1);
+    kastepuhm_expected_answer e;
+    if (out == NULL) {
+        puts("no memory");
+        return;
+    }
+    memset(out, 0xAA, room + 1);
+    e = kastepuhm_expected(edition, text[0], length[0], text[1] != NULL ? text[1] : &none, length[1], why->file, why->line, (uint8_t)why->number, out, room);
+    if (!e.accepted)
+        printf("refused %" PRIu32 " %" PRIu32 " %" PRIu32 " %" PRIu32 "\n", e.file, e.line, e.number, e.column);
+    else if (bytes >= 0)
+        printf("%" PRIu32 "\n", e.length);
+    if (e.length > 0)
+        printf("%.*s\n", (int)e.length, (const char *)out);
+    print_behind(out, e.length, room);
+    free(out);
+}
+
+/* The words are the names of one or two files; bytes is how many are lent for the sentence, or with `expect` for what may stand there, -1 for enough. Nothing here is as large as the texts may be: what they
+   need is lent. */
+static void print_told(char **words, int count, int expect, long bytes)
 {
     size_t length[2] = {0, 0}, mission_rows = 0, rows, room, told;
     uint8_t *text[2] = {NULL, NULL}, *sentence;
@@ -406,6 +444,12 @@ static void print_told(char **words, int count, long bytes)
         puts("accepted");
         return;
     }
+    if (expect) {
+        print_expected(text, length, &a, bytes);
+        free(text[0]);
+        free(text[1]);
+        return;
+    }
     i = a.file == 2;
     room = bytes < 0 ? strlen(words[i]) + KASTEPUHM_SENTENCE_BYTES : (size_t)bytes;
     sentence = malloc(room + 1);
@@ -418,13 +462,9 @@ static void print_told(char **words, int count, long bytes)
     if (bytes >= 0)
         printf("%lu\n", (unsigned long)told);
     fwrite(sentence, 1, told, stdout);
-    if (sentence[room] != 0xAA)
-        printf("and the byte behind the output was written\n");
-    for (; told < room; told++)
-        if (sentence[told] != 0) {
-            printf("and the output is not zero behind it\n");
-            break;
-        }
+    print_behind(sentence, told, room);
+    if (bytes < 0)
+        print_expected(text, length, &a, -1);
     free(sentence);
     free(text[0]);
     free(text[1]);
@@ -441,17 +481,14 @@ int main(int count, char **words)
         words++;
         count--;
     }
-    if ((count == 3 || count == 4) && strcmp(words[2], "tell") == 0) {
-        print_told(words + 1, 1, count == 4 ? atol(words[3]) : -1);
-        return 0;
-    }
-    if ((count == 4 || count == 5) && strcmp(words[3], "tell") == 0) {
-        print_told(words + 1, 2, count == 5 ? atol(words[4]) : -1);
-        return 0;
-    }
+    for (int files = 1; files <= 2; files++)
+        if ((count == files + 2 || count == files + 3) && (strcmp(words[files + 1], "tell") == 0 || strcmp(words[files + 1], "expect") == 0)) {
+            print_told(words + 1, files, strcmp(words[files + 1], "expect") == 0, count == files + 3 ? atol(words[files + 2]) : -1);
+            return 0;
+        }
     drive = count > 3 && strcmp(words[3], "drive") == 0;
     if (count < 2 || count > 4 + STEPS || (drive && count != 6)) {
-        fputs("usage: caller [--2006] NETWORK [MISSION [START [POINT ..] | drive START ROWS | tell [BYTES]] | tell [BYTES] | kind | pack | unpack [ROWS ..] | mend [ROWS [BYTES]]]\n", stderr);
+        fputs("usage: caller [--2006] NETWORK [MISSION [START [POINT ..] | drive START ROWS | tell [BYTES] | expect [BYTES]] | tell [BYTES] | expect [BYTES] | kind | pack | unpack [ROWS ..] | mend [ROWS [BYTES]]]\n", stderr);
         return 2;
     }
     if (!load(words[1], rndf, &rndf_length))

@@ -1,4 +1,4 @@
-// A worked caller in C++, over the functions that take the tables in a struct: it takes the words of caller.c and prints the first line of what that prints, and all of what `tell` prints.
+// A worked caller in C++, over the functions that take the tables in a struct: it takes the words of caller.c and prints the first line of what that prints, and all of what `tell` and `expect` print.
 // The tables are one vector: as many rows as a text has lines, but for the limits of the summary program (8,192 bytes, 256 points, 128 rows of every other table) where caller.c has them.
 #include "kastepuhm.h"
 
@@ -80,7 +80,23 @@ void print(const kastepuhm_answer &a, const Tables &t)
         std::puts("and the tables are not as they should be");
 }
 
-void tell(const std::vector<std::string> &names, std::optional<std::size_t> bytes)
+// What may stand where these texts were refused: a line of its own, or none where nothing is told; with so many bytes lent, the answer too.
+void expect(const std::vector<Bytes> &texts, const kastepuhm_answer &why, std::optional<std::size_t> bytes)
+{
+    const Bytes &rndf = texts.front(), none, &mdf = texts.size() == 2 ? texts.back() : none;
+    Bytes out(bytes.value_or(KASTEPUHM_EXPECTED_BYTES) + 1, 0xAA);
+    const kastepuhm_expected_answer e = kastepuhm_expected(edition, at(rndf), rndf.size(), at(mdf), mdf.size(), why.file, why.line, static_cast<std::uint8_t>(why.number), out.data(), out.size() - 1);
+    if (e.accepted == 0)
+        std::printf("refused %u %u %u %u\n", e.file, e.line, e.number, e.column);
+    else if (bytes)
+        std::printf("%u\n", e.length);
+    if (e.length > 0)
+        std::printf("%s\n", std::string(out.begin(), out.begin() + e.length).c_str());
+    if (out.back() != 0xAA || std::any_of(out.begin() + e.length, out.end() - 1, [](std::uint8_t byte) { return byte != 0; }))
+        std::puts("and the output is not as it should be");
+}
+
+void tell(const std::vector<std::string> &names, bool only_expect, std::optional<std::size_t> bytes)
 {
     std::vector<Bytes> texts;
     for (const std::string &name : names) {
@@ -99,6 +115,8 @@ void tell(const std::vector<std::string> &names, std::optional<std::size_t> byte
         std::puts("accepted");
         return;
     }
+    if (only_expect)
+        return expect(texts, a, bytes);
     const std::size_t i = a.file == 2 ? 1 : 0;
     Bytes out(bytes.value_or(names[i].size() + KASTEPUHM_SENTENCE_BYTES) + 1);
     const std::size_t told = kastepuhm_sentence(reinterpret_cast<const std::uint8_t *>(names[i].data()), names[i].size(), at(texts[i]), texts[i].size(),
@@ -106,6 +124,8 @@ void tell(const std::vector<std::string> &names, std::optional<std::size_t> byte
     if (bytes)
         std::printf("%zu\n", told);
     std::fwrite(out.data(), 1, told, stdout);
+    if (!bytes)
+        expect(texts, a, std::nullopt);
 }
 
 void pack(const Bytes &text)
@@ -154,9 +174,9 @@ int main(int count, char **arguments)
         return 2;
     }
     for (std::size_t files : {1, 2})
-        if (is(files, "tell")) {
+        if (is(files, "tell") || is(files, "expect")) {
             const std::vector<std::size_t> bytes = numbers(words, files + 1);
-            tell({words.begin(), words.begin() + static_cast<std::ptrdiff_t>(files)}, bytes.empty() ? std::nullopt : std::optional<std::size_t>(bytes[0]));
+            tell({words.begin(), words.begin() + static_cast<std::ptrdiff_t>(files)}, is(files, "expect"), bytes.empty() ? std::nullopt : std::optional<std::size_t>(bytes[0]));
             return 0;
         }
     const bool alone = words.size() == 1 || is(1, "kind") || is(1, "pack") || is(1, "unpack") || is(1, "mend");

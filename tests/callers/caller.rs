@@ -1,7 +1,7 @@
 //! A worked caller in Rust, over the crate in bindings/rust: `caller NETWORK [MISSION]` reads an RNDF, alone or with its MDF, and prints the summary program's line, what stands in the tables, and
-//! then the length and first line of the house writing, and the network's map; `caller NETWORK MISSION START [POINT ..]` prints whether the route of these points is drivable from there (request L5), `caller NETWORK MISSION drive START ROWS` whether the mission can be driven from there at all, with so many rows of work space (request L13), `caller NETWORK pack` the bytes of the packed network, and `caller FILE unpack [ROWS ..]` what stands in the tables of such bytes, with so many rows lent of the first tables (request L11), and `caller NETWORK mend [ROWS [BYTES]]` the lines that were mended, and the mended text, with so many rows of the list and so many bytes of the output lent (request L9); `caller NETWORK [MISSION] tell [BYTES]` "accepted" or the refusal in words (with BYTES: how many bytes they have, and the first BYTES of them), `caller FILE kind` whether it begins as an MDF does. With `--2006` before all these words
+//! then the length and first line of the house writing, and the network's map; `caller NETWORK MISSION START [POINT ..]` prints whether the route of these points is drivable from there (request L5), `caller NETWORK MISSION drive START ROWS` whether the mission can be driven from there at all, with so many rows of work space (request L13), `caller NETWORK pack` the bytes of the packed network, and `caller FILE unpack [ROWS ..]` what stands in the tables of such bytes, with so many rows lent of the first tables (request L11), and `caller NETWORK mend [ROWS [BYTES]]` the lines that were mended, and the mended text, with so many rows of the list and so many bytes of the output lent (request L9); `caller NETWORK [MISSION] tell [BYTES]` "accepted" or the refusal in words, and below them what may stand there (with BYTES: how many bytes the words have, and the first BYTES of them, and nothing below them), `caller NETWORK [MISSION] expect [BYTES]` what may stand there alone, with so many bytes lent, `caller FILE kind` whether it begins as an MDF does. With `--2006` before all these words
 //! the texts are read in the edition of December 6, 2006 (request L10), else in the present one. include/kastepuhm.h says what every column and number means.
-//! Texts up to 8,192 bytes, 256 points and 128 rows of every other table, as the summary program has them; `tell` takes texts of any length and lends what they need.
+//! Texts up to 8,192 bytes, 256 points and 128 rows of every other table, as the summary program has them; `tell` and `expect` take texts of any length and lend what they need.
 use std::io::Read;
 
 use kastepuhm::{Answer, Edition, MissionTables, Name, Refusal, Tables, WriteAnswer};
@@ -265,8 +265,27 @@ fn run(edition: Edition, network: &str, mission: Option<&str>) -> Result<(), &'s
     Ok(())
 }
 
-/// One or two files of any length; `bytes` is how many are lent for the sentence.
-fn run_tell(edition: Edition, files: &[String], bytes: Option<usize>) -> Result<(), &'static str> {
+/// What may stand where these texts were refused: a line of its own, or none where nothing is told; with so many bytes lent, the answer too.
+fn print_expected(edition: Edition, texts: &[Vec<u8>], why: Refusal, bytes: Option<usize>) {
+    let mdf = texts.get(1).map_or(&[][..], Vec::as_slice);
+    let mut out = vec![0xAA; bytes.unwrap_or(kastepuhm::EXPECTED_BYTES)];
+    let e = kastepuhm::expected(edition, &texts[0], mdf, why, &mut out);
+    if let Some(why) = e.refusal() {
+        print_refusal(why);
+    } else if bytes.is_some() {
+        println!("{}", e.length);
+    }
+    let (put, behind) = out.split_at(e.length as usize);
+    if !put.is_empty() {
+        println!("{}", String::from_utf8_lossy(put));
+    }
+    if behind.iter().any(|&byte| byte != 0) {
+        println!("and the output is not zero behind it");
+    }
+}
+
+/// One or two files of any length; `bytes` is how many are lent for the sentence, or with `expect` for what may stand there.
+fn run_tell(edition: Edition, files: &[String], expect: bool, bytes: Option<usize>) -> Result<(), &'static str> {
     let texts = files.iter().map(|file| load_whole(file)).collect::<Result<Vec<_>, _>>()?;
     let rows = kastepuhm::rows_for(&texts[0]);
     let mut words = vec![0; Tables::words(rows)];
@@ -284,6 +303,10 @@ fn run_tell(edition: Edition, files: &[String], bytes: Option<usize>) -> Result<
         println!("accepted");
         return Ok(());
     };
+    if expect {
+        print_expected(edition, &texts, why, bytes);
+        return Ok(());
+    }
     let i = usize::from(why.file == 2);
     let name = files[i].as_bytes();
     let mut out = vec![0; bytes.unwrap_or(name.len() + kastepuhm::SENTENCE_BYTES)];
@@ -293,6 +316,9 @@ fn run_tell(edition: Edition, files: &[String], bytes: Option<usize>) -> Result<
     }
     out.truncate(told);
     print!("{}", String::from_utf8_lossy(&out));
+    if bytes.is_none() {
+        print_expected(edition, &texts, why, None);
+    }
     Ok(())
 }
 
@@ -308,9 +334,9 @@ fn main() {
         edition = Edition::December2006;
         words.remove(1);
     }
-    if let Some(at) = words.iter().position(|word| word == "tell").filter(|&at| at == 2 || at == 3) {
+    if let Some(at) = words.iter().position(|word| word == "tell" || word == "expect").filter(|&at| at == 2 || at == 3) {
         let bytes = words.get(at + 1).and_then(|word| word.parse().ok());
-        if let Err(why) = run_tell(edition, &words[1..at], bytes) {
+        if let Err(why) = run_tell(edition, &words[1..at], words[at] == "expect", bytes) {
             println!("{why}");
         }
         return;
@@ -325,7 +351,7 @@ fn main() {
     let mend = words.len() >= 3 && words[2] == "mend";
     let numbers: Vec<u32> = words.iter().skip(3).filter_map(|word| word.parse().ok()).collect();
     if words.len() < 2 || (words.len() > 3 && numbers.len() + 3 != words.len()) {
-        eprintln!("usage: caller [--2006] NETWORK [MISSION [START [POINT ..] | drive START ROWS | tell [BYTES]] | tell [BYTES] | kind | pack | unpack [ROWS ..] | mend [ROWS [BYTES]]]");
+        eprintln!("usage: caller [--2006] NETWORK [MISSION [START [POINT ..] | drive START ROWS | tell [BYTES] | expect [BYTES]] | tell [BYTES] | expect [BYTES] | kind | pack | unpack [ROWS ..] | mend [ROWS [BYTES]]]");
         std::process::exit(2);
     }
     let done = match numbers.split_first() {

@@ -1,5 +1,5 @@
 //! The yard reader for Rust: route networks (RNDF) and missions (MDF) are read by a proved library into tables that you lend, and either accepted or refused with file, line, one number and the column.
-//! It also writes them in the house writing, as a map (GeoJSON) and packed for a radio, unpacks, mends three kinds of trouble, and tells whether a route or a mission can be driven.
+//! It also writes them in the house writing, as a map (GeoJSON) and packed for a radio, unpacks, mends three kinds of trouble, tells whether a route or a mission can be driven, and of a refusal what may stand there.
 //!
 //! The library is `libyard.a`, which `tools/library.sh` proves and builds for x86-64 and aarch64 Linux. `include/kastepuhm.h` says what every column and every number means; the constants here have
 //! its names without `KASTEPUHM_`. What is proved is the library's source; that the declarations here fit it is not (tests/header.py holds them to the header, tests/callers.sh runs them).
@@ -8,7 +8,7 @@
 //! refusal 11, an output that is too short refusal 19. Of the C library, `memset` is needed.
 //!
 //! ```
-//! use kastepuhm::{read_rndf, rows_for, sentence, Edition, Tables};
+//! use kastepuhm::{expected, read_rndf, rows_for, sentence, Edition, Tables};
 //!
 //! let text = b"RNDF_name\tYard\nnum_segments\t1\nnum_zones\t0\nsegment\t1\nnum_lanes\t1\nlane\t1.1\nnum_waypoints\t1\n1.1.1\t58.377983\t26.729038\nend_lane\nend_segment\nend_file\n";
 //! let rows = rows_for(text);
@@ -25,12 +25,14 @@
 //! let mut out = [0; 200];
 //! let length = sentence(b"yard.rndf", damaged, why, &mut out);
 //! assert_eq!(&out[..length], b"yard.rndf:11: the text ends before `end_file` (10)\n");
+//! let told = expected(Edition::March2007, damaged, b"", why, &mut out);
+//! assert_eq!(&out[..told.length as usize], b"may stand here: end_file");
 //! ```
 #![no_std]
 #![warn(missing_docs)]
 
 /// The version of this crate and of the library that belongs to it.
-pub const VERSION: &str = "1.0.0";
+pub const VERSION: &str = "1.1.0";
 
 /// The edition of the format. What the older one accepts, the present one accepts with the same tables.
 #[derive(Clone, Copy, Debug, PartialEq, Eq)]
@@ -174,7 +176,7 @@ pub const NO_SUCH_ID: u32 = 16;
 pub const LIMIT_AGAIN: u32 = 17;
 /// A refusal: some segment or zone has no limit (line: that of end_speed_limits).
 pub const LIMIT_MISSING: u32 = 18;
-/// A refusal: writers only, after all others: the writing is over 16,777,215 bytes, or longer than the lent output (file: the one written; line 0).
+/// A refusal: writers only, after all others: the writing is over 16,777,215 bytes, or longer than the lent output (file: the one written, of expected 0; line 0).
 pub const OUTPUT_TOO_LONG: u32 = 19;
 /// A refusal: points_of only: the two lists differ in length (file 0, line 0).
 pub const LISTS_DIFFER: u32 = 20;
@@ -225,6 +227,8 @@ pub const NO_WIDTH: u32 = 65_535;
 pub const NO_POINT: u32 = 4_294_967_295;
 /// So many bytes and those of the name are enough for the [`sentence`] of a refusal that this library gave (counted by hand, not proved).
 pub const SENTENCE_BYTES: usize = 4_608;
+/// So many bytes are enough for what is [`expected`] in place of what this library refused (counted by hand, not proved).
+pub const EXPECTED_BYTES: usize = 512;
 
 /// A name: its start and length in the text, or the packed bytes, that were lent; a missing one is 0, 0.
 #[repr(C)]
@@ -390,6 +394,36 @@ pub struct ListAnswer {
 }
 
 impl ListAnswer {
+    /// Whether it was accepted.
+    pub fn is_accepted(&self) -> bool {
+        self.accepted != 0
+    }
+
+    /// Why it was refused, if it was.
+    pub fn refusal(&self) -> Option<Refusal> {
+        refusal(self.accepted, self.file, self.line, self.number, self.column)
+    }
+}
+
+/// What is answered to the question what may stand where a text was refused.
+#[repr(C)]
+#[derive(Clone, Copy, Debug, PartialEq, Eq)]
+pub struct ExpectedAnswer {
+    /// 1: accepted, 0: refused.
+    pub accepted: u32,
+    /// 0.
+    pub file: u32,
+    /// 0.
+    pub line: u32,
+    /// Of a refusal: [`OUTPUT_TOO_LONG`].
+    pub number: u32,
+    /// 0.
+    pub column: u32,
+    /// Bytes put; 0 where nothing is told, and where refused.
+    pub length: u32,
+}
+
+impl ExpectedAnswer {
     /// Whether it was accepted.
     pub fn is_accepted(&self) -> bool {
         self.accepted != 0
@@ -662,6 +696,16 @@ extern "C" {
         out: *mut u8, out_length: usize,
     ) -> u32;
 
+    fn kastepuhm_expected(
+        edition: u32,
+        rndf: *const u8, rndf_length: usize,
+        mdf: *const u8, mdf_length: usize,
+        file: u32,
+        line: u32,
+        number: u8,
+        out: *mut u8, out_length: usize,
+    ) -> ExpectedAnswer;
+
     fn kastepuhm_is_mission(
         text: *const u8, text_length: usize,
     ) -> bool;
@@ -772,6 +816,26 @@ pub fn sentence(name: &[u8], text: &[u8], why: Refusal, out: &mut [u8]) -> usize
     let number = u8::try_from(why.number).unwrap_or(0);
     let (line, column) = if why.file == 0 { (0, 0) } else { (why.line, why.column) };
     unsafe { kastepuhm_sentence(name.as_ptr(), name.len(), text.as_ptr(), text.len(), line, number, column, out.as_mut_ptr(), out.len()) as usize }
+}
+
+/// What may stand where these texts were refused, in the words that `run-check` prints below the line with the caret; of an RNDF alone the MDF is empty. `length` bytes of the output are the words, without a
+/// line feed, and the others zero; `length` is 0 where nothing is told (2, 3, 4, a refusal without a line or of anything but a text). Refused with 19, and the output zero, where they do not fit;
+/// [`EXPECTED_BYTES`] are enough. Small letters, digits and points are typed as they stand, capitals stand for a field. include/kastepuhm.h says what is told of each number.
+///
+/// ```
+/// use kastepuhm::{expected, Edition, Refusal, EXPECTED_BYTES, OUTPUT_TOO_LONG};
+///
+/// let text = b"RNDF_name\tYard\nnum_segments\t1\nnum_zones\t0\nsegment\t1\nnum_lanes\t0\n";
+/// let why = Refusal { file: 1, line: 5, number: 9, column: 11 };
+/// let mut out = [0; EXPECTED_BYTES];
+/// let answer = expected(Edition::March2007, text, b"", why, &mut out);
+/// assert_eq!(&out[..answer.length as usize], b"may stand here: a number from 1 to 32768");
+/// assert_eq!(expected(Edition::March2007, text, b"", why, &mut out[..39]).refusal().unwrap().number, OUTPUT_TOO_LONG);
+/// ```
+pub fn expected(edition: Edition, rndf: &[u8], mdf: &[u8], why: Refusal, out: &mut [u8]) -> ExpectedAnswer {
+    // Numbers go up to 31; of any other nothing is told.
+    let number = u8::try_from(why.number).unwrap_or(0);
+    unsafe { kastepuhm_expected(edition as u32, rndf.as_ptr(), rndf.len(), mdf.as_ptr(), mdf.len(), why.file, why.line, number, out.as_mut_ptr(), out.len()) }
 }
 
 /// Does the text begin as an MDF does? It may be refused all the same.
