@@ -16,6 +16,7 @@ const Yard = (() => {
     const NAMES = ["rndf_name", "rndf_version", "rndf_date", "mdf_name", "mdf_rndf", "mdf_version", "mdf_date"];
     const ANSWER_WORDS = 30;         // kastepuhm_write_answer, the longest
     const MOST_SENTENCE = 8704;      // beside the file's name
+    const MOST_EXPECTED = 512;       // KASTEPUHM_EXPECTED_BYTES
 
     const EDITIONS = { "2007": 0, "2006": 1 };
 
@@ -169,6 +170,17 @@ const Yard = (() => {
             this.bytes(nameAt, nameBytes.length).set(nameBytes);
             this.bytes(textAt, text.length).set(text);
             const length = this.wasm.kastepuhm_sentence(nameAt, BigInt(nameBytes.length), textAt, BigInt(text.length), line, number, column, outputAt, BigInt(most));
+            return new TextDecoder().decode(this.bytes(outputAt, length).slice());
+        }
+
+        // What may stand where these texts were refused, in the planners' words; "" where nothing is told.
+        expected(edition, rndf, mdf, { file, line, number }) {
+            const mission = mdf || new Uint8Array(0);
+            const [answerAt, outputAt, rndfAt, mdfAt] = this.lay([24, MOST_EXPECTED, rndf.length, mission.length]);
+            this.bytes(rndfAt, rndf.length).set(rndf);
+            this.bytes(mdfAt, mission.length).set(mission);
+            this.wasm.kastepuhm_expected(answerAt, EDITIONS[edition], rndfAt, BigInt(rndf.length), mdfAt, BigInt(mission.length), file, line, number, outputAt, BigInt(MOST_EXPECTED));
+            const length = this.words(answerAt, 6)[5];
             return new TextDecoder().decode(this.bytes(outputAt, length).slice());
         }
     };

@@ -101,7 +101,7 @@ class Workbench {
 
     // What is wrong with the RNDF leaves the last map, in grey; with a refused MDF the network is shown all the same, without its goals.
     tell(read, rndf, mdf) {
-        const { answer, network, sentence, lines } = read;
+        const { answer, network, sentence, expected, lines } = read;
         this.read = read;
         this.editor.clearFaults();
         this.missionLines = read.missionLines;
@@ -121,10 +121,10 @@ class Workbench {
         } else {
             const about = answer.file === 2 ? "mdf" : "rndf";
             this.say(answer.file === 2 ? this.name("mdf") + ": refused; " + rndf.name + " is accepted and shown" : rndf.name + ": refused" + (this.network ? "; the map is that of the text before" : ""), "bad");
-            this.refuse(sentence);
+            this.refuse(sentence, expected);
             if (answer.line) {
                 if (!this.editor.typed) this.editor.show(about);
-                this.editor.markFault(about, answer.line, answer.column, sentence.split("\n")[0]);
+                this.editor.markFault(about, answer.line, answer.column, sentence.split("\n")[0] + (expected && "\n" + expected));
             }
         }
         this.showTabs();
@@ -189,9 +189,12 @@ class Workbench {
         at("verdict").dataset.state = state;
     }
 
-    refuse(sentence) {
+    // The refusal's sentence, and below it what may stand there, where that is told.
+    refuse(sentence, expected = "") {
         at("refusal").textContent = sentence.replace(/\n$/, "");
         at("refusal").hidden = !sentence;
+        at("expected").textContent = expected;
+        at("expected").hidden = !expected;
         at("go").hidden = !sentence || !this.read || !this.read.answer.line;
     }
 

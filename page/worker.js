@@ -25,7 +25,8 @@ const Asked = (() => {
         const missionLines = answer.accepted && mdf ? Lines.ofMission(mdf.bytes, answer) : null;
         goals = missionLines && answer.tables.goals.slice();             // the tables themselves go to the page
         goalLines = missionLines && missionLines.goals.slice();
-        return { answer, network: network.accepted ? network : null, sentence: answer.accepted ? "" : told(answer), lines: network.accepted ? Lines.ofNetwork(rndf.bytes, network) : null, missionLines };
+        const expected = answer.accepted ? "" : yard.expected(edition, rndf.bytes, mdf && mdf.bytes, answer);
+        return { answer, network: network.accepted ? network : null, sentence: answer.accepted ? "" : told(answer), expected, lines: network.accepted ? Lines.ofNetwork(rndf.bytes, network) : null, missionLines };
     }
 
     function packed({ name, bytes }) {

@@ -2,14 +2,15 @@
 # tests/wasm.sh [--install] [--built] [damage | glue | chromium | firefox]..
 #
 # The library as a WebAssembly module and the planners' page around it (docs/PAGE.md). Without a word all four:
-#   damage     tests/damage/compare.py on the module (tests/page/reader.js in node): 4,000 pairs and what goes with them, or COUNT, from SEED (1): reply, names, tables, output, what lies beside them
-#   glue       the reader's worker as it stands in the page, in node, on the planners' programs' cases and 2,000 pairs (PAIRS): replies, sentences, writings, mended texts, driving, lines
+#   damage     tests/damage/compare.py on the module (tests/page/reader.js in node): 4,000 pairs and what goes with them, or COUNT, from SEED (1): reply, names, tables, output, what lies beside them;
+#              and tests/damage/expected.py, what may stand where 1,000 pairs (or EXPECTED) and the places of the hand-written yards were refused
+#   glue       the reader's worker as it stands in the page, in node, on the planners' programs' cases and 2,000 pairs (PAIRS): replies, sentences, what may stand there, writings, mended texts, driving, lines
 #   chromium   the page from file://, driven as a planner would, texts of 16 MB among what is opened; pictures go to target/page/pictures: look at them
 #   firefox    a smaller run
 # Before them the page is built twice and has to have the same bytes. Prints what each part prints last, and 'N passed, M failed'; the status is 0 if none failed.
 #
 # Builds the library first (tools/library.sh wasm32), unless --built is given. Needs Debian's packages nodejs, python3, gcc, chromium, firefox-esr, libjs-codemirror and libjs-leaflet: what is missing it names, and installs
-# with --install. Time on two cores shared with eight others: 8 to 11 minutes for `damage`, 3 for `glue`, 3 for the browsers.
+# with --install. Time on two cores shared with eight others: 10 to 13 minutes for `damage`, 3 for `glue`, 3 for the browsers.
 set -eu
 root=$(cd "$(dirname "$0")/.." && pwd -P)
 stop() { echo "tests/wasm.sh: $*" >&2; exit 2; }
@@ -58,6 +59,8 @@ for part; do
             chmod +x "$work/reader"
             counted python3 "$root/tests/damage/compare.py" "$work/reader" "${COUNT:-4000}" "${SEED:-1}"
             grep -E '^(DIFFERS|never came|seed)' "$work/out" || tail -n 5 "$work/out"
+            counted python3 "$root/tests/damage/expected.py" "$work/reader" "${EXPECTED:-1000}" "${SEED:-1}"
+            grep -E '^(DIFFERS|did not come|seed)' "$work/out" || tail -n 5 "$work/out"
             ;;
         glue)
             counted python3 "$root/tests/page/glue.py" "$page" "${PAIRS:-2000}" "${SEED:-1}"

@@ -131,7 +131,7 @@ def main(page, pictures):
 
         entry = text(put(A, 9, "exit>1.1.2>1.1.3"))
         give(network_rndf=entry)
-        same("a fault", [shown("said"), shown("refusal")], ["network.rndf: refused", told("network.rndf", entry, 9, 12, 12)[0]])
+        same("a fault", [shown("said"), shown("refusal"), shown("expected")], ["network.rndf: refused", told("network.rndf", entry, 9, 12, 12)[0], "may stand here: 1.1.1 to 1.1.2"])
         same("its line and byte", firefox.value("[document.querySelector('.fault-gutter .CodeMirror-linenumber').textContent, document.querySelector('.fault-byte').textContent]"), ["9", "1"])
         give(network_rndf=text(A), mission_mdf=text(M))
         same("a pair", shown("said"), "network.rndf with mission.mdf: accepted; 1 segment, 0 zones, 1 lane, 2 points, 0 spots, 1 checkpoint, 0 stops, 1 exit, 1 goal, 1 speed limit")

@@ -26,13 +26,13 @@ const plain = (lists) => lists && Object.fromEntries(Object.entries(lists).map((
 
 async function one({ edition, rndf, mdf, start }) {
     const texts = { rndf: bytesOf(rndf), mdf: mdf === null ? null : bytesOf(mdf) };
-    const { answer, network, sentence, lines, missionLines } = await ask("read", {
+    const { answer, network, sentence, expected, lines, missionLines } = await ask("read", {
         edition, rndf: { name: "network.rndf", bytes: texts.rndf }, mdf: texts.mdf && { name: "mission.mdf", bytes: texts.mdf },
     });
     const { accepted, file, line, number, column, tables } = answer;
     const kinds = [(await ask("kind", { bytes: texts.rndf })).kind, texts.mdf ? (await ask("kind", { bytes: texts.mdf })).kind : null];
     const told = {
-        accepted, refusal: [file, line, number, column], sentence, kinds,
+        accepted, refusal: [file, line, number, column], sentence, expected, kinds,
         names: ["rndf_name", "rndf_version", "rndf_date", "mdf_name", "mdf_rndf", "mdf_version", "mdf_date"].flatMap((name) => answer[name]),
         tables: Object.fromEntries(Object.entries(tables).map(([name, numbers]) => [name, [...numbers]])), lines: plain(lines), missionLines: plain(missionLines),
     };

@@ -1,5 +1,5 @@
 """glue.py PAGE.html COUNT SEED: the reader's worker as it stands in the page, beside the oracle and the planners' programs' own cases. Compared are reply, column, names, the used rows of every table; of a refusal the
-sentence with its line and caret; the house writings, the map and the packed form that can be saved; what is mended, and its words; whether a mission can be driven, and its words; the identifiers of points; and that each
+sentence with its line and caret, and what may stand there, to the letter where that is worked out by hand and else by the oracle's judge (expecting.py); the house writings, the map and the packed form that can be saved; what is mended, and its words; whether a mission can be driven, and its words; the identifiers of points; and that each
 part's lines, which the page finds by itself, hold it. The cases: those of tests/check_cases.py that are texts, in both editions, and its largest; those of mend_cases.py and reach_cases.py; COUNT damaged and
 whole pairs (tests/damage/pairs.py) from SEED, every third alone, every second in the older edition; and a quarter as many RNDFs with trouble that can be mended (tests/damage/mends.py). The page lends tables by itself,
 so 11 must never come."""
@@ -16,6 +16,7 @@ ROOT = os.path.dirname(os.path.dirname(HERE))
 for folder in ("tests", "tests/oracle", "tests/damage"):
     sys.path.insert(0, os.path.join(ROOT, folder))
 import check_cases   # noqa: E402
+import expecting     # noqa: E402
 import mend_cases    # noqa: E402
 import mending       # noqa: E402
 import mends         # noqa: E402
@@ -28,10 +29,10 @@ MOST_WORDS = 2000       # changed lines of which the page says something
 
 
 class Case:
-    """`said`: what is said of mending, to the letter, where it is known; `drive`: what is said of the start."""
-    def __init__(self, label, edition, rndf, mdf, start=None, drive=None, said=None, mended=None, sentence=None):
+    """`said`: what is said of mending, to the letter, where it is known; `drive`: what is said of the start; `expected`: what may stand there, by hand."""
+    def __init__(self, label, edition, rndf, mdf, start=None, drive=None, said=None, mended=None, sentence=None, expected=None):
         self.label, self.edition, self.rndf, self.mdf = label, edition, check_cases.as_bytes(rndf), check_cases.as_bytes(mdf)
-        self.start, self.drive, self.said, self.mended, self.sentence = start, drive, said, mended, sentence
+        self.start, self.drive, self.said, self.mended, self.sentence, self.expected = start, drive, said, mended, sentence, expected
 
     def fed(self):
         fed = {"edition": self.edition, "rndf": base64.b64encode(self.rndf).decode(), "mdf": None if self.mdf is None else base64.b64encode(self.mdf).decode()}
@@ -40,11 +41,14 @@ class Case:
 
 def of_check_cases():
     older, present = check_cases.older()
-    for edition, cases in ("2007", check_cases.one_refusal_each() + present + check_cases.largest()), ("2006", older):
+    told = check_cases.at_each_place() + check_cases.of_one_line() + check_cases.of_references()
+    for edition, cases in ("2007", check_cases.one_refusal_each() + told + present + check_cases.largest()), ("2006", older):
         for label, rndf, mdf, want in cases:
-            yield Case(label, edition, rndf, mdf, sentence="" if want[0] not in (N, MDF) else None)
+            refused = check_cases.is_refusal(want)
+            yield Case(label, edition, rndf, mdf, sentence=None if refused else "", expected=check_cases.may_stand(want[2], "".join(want[4:]))[1:] if refused else "")
     for label, rndf, mdf, want in check_cases.as_printed():
-        yield Case(label, "2007", rndf, mdf, sentence=want + "\n")
+        sentence, expected = check_cases.parted(want)
+        yield Case(label, "2007", rndf, mdf, sentence=sentence + "\n", expected=expected)
 
 
 def of_mend_cases():
@@ -152,6 +156,16 @@ def line_faults(got, case, alone):
     return ["lines: " + name for name in wrong]
 
 
+def expected_faults(got, case):
+    """What may stand there: by hand where it is known, else by the oracle's judge; it takes long over large texts."""
+    if case.expected is not None or got["accepted"]:
+        return [] if got["expected"] == (case.expected or "") else ["expected %r, not %r" % (got["expected"], case.expected or "")]
+    if len(case.rndf) + len(case.mdf or b"") > 300000:
+        return []
+    by = oracle.DECEMBER_2006 if case.edition == "2006" else oracle.PRESENT
+    return ["expected %r: %s" % (got["expected"], wrong) for wrong in expecting.judge(by, case.rndf, case.mdf, tuple(got["refusal"]), got["expected"], first=True).differs]
+
+
 def mend_faults(got, case):
     """Beside the oracle, and where they are known beside the words."""
     accepted, said, out, rows = got["mend"]
@@ -189,7 +203,7 @@ def main(page, count, seed):
         if not want["accepted"]:
             numbers[want["refusal"][2]] = numbers.get(want["refusal"][2], 0) + 1
         wrong = ["%s: %r, not %r" % (key, str(got.get(key))[:300], str(want[key])[:300]) for key in want if want[key] is not None and got.get(key) != want[key]]
-        wrong += line_faults(got, case, alone) + mend_faults(got, case)
+        wrong += line_faults(got, case, alone) + mend_faults(got, case) + expected_faults(got, case)
         if case.sentence is not None and got["sentence"] != case.sentence:
             wrong.append("sentence %r, not %r" % (got["sentence"], case.sentence))
         if case.drive is not None and got.get("drive") != case.drive:

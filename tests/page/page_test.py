@@ -13,7 +13,7 @@ ROOT = os.path.dirname(os.path.dirname(HERE))
 for folder in ("tests", "tests/oracle"):
     sys.path.insert(0, os.path.join(ROOT, folder))
 import oracle   # noqa: E402
-from check_cases import A, M, Z, ins, padded, put, text, told   # noqa: E402
+from check_cases import A, LONGITUDES, M, Z, ins, may_stand, padded, put, text, told   # noqa: E402
 from chrome import Chrome   # noqa: E402
 
 N, MDF = "network.rndf", "mission.mdf"
@@ -27,8 +27,8 @@ window.addEventListener("error", (event) => window.wrongs.push(String(event.mess
 window.addEventListener("unhandledrejection", (event) => window.wrongs.push("rejected: " + event.reason));
 new PerformanceObserver((list) => list.getEntries().forEach((one) => window.long.push(Math.round(one.duration)))).observe({ entryTypes: ["longtask"] });"""
 SHOWN = """(() => { const at = (id) => document.getElementById(id), text = yard.editor.texts[yard.editor.shown]; return {
-    said: at("said").textContent, refusal: at("refusal").hidden ? "" : at("refusal").textContent, state: at("verdict").dataset.state, tab: yard.editor.shown,
-    elements: at("refusal").querySelectorAll("*").length + at("said").querySelectorAll("*").length + at("tab-rndf").querySelectorAll("*").length - 2,
+    said: at("said").textContent, refusal: at("refusal").hidden ? "" : at("refusal").textContent, expected: at("expected").hidden ? "" : at("expected").textContent, state: at("verdict").dataset.state, tab: yard.editor.shown,
+    elements: at("refusal").querySelectorAll("*").length + at("expected").querySelectorAll("*").length + at("said").querySelectorAll("*").length + at("tab-rndf").querySelectorAll("*").length - 2,
     marks: ["rndf", "mdf"].map((which) => at("tab-" + which).dataset.state),
     lanes: yard.network ? yard.network.lanes.length / 5 : 0, goals: [...yard.map.painter.goalLabels().values()], old: at("map").classList.contains("old"),
     lines: [...document.querySelectorAll(".fault-line")].length ? [...document.querySelectorAll(".fault-gutter .CodeMirror-linenumber")].map((one) => one.textContent) : [],
@@ -55,6 +55,11 @@ class Page:
             if got[what] != want:
                 self.wrong += 1
                 print("%s: %s is %r, not %r" % (step, what, got[what], want))
+
+    def described(self, role, name):
+        """How what has this role and name is described to a screen reader."""
+        found = [node for node in self.chrome.ask("Accessibility.getFullAXTree")["nodes"] if node.get("role", {}).get("value") == role and node.get("name", {}).get("value") == name]
+        return [node.get("description", {}).get("value") for node in found]
 
     def same(self, step, got, want):
         self.steps += 1
@@ -122,6 +127,11 @@ def accepted(*names, counts):
     return " with ".join(names) + ": accepted; " + counts
 
 
+def may(words):
+    """The line about what may stand there."""
+    return may_stand(0, words)[1:]
+
+
 A_COUNTS = "1 segment, 0 zones, 1 lane, 2 points, 0 spots, 1 checkpoint, 0 stops, 1 exit"
 PAIR_COUNTS = A_COUNTS + ", 1 goal, 1 speed limit"
 
@@ -132,28 +142,36 @@ def reading(page):
     a, m, z = text(A), text(M), text(Z)
     entry, goal, yellow = text(put(A, 9, "exit>1.1.2>1.1.3")), text(put(M, 5, "8")), text(ins(A, 8, "right_boundary>solid_yellow"))
     page.give([(N, entry)], "drop")
-    page.hold("a fault, dropped", said="network.rndf: refused", refusal=told(N, entry, 9, 12, 12)[0], state="bad", marks=["bad", "none"], lines=["9"], bytes=["1"], lanes=0)
+    page.hold("a fault, dropped", said="network.rndf: refused", refusal=told(N, entry, 9, 12, 12)[0], expected=may("1.1.1 to 1.1.2"), state="bad", marks=["bad", "none"], lines=["9"], bytes=["1"], lanes=0)
+    page.same("what may stand there, under the pointer", page.value("document.querySelector('.fault-byte').title"), told(N, entry, 9, 12, 12)[0].split("\n")[0] + "\n" + may("1.1.1 to 1.1.2"))
+    page.same("and told to a screen reader", [one.split()[-6:] for one in page.described("button", "Go to the line")], ["may stand here: 1.1.1 to 1.1.2".split()])
+    page.picture("refused")
     page.give([(N, a)])
-    page.hold("accepted, chosen", said=accepted(N, counts=A_COUNTS), refusal="", state="good", marks=["good", "none"], lines=[], bytes=[], lanes=1, goals=[])
+    page.hold("accepted, chosen", said=accepted(N, counts=A_COUNTS), refusal="", expected="", state="good", marks=["good", "none"], lines=[], bytes=[], lanes=1, goals=[])
     page.give([(MDF, m)], "drop")
     page.hold("its MDF behind it", said=accepted(N, MDF, counts=PAIR_COUNTS), marks=["good", "good"], lanes=1, goals=["1"])
     page.give([(MDF, goal), (N, a)], "drop")
-    page.hold("the MDF is refused", said="mission.mdf: refused; network.rndf is accepted and shown", refusal=told(MDF, goal, 5, 15, 1)[0], tab="mdf", marks=["good", "bad"], lines=["5"], bytes=["8"], lanes=1, goals=[])
+    page.hold("the MDF is refused", said="mission.mdf: refused; network.rndf is accepted and shown", refusal=told(MDF, goal, 5, 15, 1)[0], expected=may("a checkpoint of the RNDF: 7"), tab="mdf", marks=["good", "bad"], lines=["5"], bytes=["8"], lanes=1, goals=[])
     page.give([(N, yellow), (MDF, m)])
     page.hold("solid_yellow", said=accepted(N, MDF, counts=PAIR_COUNTS), goals=["1"])
     page.wait(lambda: page.edition("2006"))
-    page.hold("solid_yellow, 2006", said="network.rndf: refused; the map is that of the text before", refusal=told(N, yellow, 8, 8, 16)[0], lines=["8"], bytes=["s"], old=True, tab="rndf")
+    page.hold("solid_yellow, 2006", said="network.rndf: refused; the map is that of the text before", refusal=told(N, yellow, 8, 8, 16)[0], expected=may("double_yellow, solid_white, broken_white"), lines=["8"], bytes=["s"], old=True, tab="rndf")
     page.wait(lambda: page.edition("2007"))
     page.hold("and back", said=accepted(N, MDF, counts=PAIR_COUNTS), old=False)
     page.press_button("#tab-mdf")
     page.wait(lambda: page.press_button("#close"))
     page.hold("the MDF taken away", said=accepted(N, counts=A_COUNTS), marks=["good", "none"], goals=[])
-    for label, name, content, line, number, column, byte in [
-            ("markup in a name", "<b>x.rndf", text(put(A, 1, "RNDF_name><img/src=x/onerror=document.title=1\x01")), 1, 4, 46, "\\x01"), ("empty", "empty.rndf", b"", 1, 10, 0, None),
-            ("UTF-16", "utf16.rndf", b"\xff\xfe" + a.decode().encode("utf-16-le"), 1, 4, 1, "\u00ff"), ("a byte order mark", "bom.rndf", b"\xef\xbb\xbf" + a, 1, 4, 1, "\\xfeff"),
-            ("CR LF", "crlf.rndf", text(put(A, 10, "1.1.1>>45.000000>x /* here */"), "\r\n"), 10, 8, 18, "x"), ("a letter in UTF-8", "cafe.rndf", text(A).replace(b"yard_a", "caf\u00e9".encode()), 1, 4, 14, "\u00e9")]:
+    for label, name, content, line, number, column, byte, expected in [
+            ("markup in a name", "<b>x.rndf", text(put(A, 1, "RNDF_name><img/src=x/onerror=document.title=1\x01")), 1, 4, 46, "\\x01", ""), ("empty", "empty.rndf", b"", 1, 10, 0, None, may("RNDF_name NAME")),
+            ("UTF-16", "utf16.rndf", b"\xff\xfe" + a.decode().encode("utf-16-le"), 1, 4, 1, "\u00ff", ""), ("a byte order mark", "bom.rndf", b"\xef\xbb\xbf" + a, 1, 4, 1, "\\xfeff", ""),
+            ("CR LF", "crlf.rndf", text(put(A, 10, "1.1.1>>45.000000>x /* here */"), "\r\n"), 10, 8, 18, "x", may(LONGITUDES)), ("a letter in UTF-8", "cafe.rndf", text(A).replace(b"yard_a", "caf\u00e9".encode()), 1, 4, 14, "\u00e9", "")]:
         page.give([(name, content)], "drop")
-        page.hold(label, refusal=told(name, content, line, number, column)[0], state="bad", lines=[str(line)], bytes=[byte] if byte else [])
+        page.hold(label, refusal=told(name, content, line, number, column)[0], expected=expected, state="bad", lines=[str(line)], bytes=[byte] if byte else [])
+    markup = "<img/src=x/onerror=document.title=1>"
+    page.give([(N, a.replace(b"yard_a", markup.encode())), (MDF, m)])
+    page.hold("markup in what may stand there", refusal=told(MDF, m, 2, 14, 6)[0], expected=may(markup), tab="mdf")
+    page.press_button("#tab-mdf")
+    page.wait(lambda: page.press_button("#close"))
     page.give([("crlf.rndf", text(A, "\r\n"))])
     page.hold("CR LF, accepted", said=accepted("crlf.rndf", counts=A_COUNTS))
     page.same("CR LF, the text as it is", page.content("rndf"), text(A, "\r\n").decode())
@@ -162,10 +180,10 @@ def reading(page):
     page.chrome.until("window.opens > %d" % before)
     page.hold("two RNDFs", said="network.rndf, other.rndf: one RNDF and at most one MDF can be checked", state="bad")
     page.give([("huge.rndf", bytes(17 << 20))])
-    page.hold("over the limit", refusal=told("huge.rndf", b"", 0, 1, 0)[0], excerpt="Too large for the editor: it has over 16,777,215 bytes. Lines 1 to 1 are shown, and can't be changed here.")
+    page.hold("over the limit", refusal=told("huge.rndf", b"", 0, 1, 0)[0], expected="", excerpt="Too large for the editor: it has over 16,777,215 bytes. Lines 1 to 1 are shown, and can't be changed here.")
     blank = text(A[:9]) + b"\n" * 2000000 + text(A[9:10] + ["x"] + A[11:])
     page.give([("blank.rndf", blank)])
-    page.hold("2,000,015 lines", refusal=told("blank.rndf", blank, 2000011, 5, 1)[0], lines=["2000011"], bytes=["x"],
+    page.hold("2,000,015 lines", refusal=told("blank.rndf", blank, 2000011, 5, 1)[0], expected=may("1.1.2 LATITUDE LONGITUDE (1 such line is still owed)"), lines=["2000011"], bytes=["x"],
               excerpt="Too large for the editor: it has 2,000,015 lines. Lines 1,999,811 to 2,000,014 are shown, and can't be changed here.")
     page.picture("excerpt")
     long = text(A[:3]) + b"x" * 20000 + b"\n" + text(A[3:])
@@ -177,7 +195,7 @@ def reading(page):
         before = page.value("window.opens")
         page.chrome.choose("#file", page.write([(name, content)]))
         page.chrome.until("window.opens > %d" % before)
-        page.hold("packed, %d bytes" % len(content), said=said, refusal=refusal)
+        page.hold("packed, %d bytes" % len(content), said=said, refusal=refusal, expected="")
     before = page.value("window.opens")
     page.chrome.choose("#file", page.write([("yard.geojson", oracle.geojson(oracle.network_of(oracle.read_rndf(z, {t: 100 for t in oracle.TABLES}), z)))]))
     page.chrome.until("window.opens > %d" % before)
@@ -194,7 +212,7 @@ def typing(page):
     page.value("yard.editor.view.focus()")
     page.wait(lambda: chrome.type(text(A[:13]).decode()))
     chrome.until("yard.read && !yard.reading")
-    page.hold("typed, all but the last line", refusal=told(N, text(A[:13]), 14, 10, 0)[0], said="network.rndf: refused")
+    page.hold("typed, all but the last line", refusal=told(N, text(A[:13]), 14, 10, 0)[0], expected=may("end_file"), said="network.rndf: refused")
     page.wait(lambda: chrome.type("end_file"))
     page.hold("the last line", said=accepted(N, counts=A_COUNTS), state="good", lanes=1)
     page.value("yard.editor.view.setCursor({ line: 6, ch: 15 })")
@@ -202,7 +220,7 @@ def typing(page):
     page.wait(lambda: chrome.type("3"))
     wrong = text(put(A, 7, "num_waypoints>3"))[:-1]
     chrome.until("!!yard.read")
-    page.hold("a count too high", refusal=told(N, wrong, 12, 5, 1)[0], lines=["12"], bytes=["e"], old=True, lanes=1)
+    page.hold("a count too high", refusal=told(N, wrong, 12, 5, 1)[0], expected=may("1.1.3 LATITUDE LONGITUDE (1 such line is still owed)"), lines=["12"], bytes=["e"], old=True, lanes=1)
     chrome.press("F8")
     page.settle()
     page.same("F8 goes to the fault", page.value("(() => { const c = yard.editor.view.getCursor(); return [c.line, c.ch, yard.editor.view.hasFocus()]; })()"), [11, 0, True])
@@ -213,7 +231,7 @@ def typing(page):
             break
         page.wait(lambda: chrome.press("z", "KeyZ", 2))
         chrome.until("!!yard.read")
-    page.hold("undone", said=accepted(N, counts=A_COUNTS), lines=[])
+    page.hold("undone", said=accepted(N, counts=A_COUNTS), expected="", lines=[])
     chrome.press("Escape")
     page.same("Esc leaves the editor", page.value("document.activeElement.id"), "divider")
     chrome.press("Tab")

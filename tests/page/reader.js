@@ -11,7 +11,7 @@ const wasm = new WebAssembly.Instance(new WebAssembly.Module(fs.readFileSync(pro
 const BASE = (wasm.__heap_base.value + 15) & ~15;
 const STACK = 65536;      // as tools/library.sh has it: the stack lies first
 const PAGE = 65536, GUARD = 16, OTHER = 0x5a, ANSWER = 120;
-const TABLES = 10;
+const TABLES = 10, EXPECTED = 11;
 
 function room(bytes) {
     const missing = bytes - wasm.memory.buffer.byteLength;
@@ -64,16 +64,10 @@ function write(piece) {
 }
 
 let turn = 0;
-while (have(1)) {
-    const mode = bytes(1)[0];
-    const edition = u32();
-    const lengths = [u64(), u64()];
-    const given = [u32(), u32()];
-    const tables = Array.from({ length: TABLES }, u32);
-    const output = u32();
-    const start = u32(), steps = u32();
-    const texts = [Buffer.from(bytes(given[0])), Buffer.from(bytes(given[1]))];
-    const route = Buffer.from(bytes(4 * steps));
+
+// Runs a case with an output of this length, and writes the answer, the tables, the output and whether anything else was written; gives the last word of the answer, how many bytes were put.
+function run({ mode, edition, lengths, given, tables, start, steps, texts, route: lentRoute }, output) {
+    const route = Buffer.from(lentRoute);
     turn ^= 1;
     // where everything lies; the text whose turn it is lies last, up to the end of the memory
     let end = BASE;
@@ -117,6 +111,13 @@ while (have(1)) {
     case 8: wasm.kastepuhm_write_packed(answer, edition, ...rndf, ...network, ...out); break;
     case 9: wasm.kastepuhm_read_packed(answer, ...rndf, ...network); break;          // the packed bytes stand in place of the RNDF
     case 10: wasm.kastepuhm_mend(answer, edition, ...rndf, ...slice(table[0], tables[0]), ...out); break;       // the list stands in place of the segments
+    case EXPECTED: {                                       // the line stands in place of the start, file and number in place of the route
+        wasm.kastepuhm_expected(answer, edition, ...rndf, ...mdf, route.readUInt32LE(0), start, route.readUInt32LE(4), ...out);
+        const words = new Uint32Array(memory.buffer, answer, ANSWER / 4);
+        words[ANSWER / 4 - 1] = words[5];                  // the length, where a writer has it
+        words[5] = 0;
+        break;
+    }
     default: throw new Error("no such mode");
     }
     if (wasm.memory.buffer.byteLength !== memory.length) throw new Error("the module grew its memory");
@@ -137,4 +138,23 @@ while (have(1)) {
     const word = Buffer.alloc(4);
     word.writeUInt32LE(elsewhere);
     write(word);
+    return new DataView(memory.buffer).getUint32(answer + ANSWER - 4, true);
+}
+
+while (have(1)) {
+    const mode = bytes(1)[0];
+    const edition = u32();
+    const lengths = [u64(), u64()];
+    const given = [u32(), u32()];
+    const tables = Array.from({ length: TABLES }, u32);
+    const output = u32();
+    const start = u32(), steps = u32();
+    const texts = [Buffer.from(bytes(given[0])), Buffer.from(bytes(given[1]))];
+    const route = Buffer.from(bytes(4 * steps));
+    const asked = { mode, edition, lengths, given, tables, start, steps, texts, route };
+    const put = run(asked, output);
+    if (mode === EXPECTED) {                               // also with just as many bytes as there are words, and with one less
+        run(asked, put);
+        if (put > 0) run(asked, put - 1);
+    }
 }
