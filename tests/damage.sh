@@ -16,7 +16,8 @@
 # With a SORT, `pairs`, `maps`, `routes`, `missions`, `packed`, `same` or `mend`, only that one is compared: `tests/damage.sh 50000 1 same` has 25,000 twins (50,000 texts written, and again; some 5 minutes of the oracle's processor time), `tests/damage.sh 200000 1 routes` judges 100,000 routes (7 minutes of processor time), `tests/damage.sh 200000 1 packed`
 # unpacks 200,000 forms and packs 50,000 RNDFs (some 25 minutes, and a gigabyte where one form has 16,777,215 bytes). Two more are run only where they are named: `tests/damage.sh 265716 1 ends` has every line end of up to
 # five signs of comments, separators and line ends, each at four places of an RNDF; `tests/damage.sh 200196 1 packed-bytes` has every prefix and every change of one byte of yard A's form and of a yard's with zones, each with
-# tables for it and with fewer.
+# tables for it and with fewer. `tests/damage.sh 50000 1 expected` asks what may stand where a text was refused (kastepuhm_expected; tests/damage/expected.py), of that many pairs, of every line of the hand-written yards and missions
+# changed in every way, and of texts at the ends of ranges, and has the words judged by the oracle's reader: what they list is taken there, what they don't list is refused (some 15 minutes of processor time).
 #
 # The library is that of the target (this machine, if none is named), made by tools/library.sh unless --built is given; on another machine an emulator runs it. Needs python3 and a C compiler for the
 # target (tests/need.sh has the packages); what is missing is said, and --install installs it.
@@ -37,7 +38,15 @@ trap 'rm -rf "$work"' EXIT
 need python3 python3
 find_compiler
 find_library
-"$compiler" -std=c11 -O2 -Wall -Wextra -Wpedantic -Wconversion -Werror -static -I"$root/include" "$root/tests/damage/reader.c" "$library" -o "$work/reader.$target"
+# a library from before kastepuhm_expected is still compared in all else
+expected=
+if grep -q 'kastepuhm_expected(' "$root/include/kastepuhm.h"; then expected=-DHAS_EXPECTED; fi
+[ "${3:-}" != expected ] || [ -n "$expected" ] || missing "the library has no kastepuhm_expected"
+"$compiler" $expected -std=c11 -O2 -Wall -Wextra -Wpedantic -Wconversion -Werror -static -I"$root/include" "$root/tests/damage/reader.c" "$library" -o "$work/reader.$target"
 printf '#!/bin/sh\nexec %s "%s"\n' "${emulator:+\"$emulator\"}" "$work/reader.$target" >"$work/reader"
 chmod +x "$work/reader"
-python3 "$root/tests/damage/compare.py" "$work/reader" "$count" "${2:-1}" ${3:+"$3"}
+if [ "${3:-}" = expected ]; then
+    python3 "$root/tests/damage/expected.py" "$work/reader" "$count" "${2:-1}"
+else
+    python3 "$root/tests/damage/compare.py" "$work/reader" "$count" "${2:-1}" ${3:+"$3"}
+fi

@@ -20,7 +20,7 @@ import tempfile
 here = os.path.dirname(os.path.abspath(__file__))
 sys.path.insert(0, here)
 sys.path.insert(0, os.path.join(here, "oracle"))
-from check_cases import FOLDER, N, OLDER, WORDS, Z, as_bytes, counts, folder, missing, padded, told, unreadable  # noqa: E402
+from check_cases import BARE, BOUNDARIES_2006, FOLDER, N, OLDER, WORDS, Z, as_bytes, counts, folder, missing, padded, told, unreadable  # noqa: E402
 from yards import ROUND_1 as M, YARD_A as A, cut, ins, put, text  # noqa: E402
 
 PACK, UNPACK = (os.path.join(here, "..", name) for name in ("run-pack", "run-unpack"))
@@ -101,15 +101,15 @@ def packed():
 
 
 def refused_texts():
-    """(label, options, RNDF, (file, line, number, column)): what run-check says"""
+    """(label, options, RNDF, (file, line, number, column, what may stand there)): what run-check says"""
     return [
-        ("12", [], put(A, 9, "exit>1.1.2>1.1.3"), (N, 9, 12, 12)),
+        ("12", [], put(A, 9, "exit>1.1.2>1.1.3"), (N, 9, 12, 12, "1.1.1 to 1.1.2")),
         ("4", [], put(A, 3, "num_zones>0\\"), (N, 3, 4, 12)),
-        ("25", [], cut(Z, 21), (N, 21, 25, 1)),
-        ("solid_yellow in the older edition", OLDER, YELLOW, (N, 8, 8, 16)),
-        ("an empty text", [], b"", (N, 1, 10, 0)),
+        ("25", [], cut(Z, 21), (N, 21, 25, 1, BARE)),
+        ("solid_yellow in the older edition", OLDER, YELLOW, (N, 8, 8, 16, BOUNDARIES_2006)),
+        ("an empty text", [], b"", (N, 1, 10, 0, "RNDF_name NAME")),
         ("packed bytes", [], form(RECORDS), (N, 1, 4, 1)),
-        ("an MDF", [], M, (N, 1, 5, 1)),
+        ("an MDF", [], M, (N, 1, 5, 1, "RNDF_name NAME")),
         ("a text of 16,777,216 bytes", [], padded(A, 16777216), (N, 0, 1, 0)),
     ]
 
@@ -202,7 +202,7 @@ def of_pack():
         no_form("pack: another edition", both, ["--edition", "2005", N], (PACK_USAGE, 2)),
         no_form("pack: --edition 2006 and no name", both, OLDER, (PACK_USAGE, 2)),
         no_form("pack: a name of 4,096 bytes", both, ["./" * 2042 + N], ("The file's name is over 4,095 bytes.", 2)),
-        no_form("pack: another name, refused", {"a (1)^": put(A, 3, "num_zones>1>")}, ["a (1)^"], told("a (1)^", text(put(A, 3, "num_zones>1>")), 14, 5, 1)),
+        no_form("pack: another name, refused", {"a (1)^": put(A, 3, "num_zones>1>")}, ["a (1)^"], told("a (1)^", text(put(A, 3, "num_zones>1>")), 14, 5, 1, "zone 2")),
     ]
 
 

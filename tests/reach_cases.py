@@ -26,7 +26,7 @@ here = os.path.dirname(os.path.abspath(__file__))
 sys.path.insert(0, here)
 sys.path.insert(0, os.path.join(here, "oracle"))
 import oracle   # noqa: E402
-from check_cases import FOLDER, MDF, N, OLDER, Z, as_bytes, folder, missing, padded, swapped, told, unreadable  # noqa: E402
+from check_cases import BOUNDARIES_2006, FOLDER, MDF, N, OLDER, Z, as_bytes, folder, missing, padded, swapped, told, unreadable  # noqa: E402
 from yards import ROUND_1 as M, YARD_A as A, cut, ins, put, text  # noqa: E402
 
 RUN = os.path.join(here, "..", "run-reach")
@@ -127,7 +127,7 @@ def editions():
         ("2006: no exit, twice", OLDER, ONE_WAY, mission(7, 7), "1.1.1", 0, stuck(1, 6, 1, 7, "goal 7")),
         ("2006: from a spot", OLDER, OUT, zoned(8, 7), "2.1.1", 3, OK),
         ("2006: 30", OLDER, A, M, "1.1.3", None, 30),
-        ("2006: solid_yellow", OLDER, yellow, M, "1.1.1", 0, (N, 8, 8, 16)),
+        ("2006: solid_yellow", OLDER, yellow, M, "1.1.1", 0, (N, 8, 8, 16, BOUNDARIES_2006)),
         ("2007: solid_yellow", [], yellow, M, "1.1.1", 0, OK),
         ("the present edition by its year", ["--edition", "2007"], yellow, mission(7, 7), "1.1.1", 0, stuck(1, 6, 1, 7, "goal 7")),
     ]
@@ -137,15 +137,15 @@ def refused():
     """(label, RNDF, MDF, START, answer): what run-check says, whatever the start is."""
     bad = put(A, 9, "exit>1.1.2>1.1.3")
     return [
-        ("12", bad, M, "1.1.1", (N, 9, 12, 12)),
-        ("12, before 30", bad, M, "9.9.9", (N, 9, 12, 12)),
-        ("10", A[:-1], M, "1.1.1", (N, 14, 10, 0)),
-        ("15", A, put(M, 5, "8"), "1.1.1", (MDF, 5, 15, 1)),
-        ("15, before 30", A, put(M, 5, "> 8"), "9.9.9", (MDF, 5, 15, 3)),
-        ("18", Z, mission(7), "1.1.1", (MDF, 10, 18, 1)),
+        ("12", bad, M, "1.1.1", (N, 9, 12, 12, "1.1.1 to 1.1.2")),
+        ("12, before 30", bad, M, "9.9.9", (N, 9, 12, 12, "1.1.1 to 1.1.2")),
+        ("10", A[:-1], M, "1.1.1", (N, 14, 10, 0, "end_file")),
+        ("15", A, put(M, 5, "8"), "1.1.1", (MDF, 5, 15, 1, "a checkpoint of the RNDF: 7")),
+        ("15, before 30", A, put(M, 5, "> 8"), "9.9.9", (MDF, 5, 15, 3, "a checkpoint of the RNDF: 7")),
+        ("18", Z, mission(7), "1.1.1", (MDF, 10, 18, 1, "2")),
         ("4", A, put(M, 5, "7\\"), "1.1.1", (MDF, 5, 4, 2)),
-        ("empty RNDF", b"", M, "1.1.1", (N, 1, 10, 0)),
-        ("empty MDF", A, b"", "1.1.1", (MDF, 1, 10, 0)),
+        ("empty RNDF", b"", M, "1.1.1", (N, 1, 10, 0, "RNDF_name NAME")),
+        ("empty MDF", A, b"", "1.1.1", (MDF, 1, 10, 0, "MDF_name NAME")),
     ]
 
 
@@ -245,10 +245,10 @@ def main():
     for label, option, rndf, mdf, start, row, want in (
             [(case[0], [], *case[1:]) for case in driven() + largest()] + editions() + [(label, [], rndf, mdf, start, None, want) for label, rndf, mdf, start, want in refused()]):
         rndf, mdf = as_bytes(rndf), as_bytes(mdf)
-        of_file = isinstance(want, tuple) and len(want) == 4
+        of_file = isinstance(want, tuple) and want[0] in (N, MDF)
         if "32,768" not in label and "points" not in label:        # the oracle takes a search for each goal
             found = by_oracle(rndf, mdf, row, oracle.DECEMBER_2006 if option == OLDER else oracle.PRESENT)
-            assert found == (want if of_file or want in (OK, 30) else want[0]), (label, found)
+            assert found == (want[:4] if of_file else want if want in (OK, 30) else want[0]), (label, found)
         answer = told(want[0], rndf if want[0] == N else mdf, *want[1:]) if of_file else sentence(want, start, mdf)
         every.append((label, {N: rndf, MDF: mdf}, option + [N, MDF, start], answer))
     if options.oracle:

@@ -22,7 +22,7 @@ import tempfile
 here = os.path.dirname(os.path.abspath(__file__))
 sys.path.insert(0, here)
 sys.path.insert(0, os.path.join(here, "oracle"))
-from check_cases import FOLDER, OLDER, as_bytes, folder, missing, padded, told, unreadable  # noqa: E402
+from check_cases import BOUNDARIES_2006, FOLDER, OLDER, as_bytes, folder, missing, padded, told, unreadable  # noqa: E402
 from yards import ROUND_1 as M, YARD_A as A, cut, ins, put, text  # noqa: E402
 
 RUN = os.path.join(here, "..", "run-same")
@@ -179,19 +179,19 @@ def apart():
 
 
 def refused():
-    """(label, options, one, other, which of them, (line, number, column))"""
+    """(label, options, one, other, which of them, (line, number, column, what may stand there))"""
     bad = put(A, 9, "exit>1.1.2>1.1.3")
     return [
-        ("the first", [], bad, A, ONE, (9, 12, 12)),
-        ("the second", [], A, bad, OTHER, (9, 12, 12)),
+        ("the first", [], bad, A, ONE, (9, 12, 12, "1.1.1 to 1.1.2")),
+        ("the second", [], A, bad, OTHER, (9, 12, 12, "1.1.1 to 1.1.2")),
         ("both: the first is told", [], put(A, 3, "num_zones>0\\"), bad, ONE, (3, 4, 12)),
         ("4", [], A, put(A, 3, "num_zones>0\\"), OTHER, (3, 4, 12)),
-        ("10", [], A, cut(A, 14), OTHER, (14, 10, 0)),
-        ("an empty text", [], b"", A, ONE, (1, 10, 0)),
-        ("two dates", [], A, ins(A, 4, "creation_date>a", "creation_date>b"), OTHER, (5, 6, 1)),
-        ("an MDF", [], A, M, OTHER, (1, 5, 1)),
-        ("solid_yellow in the older edition", OLDER, YELLOW, A, ONE, (8, 8, 16)),
-        ("solid_yellow in the older edition, the second", OLDER, A, YELLOW, OTHER, (8, 8, 16)),
+        ("10", [], A, cut(A, 14), OTHER, (14, 10, 0, "end_file")),
+        ("an empty text", [], b"", A, ONE, (1, 10, 0, "RNDF_name NAME")),
+        ("two dates", [], A, ins(A, 4, "creation_date>a", "creation_date>b"), OTHER, (5, 6, 1, "segment 1, format_version NAME")),
+        ("an MDF", [], A, M, OTHER, (1, 5, 1, "RNDF_name NAME")),
+        ("solid_yellow in the older edition", OLDER, YELLOW, A, ONE, (8, 8, 16, BOUNDARIES_2006)),
+        ("solid_yellow in the older edition, the second", OLDER, A, YELLOW, OTHER, (8, 8, 16, BOUNDARIES_2006)),
         ("the first of 16,777,216 bytes", [], padded(A, 16777216), A, ONE, (0, 1, 0)),
         ("the second of 16,777,216 bytes", [], A, padded(A, 16777216), OTHER, (0, 1, 0)),
     ]
@@ -214,7 +214,7 @@ def every():
         ("no first file", {OTHER: A}, [ONE, OTHER], missing(ONE)),
         ("no second file", {ONE: A}, [ONE, OTHER], missing(OTHER)),
         ("neither file", {}, [ONE, OTHER], missing(ONE)),
-        ("the first refused, and no second", {ONE: cut(A, 14)}, [ONE, OTHER], told(ONE, text(cut(A, 14)), 14, 10, 0)),
+        ("the first refused, and no second", {ONE: cut(A, 14)}, [ONE, OTHER], told(ONE, text(cut(A, 14)), 14, 10, 0, "end_file")),
         ("the first a folder", {ONE: FOLDER, OTHER: A}, [ONE, OTHER], folder(ONE)),
         ("the second a folder", {ONE: A, OTHER: FOLDER}, [ONE, OTHER], folder(OTHER)),
         ("a file that can't be read", {ONE: A}, [ONE, "/proc/self/mem"], unreadable("/proc/self/mem")),
