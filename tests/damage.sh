@@ -17,7 +17,7 @@
 # unpacks 200,000 forms and packs 50,000 RNDFs (some 25 minutes, and a gigabyte where one form has 16,777,215 bytes). Two more are run only where they are named: `tests/damage.sh 265716 1 ends` has every line end of up to
 # five signs of comments, separators and line ends, each at four places of an RNDF; `tests/damage.sh 200196 1 packed-bytes` has every prefix and every change of one byte of yard A's form and of a yard's with zones, each with
 # tables for it and with fewer. `tests/damage.sh 50000 1 expected` asks what may stand where a text was refused (kastepuhm_expected; tests/damage/expected.py), of that many pairs, of every line of the hand-written yards and missions
-# changed in every way, and of texts at the ends of ranges, and has the words judged by the oracle's reader: what they list is taken there, what they don't list is refused (some 15 minutes of processor time).
+# changed in every way, and of texts at the ends of ranges, and has the words judged by the oracle's reader: what they list is taken there, what they don't list is refused (some 25 minutes of processor time).
 #
 # The library is that of the target (this machine, if none is named), made by tools/library.sh unless --built is given; on another machine an emulator runs it. Needs python3 and a C compiler for the
 # target (tests/need.sh has the packages); what is missing is said, and --install installs it.

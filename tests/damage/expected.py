@@ -6,8 +6,8 @@
     expected.py --mutants COUNT SEED    no library: the stand-in's sentences made wrong, a few of each; are they noticed?
 
 The texts: COUNT pairs of damage/pairs.py, each in the present edition and every second one in that of December 6, 2006 as well (mostly without `solid_yellow`, so that it gets further); yards A, B and C and their
-missions with every line left out, doubled, cut off, replaced, with a field more or less, and with each field misspelt, 0, one off or too large (`placed`), in both editions; and texts at the ends of ranges and of lists
-(`edges`). Of each the refusal is the oracle's, with tables that are large enough. Texts that are accepted are counted and, as some others, asked about with refusals that they do not get.
+missions with every line left out, doubled, cut off, replaced, with a field more or less, and with each field misspelt, 0, one off or too large (`placed`), in both editions; texts at the ends of ranges and of lists
+(`edges`); and, from 2,250 pairs on, some of 16,777,215 bytes and some with 32,768 of a part, which are judged by a few lines only. Of each the refusal is the oracle's, with tables that are large enough. Texts that are accepted are counted and, as some others, asked about with refusals that they do not get.
 
 The words are judged by tests/oracle/expecting.py: what they list is taken at that place, what they don't list is refused. Each question is put with an output of 512 bytes, of just the words' length, which have to give the same
 words and zeros behind them, and of one byte less, which has to give 19, length 0 and zeros. 2, 3, 4 and refusals without a line have to give length 0 and zeros.
@@ -160,6 +160,25 @@ def edges():
     return out
 
 
+def wide(rng):
+    """Texts in which something comes 32,768 times, refused at the last one of them: (edition, RNDF, MDF or None, kinds). Each is read a few times only."""
+    out = []
+
+    def of(which, word, lines, mdf=None):
+        out.append((PRESENT, pairs.g.render(rng, lines, 0), mdf and pairs.g.render(rng, mdf, 0), ["wide, %s, %s" % (which, word)]))
+    for which, word in (("segments", b"segment"), ("lanes", b"lane"), ("zones", b"zone"), ("spots", b"spot")):
+        lines = pairs.wide_pair(rng, which)[0][1]
+        last = max(i for i, fields in enumerate(lines) if fields[0] == word)
+        of(which, "replaced", [*lines[:last], [b"x"]])
+        of(which, "misspelt", [*lines[:last], [word, b"x"]])
+    of("checkpoints", "all taken", pairs.crowded_pair(rng)[0][1])
+    lines = pairs.wide_pair(rng, "segments")[0]
+    limits = [i for i, fields in enumerate(lines[2]) if len(fields) == 3]
+    of("limits", "given again", lines[1], [*lines[2][:limits[-1]], lines[2][limits[0]], *lines[2][limits[-1] + 1:]])
+    of("limits", "missing", lines[1], [[fields[0], b"32767"] if fields[0] == b"num_speed_limits" else fields for i, fields in enumerate(lines[2]) if i != limits[7]])
+    return out
+
+
 def questions_of(seed, number, count):
     """The questions of a block: below 0 a stretch of the edges and places, from 0 on pairs of the generator."""
     rng = random.Random("expected %d %d" % (seed, number))
@@ -169,7 +188,7 @@ def questions_of(seed, number, count):
         size = -(-len(cases) // STRETCHES)                  # one behind the other: texts that begin alike are judged together, which is cheaper
         cases = cases[(-number - 1) * size:-number * size]
     else:
-        large = pairs.large_cases(rng) if number == 8 and count == BLOCK else []
+        large = pairs.large_cases(rng) if number == LARGE and count == BLOCK else []
         for k in range(count):
             case = large[k] if k < len(large) else pairs.make_case(rng)
             rndf, mdf = (text if length == len(text) else said(text, length) for text, length in ((case.rndf, case.rndf_length), (case.mdf, case.mdf_length)))
@@ -177,6 +196,7 @@ def questions_of(seed, number, count):
             if k % 2:
                 aged = rndf.replace(b"solid_yellow", b"broken_white") if case.rndf_length == len(rndf) and rng.random() < 0.75 else rndf
                 cases.append((OLDER, aged, mdf, case.kinds))
+        cases += wide(rng) if large else []
     out = []
     for k, (edition, rndf, mdf, kinds) in enumerate(cases):
         refusal = refusal_of(edition, rndf, mdf)
@@ -189,6 +209,7 @@ def questions_of(seed, number, count):
     return out
 
 
+LARGE = 8                           # the block that has the longest texts too
 STRETCHES = 24                      # in so many jobs the edges and places are judged
 
 
