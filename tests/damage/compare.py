@@ -43,7 +43,7 @@ Line ends (only where SORT is `ends`): COUNT RNDFs with every end that a line ca
 Every second pair, every fourth RNDF alone and half of the maps, routes, missions and packings are judged in the edition of December 6, 2006 (request L10), whose number is 1; the present one has any
 other number.
 
-A case for the program, little endian: 1 byte mode (1 RNDF alone, 2 pair, 3 map, 4 route, 5 mission, 6 RNDF's house writing, 7 MDF's, 8 packing, 9 unpacking: the bytes stand in place of the RNDF; 10 mending: the list stands in place of the segments); the edition (4 bytes); both texts' lengths (8 bytes each) and how many bytes of each are given (4 each); the ten
+A case for the program, little endian: 1 byte mode (1 RNDF alone, 2 pair, 3 map, 4 route, 5 mission, 6 RNDF's house writing, 7 MDF's, 8 packing, 9 unpacking: the bytes stand in place of the RNDF; 10 mending: the list stands in place of the segments; 11 what may stand here: see expected.py); the edition (4 bytes); both texts' lengths (8 bytes each) and how many bytes of each are given (4 each); the ten
 tables' lengths and the output's (4 each); the start and how many points the route has, or words the work space (4 each); both texts' bytes; the route's points (4 each). Its answer: kastepuhm_write_answer (30 words: the column stands behind the number), the lent tables' words, the output's bytes, one word that is 0 if nothing else was written. Of mending the first seven words of the answer are kastepuhm_mend_answer, and the others 0.
 """
 import array

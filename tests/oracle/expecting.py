@@ -978,7 +978,7 @@ def judge_id(verdict, whole, told):
 
 
 def judge_numbers(verdict, whole, told, lead, full, near, by):
-    if re.fullmatch(r"nothing\b[A-Za-z ,:;']*[a-z]", told) and told != ENDED:
+    if re.fullmatch(r"nothing\b[A-Za-z ,:;'()_]*[a-z)]", told) and told != ENDED:
         # why is said in words that no document lays down; they speak of what is missing
         if not re.search("limit" if whole.number > 15 else "checkpoint", told):
             verdict.differ("nothing, and not for want of a checkpoint or an id without a limit")
