@@ -51,7 +51,7 @@ MOST = (1750, 2200, 250)
 
 # names in contracts that nobody has to believe, and why
 LEFT_OUT = {
-    'expected/specs/Words.expectedWords': 'the argument `chosen` of AnswersExpected: it settles what the law leaves open, the order of a list and what is told of a refusal that these texts do not get; its field `right` says what counts, whatever is chosen',
+    'expected/specs/Words.expectedWords': 'the argument `words` of AnswersExpected: it settles what the law leaves open, the order of a list and what is told of a refusal that these texts do not get; its field `right` says what counts, whatever they are',
 }
 
 USE = re.compile(r'^\s*(?:ghost )?(?:unfoldable )?(pub )?use ([^\s{;]+?)(?:\.\{([^}]*)\})?(?: as ([^\s;]+))?;?\s*$')
