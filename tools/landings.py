@@ -52,6 +52,7 @@ LANDINGS = [line.split(' | ') for line in '''
 22 | L9 | bc0a9b9
 23 | held to the letter (issue 36) | a764a0d
 24 | where its users are (issue 37) | 4a35b94
+25 | what may stand here (issue 38) | d83c870
 '''.strip().splitlines()]
 
 # what is moved, apart: pathspecs
