@@ -1,21 +1,24 @@
 #!/usr/bin/env bash
-# tools/gate-times.sh [--file FILE] COMMIT..
+# tools/gate-times.sh [--file FILE] [--again] COMMIT..
 #
-# The gate of each of these commits by itself, one after the other: a clone of its own, `.ci/run` there, and a line in FILE (target/gate-times.tsv) and on standard output:
-#   commit, passed, failed, seconds on the clock, seconds of processor time (user and system, of everything below it), the load before it, the machine, the kit
-# Run it with nothing else running: the load before each gate, which it waits to fall below 0.5 (ten minutes at most), says whether that was so. It goes on where it was stopped: what has a line in FILE for this
-# kind of machine and this kit is not run again. What a gate printed stays beside FILE, in COMMIT.log. Half an hour to a commit on two cores.
+# The gate of each of these commits by itself, one after the other: a clone of its own, `.ci/run` there, and a line in FILE (docs/gate-times.tsv) and on standard output:
+#   commit, passed, failed, seconds on the clock, seconds of processor time (user and system, of everything below it), seconds that everything else took meanwhile, the kind of machine, which one, the kit
+# Run it with nothing else running: it waits until nothing is (ten minutes at most), and what everything else took while the gate ran, other guests of the same host counted in, says whether that stayed so.
+# It goes on where it was stopped: what has a line in FILE for this kind of machine and this kit is not run again; with --again only what has one from this very machine since its start. What a gate printed stays in
+# target/gate-times/COMMIT.log. Ten minutes to half an hour to a commit on two cores.
 # A gate that ends without its last line 'N passed, M failed' has '-' for both (as of a commit whose layout another kit lays out otherwise: see its log).
 set -eu
 root=$(cd "$(dirname "$0")/.." && pwd -P)
 usage() {
-    echo "usage: tools/gate-times.sh [--file FILE] COMMIT.." >&2
+    echo "usage: tools/gate-times.sh [--file FILE] [--again] COMMIT.." >&2
     exit 2
 }
-file=$root/target/gate-times.tsv
+file=$root/docs/gate-times.tsv
+again=
 while [ $# -gt 0 ]; do
     case $1 in
     --file) [ $# -ge 2 ] || usage && file=$2 && shift 2 ;;
+    --again) again=1 && shift ;;
     -*) usage ;;
     *) break ;;
     esac
@@ -24,7 +27,10 @@ done
 mkdir -p "$(dirname "$file")"
 file=$(cd "$(dirname "$file")" && pwd -P)/$(basename "$file")
 touch "$file"
+logs=$root/target/gate-times
+mkdir -p "$logs"
 machine=$(uname -m)$(awk -F': ' '/^model name/ { print " " $2; exit }' /proc/cpuinfo)$(printf ' x%d' "$(nproc)")
+which=$(cut -c 1-8 /proc/sys/kernel/random/boot_id)
 kit=$(rt version)
 
 commits=()
@@ -32,8 +38,9 @@ for word in "$@"; do
     commits+=("$(git -C "$root" rev-parse --short=7 --verify "$word^{commit}")") || exit 2
 done
 
-load() { cut -d ' ' -f 1 /proc/loadavg; }
-quiet() { awk -v load="$(load)" 'BEGIN { exit !(load < 0.5) }'; }
+# Hundredths of a second that the machine's cores were busy since its start, or lent to other guests of its host.
+busy() { awk '/^cpu / { print $2 + $3 + $4 + $7 + $8 + $9 }' /proc/stat; }
+quiet() { [ $(($(sleep 5 && busy) - $1)) -lt 25 ]; }
 
 run() { (cd "$1" && bash .ci/run) </dev/null || true; }
 
@@ -43,20 +50,22 @@ gate() {
     trap 'rm -rf "$work"' EXIT
     git clone -q "$root" "$work/tree"
     git -C "$work/tree" checkout -q --detach "$1"
-    for _ in $(seq 60); do quiet && break || sleep 10; done
-    before=$(load)
-    log=$(dirname "$file")/$1.log
+    for _ in $(seq 120); do quiet "$(busy)" && break; done
+    log=$logs/$1.log
     TIMEFORMAT='%R %U %S'
+    before=$(busy)
     { time run "$work/tree" >"$log" 2>&1; } 2>"$work/times"
+    after=$(busy)
     last=$(grep -E '^[0-9]+ passed, [0-9]+ failed$' "$log" | tail -n 1)
     read -r wall user system <"$work/times"
-    printf '%s\t%s\t%s\t%.0f\t%.0f\t%s\t%s\t%s\n' "$1" "$(echo "${last:--}" | cut -d ' ' -f 1)" "$(echo "${last:-- - -}" | cut -d ' ' -f 3)" "$wall" "$(awk -v u="$user" -v s="$system" 'BEGIN { print u + s }')" "$before" "$machine" "$kit"
+    numbers=$(awk -v wall="$wall" -v user="$user" -v sys="$system" -v all=$((after - before)) 'BEGIN { printf "%d\t%d\t%d", wall + 0.5, user + sys + 0.5, all / 100 - user - sys }')
+    printf '%s\t%s\t%s\t%s\t%s\t%s\t%s\n' "$1" "$(echo "${last:--}" | cut -d ' ' -f 1)" "$(echo "${last:-- - -}" | cut -d ' ' -f 3)" "$numbers" "$machine" "$which" "$kit"
     rm -rf "$work"
     trap - EXIT
 }
 
 for commit in "${commits[@]}"; do
-    if awk -F '\t' -v c="$commit" -v m="$machine" -v k="$kit" '$1 == c && $7 == m && $8 == k { found = 1 } END { exit !found }' "$file"; then
+    if awk -F '\t' -v c="$commit" -v m="$machine" -v w="${again:+$which}" -v k="$kit" '$1 == c && $7 == m && (w == "" || $8 == w) && $9 == k { found = 1 } END { exit !found }' "$file"; then
         echo "$commit: has its line" >&2
         continue
     fi
