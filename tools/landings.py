@@ -2,15 +2,17 @@
 """The table of docs/LANDINGS.md: tools/landings.py [--write] [--times FILE] [--commits]
 
 Each landing with its last commit, the gate's times there, the lines to believe and what it moved; and the times before and after in its note's Gate line. It ends with status 1 where docs/LANDINGS.md has other rows; `--write`
-writes them. FILE is what tools/gate-times.sh writes (target/gate-times.tsv): a commit without a line there is 'to be timed'. `--commits` prints the commits, to hand to tools/gate-times.sh.
+writes them. FILE is what tools/gate-times.sh writes (docs/gate-times.tsv): a commit without a line there is 'to be timed'. `--commits` prints the commits, to hand to tools/gate-times.sh.
 A new landing is a line more in LANDINGS and a note whose Gate line begins `before: to be timed; after: to be timed.`
 
 How it counts.
 - A landing is all that lies between the last commit of the one before and its own (LANDINGS below): `git diff --shortstat` of the two.
+- Times of a landing and of the one before it are told of one machine where both were timed there; a commit may have lines of several machines.
 - Lines to believe: tools/believe.py as it is here over the tree of that commit, with those of its doors that were there then, 'in all' as it says: what the contracts need and whatever those files import.
 
 Git and Python's own library, no more."""
 
+import collections
 import io
 import os
 import re
@@ -96,25 +98,64 @@ def stands(function):
         return re.search(r'^(?:pub )?(?:extern "C" )?fn %s\b' % re.escape(name), f.read(), re.M) is not None
 
 
+Gate = collections.namedtuple('Gate', 'commit passed failed wall processor others kind which kit')
+
+
+def timed(path):
+    """commit -> its gates, the last one last."""
+    gates = collections.defaultdict(list)
+    if os.path.exists(path):
+        with open(path, encoding='utf-8') as f:
+            for line in f:
+                gate = Gate(*line.rstrip('\n').split('\t'))
+                gates[gate.commit].append(gate)
+    return gates
+
+
+def before_and_after(before, after):
+    """The last gates of each, on one machine where both have one; None where there is none."""
+    both = [g.which for g in after if any(b.which == g.which for b in before)]
+    last = [[g for g in gates if g.which == both[-1]] if both else gates for gates in (before, after)]
+    return [gates[-1] if gates else None for gates in last]
+
+
 def clock(seconds):
     return '%d min %d s' % divmod(int(seconds), 60)
 
 
-def told(verdict, wall, processor):
-    """The same in a Gate line: neither a semicolon nor a point in it."""
-    return verdict if verdict == 'no verdict' else '%s in %s, %s of processor time' % (verdict if 'failed' in verdict else verdict + ' passed', wall, processor)
+def cells(gate, letters):
+    """Passed, wall, processor time, machine."""
+    if gate is None:
+        return [UNTIMED] * 3 + ['']
+    verdict = 'no verdict' if gate.passed == '-' else gate.passed if gate.failed == '0' else '%s passed, %s failed' % (gate.passed, gate.failed)
+    return [verdict, clock(gate.wall), clock(gate.processor), letters[gate.which]]
 
 
-def timed(path):
-    """commit -> passed, wall, processor time; and commit -> machine and kit. The last line of a commit counts."""
-    times, where = {}, {}
-    if os.path.exists(path):
-        with open(path, encoding='utf-8') as f:
-            for row in (line.rstrip('\n').split('\t') for line in f):
-                verdict = 'no verdict' if row[1] == '-' else row[1] if row[2] == '0' else '%s passed, %s failed' % (row[1], row[2])
-                times[row[0]] = verdict, clock(row[3]), clock(row[4])
-                where[row[0]] = '%s with kit `%s`, %s' % (row[6], row[7], 'nothing else running' if float(row[5]) < 0.5 else 'beside other work')
-    return times, where
+def told(gate):
+    """In a Gate line: neither a semicolon nor a point in it."""
+    if gate is None or gate.passed == '-':
+        return 'no verdict' if gate else UNTIMED
+    return '%s passed%s in %s, %s of processor time' % (gate.passed, '' if gate.failed == '0' else ', %s failed' % gate.failed, clock(gate.wall), clock(gate.processor))
+
+
+def machines(times, letters):
+    """A sentence for each machine, and one for what was timed on several."""
+    for which, letter in letters.items():
+        here = [g for gates in times.values() for g in gates if g.which == which]
+        others = max(100 * int(g.others) / max(1, int(g.processor)) for g in here)
+        yield 'Machine %s: %s, kit `%s`; everything else on it took at most %.1f in 100 of a gate\'s own processor time meanwhile.' % (letter, here[0].kind, here[0].kit, others)
+    for commit, gates in times.items():
+        if len({g.which for g in gates}) > 1:
+            yield '%s on several: %s.' % (commit, '; '.join('%s in %s, %s of processor time' % (letters[g.which], clock(g.wall), clock(g.processor)) for g in gates))
+
+
+def with_gate_line(notes, number, before, after):
+    """The notes with the times of that landing in its Gate line; a part of a landing has its own behind its name there."""
+    note, _, part = number.partition(', ')
+    line = re.compile(r'(^## %s\. (?:(?!^## ).)*?^- \*\*Gate\*\*: %s)before: [^;\n]*; after: [^.\n]*\.' % (note, r'[^\n]*?%s: ' % part.capitalize() if part else ''), re.M | re.S)
+    if not line.search(notes):
+        raise SystemExit('landings: the note of landing %s has no Gate line with before and after' % number)
+    return line.sub(lambda m: '%sbefore: %s; after: %s.' % (m.group(1), before, after), notes, count=1)
 
 
 def main():
@@ -123,26 +164,21 @@ def main():
     if '--commits' in options:
         print(' '.join(commits))
         return 0
-    times, where = timed(options[options.index('--times') + 1] if '--times' in options else os.path.join(ROOT, 'target', 'gate-times.tsv'))
+    times = timed(options[options.index('--times') + 1] if '--times' in options else os.path.join(ROOT, 'docs', 'gate-times.tsv'))
+    letters = {which: chr(ord('A') + n) for n, which in enumerate(dict.fromkeys(g.which for gates in times.values() for g in gates))}
     with open(NOTES, encoding='utf-8') as f:
         had = f.read()
-    rows = ['| landing | request | last commit | passed | wall | processor time | lines to believe, in files | crates: files, lines | vectors\' data | the rest |', '|' + '---|' * 10]
-    notes, before = had, BEFORE
+    rows = ['| landing | request | last commit | passed | wall | processor time | machine | lines to believe, in files | crates: files, lines | vectors\' data | the rest |', '|' + '---|' * 11]
+    notes, last = had, BEFORE
     for number, request, commit in LANDINGS:
-        row = [number, request, commit] + list(times.get(commit, (UNTIMED,) * 3)) + [believed(commit)] + [moved(before, commit, paths) for paths in MOVED]
-        rows.append('| ' + ' | '.join(row) + ' |')
-        said = ['landing 4\'s note' if c == BEFORE else told(*times[c]) if c in times else UNTIMED for c in (before, commit)]
-        gate = re.compile(r'(^## %s\. (?:(?!^## ).)*?^- \*\*Gate\*\*: )before: [^;\n]*; after: [^.\n]*\.' % re.escape(number), re.M | re.S)
-        if gate.search(notes):
-            notes = gate.sub(lambda m: '%sbefore: %s; after: %s.' % (m.group(1), *said), notes, count=1)
-        elif number.isdigit():
-            raise SystemExit('landings: the note of landing %s has no Gate line with before and after' % number)
-        before = commit
+        before, after = before_and_after(times.get(last, []), times.get(commit, []))
+        rows.append('| ' + ' | '.join([number, request, commit] + cells(after, letters) + [believed(commit)] + [moved(last, commit, paths) for paths in MOVED]) + ' |')
+        notes = with_gate_line(notes, number, 'landing 4\'s note' if last == BEFORE else told(before), told(after))
+        last = commit
     if notes.count(BEGIN) != 1:
         raise SystemExit('landings: docs/LANDINGS.md has no place for the table (%s .. %s)' % (BEGIN, END))
     start, rest = notes.split(BEGIN)
-    for machine in sorted({where[c] for c in commits if c in where}):
-        rows += ['', 'Timed on %s: %s.' % (machine, ', '.join(number for number, _, c in LANDINGS if where.get(c) == machine))]
+    rows += [''] + ['- ' + sentence for sentence in machines(times, letters)]
     notes = start + BEGIN + '\n' + '\n'.join(rows) + '\n' + END + rest.split(END, 1)[1]
     if '--write' in options:
         with open(NOTES, 'w', encoding='utf-8') as f:
@@ -151,7 +187,7 @@ def main():
         there = had.splitlines()
         print('\n'.join('landings: docs/LANDINGS.md does not have: %s' % line for line in notes.splitlines() if line not in there))
         return 1
-    print('%d landings, %d timed' % (len(commits), sum(c in times for c in commits)))
+    print('%d landings, %d timed' % (len(commits), sum(commit in times for commit in commits)))
     return 0
 
 
