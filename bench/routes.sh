@@ -15,7 +15,6 @@ options "$@"
 shift "$taken"
 find_compiler
 find_library
-"$compiler" -std=c11 -O2 -Wall -Wextra -static -I"$root/include" "$here/routes.c" "$library" -o told_by_emulator
-${emulator:+"$emulator"} "$work/routes"
+"$compiler" -std=c11 -O2 -Wall -Wextra -static -I"$root/include" "$here/routes.c" "$library" -o "$work/routes"
 told_by_emulator
 ${emulator:+"$emulator"} "$work/routes"
