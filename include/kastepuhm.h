@@ -36,7 +36,7 @@
  * Machines
  *   x86-64 and 64-bit Arm (aarch64: any armv8-a, little endian), both with the C calling conventions of Linux and both position independent; all that is said here holds for both. The x86-64 library is
  *   what the kit makes of the proved source; the other is made by the same compiler of the same code, with no more changed than how an answer is handed back (tools/library.sh). Tested are both alike
- *   (tests/callers.sh, tests/damage.sh, each with --target). On other machines, 32-bit Arm among them, this header declares nothing that exists. The page's module (WebAssembly) is called in another way: see tools/page.sh.
+ *   (tests/callers.sh, tests/damage.sh, each with --target). On other machines, 32-bit Arm among them, this header declares nothing that exists. The page's module (WebAssembly) is called in another way: see page/reader.js.
  *
  * Stack, as the kit's compiler builds it, on either machine (tests/stack.py [--target ..] measures it)
  *   kastepuhm_read_rndf, kastepuhm_write_rndf, kastepuhm_write_map, kastepuhm_write_packed and kastepuhm_read_packed take less than 8 KiB, kastepuhm_mend, kastepuhm_read_pair, kastepuhm_write_mdf, kastepuhm_check_route and
@@ -64,7 +64,7 @@ extern "C" {
 #define KASTEPUHM_LONGEST_TEXT 16777215u
 
 /*
- * The edition of the format, the first argument of every function that takes a text. In that of December 6, 2006 `solid_yellow` is no boundary (refusal 8 there) and a zone has at least
+ * The edition of the format, the first argument of every function that reads a text by it (kastepuhm_sentence and kastepuhm_is_mission do not). In that of December 6, 2006 `solid_yellow` is no boundary (refusal 8 there) and a zone has at least
  * one spot (refusal 9 for num_spots 0); all else is read by the present rules, and what it accepts, the present one accepts with the same tables. Any number but
  * KASTEPUHM_DECEMBER_2006 is the present edition. An MDF reads alike in both.
  */
@@ -236,7 +236,7 @@ enum {
     KASTEPUHM_NO_SUCH_ID = 16,         /* the limit's id is not in the RNDF */
     KASTEPUHM_LIMIT_AGAIN = 17,        /* the limit's id was already given */
     KASTEPUHM_LIMIT_MISSING = 18,      /* some segment or zone has no limit (line: that of end_speed_limits) */
-    KASTEPUHM_OUTPUT_TOO_LONG = 19,    /* writers only, after all others: the writing is over 16,777,215 bytes, or longer than the lent output (file: the one written, of kastepuhm_expected 0; line 0) */
+    KASTEPUHM_OUTPUT_TOO_LONG = 19,    /* writers, kastepuhm_mend and kastepuhm_expected only, after all others: the writing is over 16,777,215 bytes, or longer than the lent output (file: the one written, of kastepuhm_expected 0; line 0) */
     KASTEPUHM_LISTS_DIFFER = 20,       /* kastepuhm_points_of only: the two lists differ in length (file 0, line 0) */
     KASTEPUHM_NO_BEGINNING = 21,       /* 21 to 24: kastepuhm_check_route only, after all others, file 0: the route is empty, or does not begin at a declared start (line 0) */
     KASTEPUHM_NO_MOVE = 22,            /* a step of the route is no move, the first (line: the place in the route that it leads to, from 0) */

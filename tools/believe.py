@@ -2,7 +2,7 @@
 """What has to be believed, counted: tools/believe.py [--write] [--unused] [--why FILE]
 
 The files of definitions (`specs/`) that the contracts of the exported functions rest on, with their lines, door by door and in all; docs/PROMISES.md ('What you have to
-believe') and README.md ('Proved, and not') say the same, or this ends with status 1 and says what differs. `--write` writes the figures there. Python's own library, no more.
+believe') and README.md ('Proved, and believed') say the same, or this ends with status 1 and says what differs. `--write` writes the figures there. Python's own library, no more.
 
 How it counts.
 - A door is one or more exported functions (DOORS below): the entry points of the crates and, for C and Rust, each `#[no_mangle] pub extern "C"` function of `yard`, none left out.

@@ -176,7 +176,7 @@ pub const NO_SUCH_ID: u32 = 16;
 pub const LIMIT_AGAIN: u32 = 17;
 /// A refusal: some segment or zone has no limit (line: that of end_speed_limits).
 pub const LIMIT_MISSING: u32 = 18;
-/// A refusal: writers only, after all others: the writing is over 16,777,215 bytes, or longer than the lent output (file: the one written, of expected 0; line 0).
+/// A refusal: writers, `mend` and `expected` only, after all others: the writing is over 16,777,215 bytes, or longer than the lent output (file: the one written, of expected 0; line 0).
 pub const OUTPUT_TOO_LONG: u32 = 19;
 /// A refusal: points_of only: the two lists differ in length (file 0, line 0).
 pub const LISTS_DIFFER: u32 = 20;
