@@ -1,4 +1,4 @@
--- WHAT A READER MUST BELIEVE. The words of each refusal number: those of README.md's table. Assumes nothing.
+-- WHAT A READER MUST BELIEVE. The words of each refusal number: those of docs/REFUSALS.md's table. Assumes nothing.
 use lib.ListN.{getD}
 use Rattle.terms.specs.Words.{List, [], _∷_, ℕ, eqb, Bytes, ascii, pick}
 
