@@ -4,10 +4,12 @@
 // writings/specs/Writes), of unpacking (unpackings/specs/Unpacks), of mending (mend_law/specs/Mends), of the checker of routes (pair_checks/specs/Checks), of the question whether a mission can be driven (reach_checks/specs/Checks) and of the look-up (look_up/specs/LookUp, Listed). proofs/Settled, RouteSettled, MissionSettled, UnpackSettled, MendSettled, PointSettled, ListSettled: no second answer and no second memory satisfies them, and one does. proofs/MissionAgreed: some route is accepted exactly if the mission can be driven. proofs/Whole: an answer tells the whole reply.
 //
 // Rests on `writings`, `unpackings`, `packed_tables`, `mend_law`, `pair_checks`, `reach_checks`, `look_up` and what they rest on.
+#![tactic(auto)]
+
 
 // A name: its start and length in the lent text, or in the lent packed bytes. A missing name is 0, 0.
 #[repr(C)]
-#[derive(Drop)]
+#[derive(Clone, Copy)]
 pub struct Name {
     pub start: u32,
     pub length: u32,
@@ -16,7 +18,7 @@ pub struct Name {
 // accepted is 1 or 0. Where it is 0, file, line, number and column are the refusal's and all else is 0; where it is 1, they are 0.
 // Where no MDF was read, its fields are 0.
 #[repr(C)]
-#[derive(Drop)]
+#[derive(Clone, Copy)]
 pub struct Answer {
     pub accepted: u32,
     pub file: u32,
@@ -44,7 +46,7 @@ pub struct Answer {
 
 // What a writer answers: as the reader of these texts, or 19; and how many bytes it wrote, 0 where it refused.
 #[repr(C)]
-#[derive(Drop)]
+#[derive(Clone, Copy)]
 pub struct WriteAnswer {
     pub answer: Answer,
     pub length: u32,
@@ -52,7 +54,7 @@ pub struct WriteAnswer {
 
 // What the look-up of a list answers: accepted is 1, and file, line, number and column are 0; or 0, and they are the refusal's.
 #[repr(C)]
-#[derive(Drop)]
+#[derive(Clone, Copy)]
 pub struct ListAnswer {
     pub accepted: u32,
     pub file: u32,
@@ -63,7 +65,7 @@ pub struct ListAnswer {
 
 // What the mending tool answers: accepted is 1, how many rows of the list it used and how many bytes it wrote; or 0, and file, line, number and column are the refusal's. All else is 0.
 #[repr(C)]
-#[derive(Drop)]
+#[derive(Clone, Copy)]
 pub struct MendAnswer {
     pub accepted: u32,
     pub file: u32,

@@ -1,6 +1,8 @@
 // The readers' replies in plain words, one sentence each: `network.rndf:9:12: the entry is no declared lane waypoint or perimeter point (12)` with the
 // line and a caret below it, or the rows used. What is put are the definitions of specs/Sentences and Answers, for every name, text and reply; nothing is required.
 // Rests on `output` (each put ensures `Wrote`), `reasons` (the words of each number), `shown` and `replies`.
+#![tactic(auto)]
+
 ghost use Rattle.std.specs.Prelude.{◌≡◌, ◌++◌, length};
 ghost use Rattle.terms.specs.Ascii.{ascii};
 ghost use Rattle.output.specs.Pen.{pen, Wrote};

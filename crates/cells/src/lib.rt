@@ -4,3 +4,5 @@
 // again. proofs/CellLaws: the same for every machine whose table fits (grammar/proofs/Tabled). proofs/Theorems: THE THEOREMS, over the whole table, for the RNDF, in each edition, with L8's rule and without, and for the MDF.
 //
 // Rests on `grammar` and what it rests on.
+#![tactic(auto)]
+

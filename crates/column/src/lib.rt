@@ -4,6 +4,8 @@
 // specs/Before: the lines before the one that is wanted and the place behind them, executable. proofs/Lines: where that line starts; proofs/Places: the place there.
 //
 // Rests on `columns`, `column_parts`, `network` and what they rest on.
+#![tactic(auto)]
+
 ghost use Rattle.std.specs.Prelude.{◌≡◌, ◌<◌, ◌≤◌, pos, length, take, drop};
 ghost use Rattle.grammar.specs.PlaceTable.{rndf_table_of};
 ghost use Rattle.line.specs.Lines.{lines_of};
@@ -30,7 +32,7 @@ use scan::{far_byte_from, two_from};
 use statement::{Id, kinds};
 
 // A place of the grammar; none behind a line that is refused.
-#[derive(Drop)]
+#[derive(Clone, Copy)]
 pub enum Standing {
     At(Place),
     No,

@@ -1,6 +1,8 @@
 // What the columns of an RNDF and of an MDF have in common: the first byte that is not allowed, the field of a number, and where a field starts.
 //
 // Rests on `columns` and what it rests on.
+#![tactic(auto)]
+
 ghost use Rattle.std.specs.Prelude.{◌≡◌};
 ghost use Rattle.law_columns.specs.Finding.{bad_at_of, listed_at};
 ghost use Rattle.columns.specs.Locating.{span_start};

@@ -4,3 +4,5 @@
 // proofs/Bounds: by which scans a byte is found, and that no column is far behind its line. Ties, RndfTies, MdfTies: it is what `law_columns` finds over the machine's places; Theorems: in a whole text.
 //
 // Rests on `judge`, `mission_judge`, `made_out`, `place`, `mission_place`, `law_columns`, `refusal` and what they rest on.
+#![tactic(auto)]
+

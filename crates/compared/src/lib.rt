@@ -2,6 +2,8 @@
 // specs/Compared: both, executable, and what the first means. proofs/Means: that it does, and that nothing else would. Nothing is required, whatever the bytes are.
 //
 // Rests on `output` (each put ensures `Wrote`), `shown`, `line`, `scan` and what they rest on.
+#![tactic(auto)]
+
 ghost use Rattle.std.specs.Prelude.{◌≡◌, [], ◌++◌};
 ghost use Rattle.line.specs.Lines.{lines_of};
 ghost use Rattle.output.specs.Pen.{pen, Wrote};
@@ -12,7 +14,7 @@ use scan::{far_byte_from, same};
 use shown::first;
 
 // Where two writings differ first: nowhere, or in the line that starts at so many bytes in both, behind so many lines.
-#[derive(Drop)]
+#[derive(Clone, Copy)]
 pub enum Difference {
     Nowhere,
     At(usize, usize),

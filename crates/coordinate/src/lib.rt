@@ -1,13 +1,15 @@
 // Coordinates in fields.
 // A field that is not spelled right is `No` (refusal 8). A value stays raw, up to 999,999,999 millionths of a degree on
 // either side of 0: whether it is in range (refusal 9) is tested in `permitted`. Rests on `terms`, `scan` and `number`.
+#![tactic(auto)]
+
 ghost use Rattle.std.specs.Prelude.{◌≡◌};
 ghost use Rattle.coordinate.specs.Executable.{Small, the_millionths_of, with_sign, the_coordinate_of};
 
 use number::{Number, number_of, plain_of};
 
 // What a coordinate field says, in millionths of a degree.
-#[derive(Drop)]
+#[derive(Clone, Copy)]
 pub enum Degrees {
     Is(i32),
     No,

@@ -1,8 +1,10 @@
 // How many rows of each table were used, as an acceptance replies it. The readers of the two files answer it and the entry points hand it on, so it stands below both.
 // There is no code here. Rests on nothing.
+#![tactic(auto)]
+
 
 // Of an RNDF.
-#[derive(Drop)]
+#[derive(Clone, Copy)]
 pub struct Counts {
     pub segments: u32,
     pub lanes: u32,
@@ -15,7 +17,7 @@ pub struct Counts {
 }
 
 // Of an MDF.
-#[derive(Drop)]
+#[derive(Clone, Copy)]
 pub struct MissionCounts {
     pub goals: u32,
     pub limits: u32,

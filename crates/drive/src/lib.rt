@@ -3,6 +3,8 @@
 // specs/Verdict: the same, executable. proofs/Parts: test by test. proofs/Found: where the tables tell of moves and goals what the law says, the verdict is the law's.
 //
 // Apart from `reach`, which reads the texts first: this is checked in seconds. Rests on `legs`, `room` and what they rest on.
+#![tactic(auto)]
+
 ghost use Rattle.std.specs.Prelude.{◌≡◌, length, replicate};
 ghost use Rattle.goal_points.specs.Goals.{goal_point_of};
 ghost use Rattle.search.specs.Search.{leads_to_of};
@@ -14,7 +16,7 @@ use room::in_word;
 use rows::clear;
 
 // What a mission gets: what stands in place of the line, and the number.
-#[derive(Drop)]
+#[derive(Clone, Copy)]
 pub enum Verdict {
     Good,
     Wrong(u32, u8),

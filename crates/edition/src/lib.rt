@@ -3,11 +3,13 @@
 // specs/Editions: **what each means**, as the law has it.
 //
 // Rests on `law` and what it rests on.
+#![tactic(auto)]
+
 ghost use Rattle.std.specs.Prelude.{◌≡◌};
 ghost use Rattle.edition.specs.Editions.{edition_numbered};
 
 // The present one, of March 14, 2007, and the one as it stood on December 6, 2006.
-#[derive(Drop)]
+#[derive(Clone, Copy)]
 pub enum Edition {
     March2007,
     December2006,

@@ -6,6 +6,8 @@
 // `text` answers in that edition, and what is gathered in an edition is gathered in the present one.
 //
 // Rests on `edition`, `editions`, `judge`, `walk` and what they rest on.
+#![tactic(auto)]
+
 ghost use Rattle.std.specs.Prelude.{◌≡◌};
 ghost use Rattle.grammar.specs.Editions.{december};
 ghost use Rattle.edition.specs.Editions.{inner};

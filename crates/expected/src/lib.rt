@@ -4,6 +4,8 @@
 // specs/Words: what is told, executable. proofs/Right: **what is told of a refusal that a reader gave is what the law says** (expected_law/specs/Tells).
 //
 // Rests on `expected_lines` (5 to 10 and 25), `expected_references` (12 to 18), `output` and, for its theorem, on `expected_places`, `expected_fields`, `expected_named` and what they rest on.
+#![tactic(auto)]
+
 ghost use Rattle.std.specs.Prelude.{◌≡◌, length};
 ghost use Rattle.output.specs.Pen.{pen, Wrote};
 ghost use Rattle.expected_law.specs.Tells.{AnswersExpected};

@@ -5,3 +5,5 @@
 //   Behind, Fields: behind the first fields of a line. Theorems: behind lines that begin a well-formed file, what is listed is exactly what may stand. Worked: examples.
 //
 // Rests on `expected_law`, `law_columns`, `law_faults`, `law` and what they rest on.
+#![tactic(auto)]
+

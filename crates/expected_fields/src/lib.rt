@@ -5,3 +5,5 @@
 //   Faults, what is told of 8 and 9 is what the law expects; for every file. Editions, the field is the same in every edition. Words, Maximum, the words by the item alone, but for a limit's maximum. Files, the theorems of both files, which other crates cite.
 //
 // Rests on `expected_exact`, `expected_law`, `editions`, `law_columns`, `law_faults`, `law` and what they rest on.
+#![tactic(auto)]
+

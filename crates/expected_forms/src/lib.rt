@@ -3,6 +3,8 @@
 // specs/Forms: the forms of a place, executable. specs/Listing: the words of a list that is put form by form; proofs/PutLists: that the whole list is what Telling says. Nothing is required of a place or a table.
 //
 // Rests on `expected_words` (the words of a form), `place`, `mission_place`, `made_out` (how many fields a statement has), `output` and what they rest on.
+#![tactic(auto)]
+
 ghost use Rattle.std.specs.Prelude.{◌≡◌, [], ◌∷◌, length};
 ghost use Rattle.terms.specs.Words.{pick};
 ghost use Rattle.output.specs.Pen.{pen, Wrote};
@@ -145,7 +147,7 @@ pub fn rndf_form(edition: Edition, p: Place, kind: u8) -> Form
 // ## What may stand at a place of an RNDF
 
 // A list that is put: the next place, and whether anything was put.
-#[derive(Drop)]
+#[derive(Clone, Copy)]
 struct Listing {
     at: usize,
     some: bool,

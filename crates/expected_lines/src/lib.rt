@@ -4,6 +4,8 @@
 // specs/Words: the same, executable.
 //
 // Rests on `expected_forms`, `column`, `mission_column`, `shown` (the line) and what they rest on.
+#![tactic(auto)]
+
 ghost use Rattle.std.specs.Prelude.{◌≡◌};
 ghost use Rattle.output.specs.Pen.{pen, Wrote};
 ghost use Rattle.expected_lines.specs.Words.{lists, lists_field_of, item_at, kind_words, fields_words, rndf_line_words, rndf_words, goes_on_of, maximum_words, order_words, order_fields_words, mdf_line_words, mdf_words};

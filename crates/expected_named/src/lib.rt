@@ -5,3 +5,5 @@
 // proofs/Theorems: what is listed is `ListsEntries`, the name and `all_numbers`.
 //
 // Rests on `expected_references`, `expected_law`, `law`, `find_line` and what they rest on.
+#![tactic(auto)]
+

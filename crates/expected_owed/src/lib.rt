@@ -4,3 +4,5 @@
 // proofs/: Owing, for every file: behind statements that lead to a place, whole files go on with as many lines that begin with numbers as the place owes. Theorems: the places of both files.
 //
 // Rests on `expected_law`, `law_faults`, `law_spelling`, `text`, `grammar`, `law`, `line` and `terms`.
+#![tactic(auto)]
+

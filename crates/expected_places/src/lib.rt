@@ -4,3 +4,5 @@
 // RndfPlaces, MdfPlaces: so what is listed there is expected (OwedBehind), and the form of a line's kind is what is expected of its fields. LineWalks: the place behind lines that are taken stands for the machine's.
 //
 // Rests on `expected_forms`, `expected_exact`, `expected_owed`, `judge`, `mission_judge` and what they rest on.
+#![tactic(auto)]
+

@@ -4,6 +4,8 @@
 // specs/Named: what the lines of the texts name, executable. specs/Listing: how a list is put. That what is listed is the law's is `expected_named`.
 //
 // Rests on `find_line` (the kind of a line), `line`, `number`, `marks`, `shown`, `expected_words` and `output` (each put ensures `Wrote`), and on what they rest on.
+#![tactic(auto)]
+
 ghost use Rattle.std.specs.Prelude.{◌≡◌, map, ◌-◌, take, eqb};
 ghost use Rattle.terms.specs.Ascii.{ascii};
 ghost use Rattle.terms.specs.Words.{pick};

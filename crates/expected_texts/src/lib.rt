@@ -4,3 +4,5 @@
 // RndfTold, MdfTold: THE THEOREMS, the words for each number.
 //
 // Rests on `expected_places`, `expected_fields`, `expected_lines`, `column`, `mission_column` and what they rest on.
+#![tactic(auto)]
+

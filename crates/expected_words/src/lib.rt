@@ -3,6 +3,8 @@
 // specs/Items: what each item and form of the program stands for. proofs/Laws, proofs/Lengths: laws of the words for callers, and how long they are at most.
 //
 // Rests on `expected_law` (the words), `word` (the keywords), `edition`, `shown` and `output` (each put ensures `Wrote`).
+#![tactic(auto)]
+
 ghost use Rattle.std.specs.Prelude.{◌≡◌, [], ◌++◌};
 ghost use Rattle.terms.specs.Ascii.{ascii};
 ghost use Rattle.output.specs.Pen.{pen, Wrote};
@@ -18,7 +20,7 @@ use shown::line_of;
 
 // What a field may be. A keyword by its kind: of an RNDF (`statement::kinds`) or of an MDF (`statement::orders`); a number from one to another; the part m.n; a point m.n.i, i from one
 // to another; the entry of an exit, with y from this on; a limit's three fields; the boundaries of an edition.
-#[derive(Drop)]
+#[derive(Clone, Copy)]
 pub enum Item {
     Word(u8),
     Order(u8),
@@ -36,7 +38,7 @@ pub enum Item {
 }
 
 // What a line may be: the first so many of these items, 1 to 3.
-#[derive(Drop)]
+#[derive(Clone, Copy)]
 pub struct Form {
     pub count: u8,
     pub a: Item,

@@ -8,3 +8,5 @@
 //   RndfFaults: 12 and 13 by the first rows at fault, on the lines that `find_line` finds. MdfFaults: 14 to 18 likewise; it rests on Places, MissionOrder, MissionFaults.
 //
 // Rests on `find_line`, `walk`, `fill`, `form_faults` (where a line starts), `text` and what they rest on.
+#![tactic(auto)]
+

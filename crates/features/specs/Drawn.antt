@@ -11,7 +11,7 @@ use Rattle.rows.specs.declared.CheckpointRow.{CheckpointRow}
 use Rattle.rows.specs.Read.{segment_at_of, lane_at_of, zone_at_of, spot_at_of, checkpoint_at_of}
 use Rattle.rows.specs.Name.{name_of}
 use Rattle.counts.specs.declared.Counts.{Counts}
-unfoldable pub use Rattle.json.specs.Json.{each, escaped, escapes, quoted, comma_from, position_at, position_from, positions, position_back, ring}
+unfoldable pub use Rattle.map_json.specs.Json.{each, escaped, escapes, quoted, comma_from, position_at, position_from, positions, position_back, ring}
 
 -- ## Loops
 -- what each of k rows, from row i on, does

@@ -5,15 +5,17 @@
 // A checkpoint's identifier needs the part that it stands in: the parts are gone through once more, and each takes the checkpoint rows next in turn that stand before
 // its end (rows stand part by part, and within a part in any order). A zone's first spot is 0 where it has none, and then it is not looked at.
 //
-// specs/Drawn: what is put, executable; every contract cites it. Rests on `json`, `output` (each put ensures `Wrote`), `read_rows`, `rows` and `counts`.
+// specs/Drawn: what is put, executable; every contract cites it. Rests on `map_json`, `output` (each put ensures `Wrote`), `read_rows`, `rows` and `counts`.
 //
 // Settled: every contract says what the output and the place are, for every output and place.
+#![tactic(auto)]
+
 ghost use Rattle.std.specs.Prelude.{◌≡◌, ◌+◌, ◌-◌};
 ghost use Rattle.output.specs.Pen.{pen, Wrote};
 ghost use Rattle.features.specs.Drawn.{lane_shape, perimeter_shape, named, lane, perimeter, behind_one_of, checkpoint, segment_lanes, all_lanes, all_perimeters, walk, part_end, part_checkpoints, steps, part_walk, lane_walk, segment_walk, spot_walk, zone_walk, all_walk, drawn};
 
 use counts::Counts;
-use json::{put_comma, put_position, put_positions, put_quoted, put_ring};
+use map_json::{put_comma, put_position, put_positions, put_quoted, put_ring};
 use output::{put_byte, put_bytes, put_integer, put_pair, put_triple};
 use read_rows::{checkpoint_at, lane_at, segment_at, spot_at, zone_at};
 use rows::{CheckpointRow, LaneRow, SegmentRow, Stretch, ZoneRow, name_of};
@@ -232,7 +234,7 @@ fn put_perimeters(
 // ## Checkpoints
 
 // The place of the pen, and the next checkpoint row in turn.
-#[derive(Drop)]
+#[derive(Clone, Copy)]
 struct Walked {
     at: usize,
     next: usize,

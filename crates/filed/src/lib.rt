@@ -4,3 +4,5 @@
 // specs/Pairs, proofs/PairTexts, Pairs: two texts that differ in everything but what they mean, with equal writings; and two that differ in one option, and two in the order of stops, with others.
 //
 // Rests on `return_trip` (what was written), `writings`, `house_text`, `same`, `promises`, `compared` and what they rest on.
+#![tactic(auto)]
+

@@ -3,6 +3,8 @@
 // not there or can't be taken (`put_trouble`, specs/Troubles), for every name.
 //
 // Rests on `output`, `shown`, `scan` and the kit's `io`, `libc` and `os`.
+#![tactic(auto)]
+
 ghost use Rattle.std.specs.Prelude.{◌≡◌, true, ◌++◌, ◌≤◌, length};
 ghost use Rattle.output.specs.Pen.{pen, Wrote};
 ghost use Rattle.files.specs.Loads.{Unread, Loads, LoadsRndf};
@@ -13,7 +15,7 @@ use scan::same;
 use shown::{first, is_mission_first};
 
 // What came of a file: so many bytes of it, or why there are none. `Mission`: it was to be an RNDF, and begins as an MDF does.
-#[derive(Drop)]
+#[derive(Clone, Copy)]
 pub enum Loaded {
     Bytes(usize),
     NotAsked,

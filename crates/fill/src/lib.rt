@@ -10,3 +10,5 @@
 //   LimitCounts: 18 by a count. ReferenceLines, MissionLines, MissionFits: the first statement at fault, by the first rows at fault.
 //
 // Rests on `terms`, `law` and `grammar`.
+#![tactic(auto)]
+

@@ -4,3 +4,5 @@
 // (`filled-from`, of any form of row) and as the words of its rows (`words-from`).
 //
 // Rests on `rows`, `terms` and what they rest on.
+#![tactic(auto)]
+

@@ -5,6 +5,8 @@
 // proofs/FirstFields, RndfLines, MdfLines: what the judge says of a line has the kind of its first field. proofs/Counting: so the count finds what a judged walk finds.
 //
 // Rests on `line`, `word`, `refusal`, `judge` (the kind of a word) and `walk`, for its theorems on `mission_judge`, and on what they rest on.
+#![tactic(auto)]
+
 ghost use Rattle.std.specs.Prelude.{◌≡◌};
 ghost use Rattle.judge.specs.RndfLine.{rndf_kind};
 ghost use Rattle.find_line.specs.FoundLines.{fields_end_of, first_of, rndf_line_kind_of, digit_kind_of, first_order_of, mdf_line_kind_of, rndf_line_in, mdf_line_in};

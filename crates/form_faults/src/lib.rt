@@ -4,3 +4,5 @@
 // proofs/: FileFaults, the laws for every file; FormFaults, the same for the RNDF and for the MDF, which other crates cite.
 //
 // Rests on `terms`, `scan`, `line`, `number`, `coordinate`, `word`, `grammar` and `text`.
+#![tactic(auto)]
+

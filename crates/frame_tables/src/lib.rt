@@ -3,3 +3,5 @@
 // proofs/Fields: numbers and names at a place, records with a name. Passes: so many records, one behind the other. File, Segments, Zones, Spots: the passes, both ways: what passes is so (`..-so`), and all that is so passes (`..-all`). Told: where each table stands, table by table. Frame: the passes together.
 //
 // Rests on `packed_tables`, `packed_frame` and what they rest on.
+#![tactic(auto)]
+

@@ -8,3 +8,5 @@
 // proofs/: the laws. Theorems has the statements that other crates cite. What every cell of the table says of every spelling stands in the crate `cells`.
 //
 // Rests on `law` and `terms`.
+#![tactic(auto)]
+

@@ -4,6 +4,8 @@
 // Rests on `writer`. Nothing is promised of what is printed (no contract can say it); what is written is `write_rndf`'s and `write_mdf`'s, and proved there.
 //
 // `data/` is yard B with every option and a mission for it, both as untidy as a text may be; `stdout` was written by hand from it.
+#![tactic(auto)]
+
 use edition::Edition;
 use libc::STDOUT_FILENO;
 use refusal::Refusal;
@@ -16,7 +18,7 @@ const MOST_BYTES: usize = 8192;
 const MOST_WRITTEN: usize = 8193;
 
 // What came of a file: so many bytes of it, or why there are none.
-#[derive(Drop)]
+#[derive(Clone, Copy)]
 enum Loaded {
     Bytes(usize),
     TooBig,
@@ -24,7 +26,7 @@ enum Loaded {
 }
 
 // What came of a writing: so many bytes, or a refusal.
-#[derive(Drop)]
+#[derive(Clone, Copy)]
 enum Ended {
     Bytes(usize),
     Refused(Refusal),

@@ -9,3 +9,5 @@
 //   Theorems: `arranged-rndf` and `arranged-mdf`.
 //
 // Rests on `house_lines` (the order of lines), `house_text` (what the house writing is), `text`, `line`, `grammar`, and on what these rest on.
+#![tactic(auto)]
+

@@ -8,6 +8,8 @@
 // Rests on `output`, `line`, `word` and `scan`, for its definitions on `text` and `grammar`, for one law on `fill`, and on what they rest on.
 //
 // Settled: `put_house` says what the output and the place are (`Wrote`), for every text, output and place.
+#![tactic(auto)]
+
 ghost use Rattle.std.specs.Prelude.{◌≡◌, [], ◌<◌, eqb};
 ghost use Rattle.terms.specs.Words.{pick};
 ghost use Rattle.line.specs.Forms.{part, SpanWithin, FieldsWithin};
@@ -83,7 +85,7 @@ fn body_end(line: &[u8]) -> usize
 const BLANK: u8 = 8;
 
 // A line's rank and its fields.
-#[derive(Drop)]
+#[derive(Clone, Copy)]
 struct Said {
     rank: u8,
     fields: Fields,

@@ -10,3 +10,5 @@
 //   Lawful: House and HouseText say the same. Theorems: THE RETURN TRIP, for the RNDF and for the MDF. YardA: yard A's house writing is yard A's text.
 //
 // Rests on `grammar` (the house order), `text` and `line` (lines, and what a text spells), `number`, `coordinate` and `word` (fields), and `table_words` (names told in another way).
+#![tactic(auto)]
+

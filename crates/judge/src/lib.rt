@@ -5,6 +5,8 @@
 // specs/Judging: what a line gets, executable, for every file; specs/RndfLine: for an RNDF. proofs/: it is what `text` says of the line (RndfTies).
 //
 // Rests on `line`, `word`, `made_out`, `place`, `statement` and what they rest on.
+#![tactic(auto)]
+
 ghost use Rattle.std.specs.Prelude.{◌≡◌};
 ghost use Rattle.judge.specs.RndfLine.{rndf_kind};
 

@@ -3,3 +3,5 @@
 // specs/Rows: what that says of the walk (network/specs/Reaching), from the line that opens the part on. proofs/Rows: THE THEOREM.
 //
 // Rests on `network` and what it rests on.
+#![tactic(auto)]
+

@@ -7,3 +7,5 @@
 //   Listed, Rndf, Mdf: what is asked, of each file. Theorems: the theorems of both files, which other crates cite.
 //
 // Rests on `law`, `law_spelling`, `form_faults`, `text`, `grammar`, `word`, `coordinate`, `number`, `line`, `scan` and `terms`.
+#![tactic(auto)]
+

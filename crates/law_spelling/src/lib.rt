@@ -5,3 +5,5 @@
 // proofs/: Fields, Lines; Mixing and Options (options in any order); RndfParts, MdfParts; OneLine (a line is one statement); House; Texts.
 //
 // Rests on `law`, `text`, `grammar`, `word`, `coordinate`, `number`, `line`, `scan` and `terms`.
+#![tactic(auto)]
+

@@ -7,3 +7,5 @@
 //   Among, LineFaults: the first line at fault, for every file. RndfFirst: 12 and 13. MdfFirst: 14 to 18.
 //
 // Rests on `fault_lines`, `table_words`, `law_spelling`, `fill`, `room`, `counts`, `law` and what they rest on.
+#![tactic(auto)]
+

@@ -6,6 +6,8 @@
 // specs/Legs: the same, executable. proofs/Steps: that the legs by numbers are the legs one after the other. proofs/Told: that it is the law's first goal without chain, or that all have theirs.
 //
 // Rests on `search`, `reach_law`, `goal_points` and what they rest on.
+#![tactic(auto)]
+
 ghost use Rattle.std.specs.Prelude.{◌≡◌, ◌-◌, ◌<◌, length, replicate};
 ghost use Rattle.search.specs.Search.{found_from, leads_to_of};
 ghost use Rattle.goal_points.specs.Goals.{goal_point_of};

@@ -1,5 +1,7 @@
 // A line: its end without CR, its form (refusals 2, 3, 4, or where its fields end) and its fields.
 // Rests on `scan` (every loop over bytes is there) and `terms`. A text's lines are found by scanning for LF.
+#![tactic(auto)]
+
 ghost use Rattle.std.specs.Prelude.{◌≡◌};
 ghost use Rattle.scan.specs.Allowed.{separates, outside, inside, all};
 ghost use Rattle.scan.specs.Reach.{up_to, fails, plain};
@@ -82,7 +84,7 @@ fn is_clean(s: &[u8], stop: usize, mark: usize) -> bool
 }
 
 // What a line's content is before its fields are looked at: refused with 2, 3 or 4, or where its fields end.
-#[derive(Drop)]
+#[derive(Clone, Copy)]
 pub enum Form {
     Bad(u8),
     Body(usize),
@@ -112,7 +114,7 @@ pub fn form_of(s: &[u8]) -> Form
 }
 
 // A field's first byte, and the place behind its last.
-#[derive(Drop)]
+#[derive(Clone, Copy)]
 pub struct Span {
     pub start: usize,
     pub stop: usize,
@@ -128,7 +130,7 @@ fn span_at(s: &[u8], from: usize) -> Span
 }
 
 // The first three fields, and how many there are: 4 stands for more than three.
-#[derive(Drop)]
+#[derive(Clone, Copy)]
 pub struct Fields {
     pub count: u8,
     pub a: Span,

@@ -5,6 +5,8 @@
 // both files from a list of labels and texts.
 // A line is printed as its number, and `refused` with 2, 3 or 4, or `blank`, or how many fields it has (4: more
 // than three) and the first three, each as start in the text + length, with its bytes if they are at most 32.
+#![tactic(auto)]
+
 ghost use Rattle.std.specs.Prelude.{◌+◌, ◌≤◌, length};
 ghost use Rattle.line.specs.Forms.{SpanWithin};
 

@@ -4,6 +4,8 @@
 // specs/Others: what is asked of several rows at once, executable; proofs/Others: its laws.
 //
 // Rests on `refusal`, `rows` (how rows lie in a lent slice), `units` (checkpoint numbers) and `terms`.
+#![tactic(auto)]
+
 ghost use Rattle.std.specs.Prelude.{◌≡◌, ◌+◌, ◌≤◌, length};
 ghost use Rattle.rows.specs.Lay.{rows_of};
 ghost use Rattle.rows.specs.Strides.{checkpoint_stride};
@@ -88,7 +90,7 @@ pub fn point_of(checkpoints: &[u32], number: CheckpointNumber) -> u32
 
 // ## A list of numbers
 // Every number has its answer; or the two lists differ in length.
-#[derive(Drop)]
+#[derive(Clone, Copy)]
 pub enum ListReply {
     Answered,
     Refused(Refusal),

@@ -1,5 +1,7 @@
 // The look-up of a list of checkpoint numbers, run: for each case the reply (`answered`, or `refused` with file, line and number) and every number of the lent list,
 // which is full of 9 before the call. The file `stdout` was worked out by hand from request L4.
+#![tactic(auto)]
+
 use libc::STDOUT_FILENO;
 use look_up::{ListReply, points_of};
 

@@ -5,6 +5,8 @@
 // specs/Made: what is made of the fields, by the shape of the kind. proofs/Ties: it is what `text` reads of the same fields.
 //
 // Rests on `statement`, `line`, `number`, `coordinate`, `word`, `text`, `grammar`, `scan` and `terms`.
+#![tactic(auto)]
+
 ghost use Rattle.std.specs.Prelude.{◌≡◌, ◌<◌, ◌+◌, length, get_or, ltb};
 ghost use Rattle.line.specs.Forms.{part};
 ghost use Rattle.number.specs.Executable.{the_integer_of, the_pair_of, triple_of};
@@ -20,7 +22,7 @@ use statement::{Id, Order, Statement, kinds, orders};
 use word::boundary_word;
 
 // What the fields are, as one statement.
-#[derive(Drop)]
+#[derive(Clone, Copy)]
 pub enum Made {
     Is(Statement),
     No,
@@ -305,7 +307,7 @@ pub fn made_out(s: &[u8], base: usize, f: Fields, kind: u8) -> Made
 }
 
 // ## Orders of an MDF
-#[derive(Drop)]
+#[derive(Clone, Copy)]
 pub enum MadeOrder {
     Is(Order),
     No,

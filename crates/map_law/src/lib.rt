@@ -3,3 +3,5 @@
 // specs/Map: the bytes, what a reader must believe. proofs/Worked: yard A's map, and that of a small yard with zones, byte for byte.
 //
 // Rests on `law` and what it rests on. Settled: a map is a function of the network.
+#![tactic(auto)]
+

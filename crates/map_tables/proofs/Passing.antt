@@ -13,7 +13,7 @@ use Rattle.grammar.specs.Tables.{CheckpointRow}
 use Rattle.table_words.specs.Shown.{shown_checkpoint}
 use Rattle.output.specs.Pen.{Pen, put}
 use Rattle.features.specs.Drawn.{Walk, walk}
-use Rattle.json.proofs.Loops.{behind}
+use Rattle.map_json.proofs.Loops.{behind}
 use Rattle.map_tables.specs.Marked.{marks}
 use Rattle.map_tables.specs.Passed.{Left, Behind, Passes}
 use Rattle.map_tables.proofs.Marks.{later_append}

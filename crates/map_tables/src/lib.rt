@@ -8,3 +8,5 @@
 //   Theorem: the theorem of the whole, `map-drawn`.
 //
 // Rests on `replies`, `features`, `filled_rows`, `map_law`, `table_words`, `law_tables` and what they rest on.
+#![tactic(auto)]
+

@@ -7,6 +7,8 @@
 // specs/Answers: what is answered once the text was read, executable. proofs/Steps: what the program does, said as the contract says it. That no second reply and no second memory satisfies the contract, and one does, is proved in `writings`, without the code.
 //
 // Rests on `writings`, `reader`, `features`, `map_tables`, `output` and what they rest on.
+#![tactic(auto)]
+
 ghost use Rattle.std.specs.Prelude.{length};
 ghost use Rattle.edition.specs.Editions.{rules_of};
 ghost use Rattle.law.specs.Tables.{lent};

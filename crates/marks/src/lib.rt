@@ -9,6 +9,8 @@
 // Rests on `fill` (the first fault of a list), `read_rows`, `rows`, `units` and `terms`, and on what `fill` rests on.
 //
 // Settled: every contract of a public function here reads `r ≡ f ..`, so no second answer satisfies it. None of them has a `requires`.
+#![tactic(auto)]
+
 ghost use Rattle.std.specs.Prelude.{◌≡◌};
 ghost use Rattle.fill.specs.FirstFaults.{in_parts};
 ghost use Rattle.marks.specs.Rows.{checkpoint_says, goal_says, said};
@@ -19,14 +21,14 @@ use read_rows::{checkpoint_at, goal_at, limit_at};
 use units::{CheckpointNumber, SegmentId};
 
 // The first row at fault.
-#[derive(Drop)]
+#[derive(Clone, Copy)]
 pub enum FirstRow {
     At(u32),
     Nothing,
 }
 
 // The first limit at fault: 16 or 17, at this row.
-#[derive(Drop)]
+#[derive(Clone, Copy)]
 pub enum BadLimit {
     NotThere(u32),
     Again(u32),

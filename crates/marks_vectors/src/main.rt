@@ -2,6 +2,8 @@
 // 13: `r`, the second of two checkpoints repeats the first. 15: `f`, a goal is no checkpoint's number. 16 and 17: `n`, an id is not in the RNDF; `a`, it was given before.
 // Then all numbers 1 to 32,768 in one table and behind them one of the edges: so no two numbers have the same mark.
 // `stdout` was worked out from document 01 by `expected.py`, not by this program.
+#![tactic(auto)]
+
 use libc::STDOUT_FILENO;
 use marks::{BadLimit, FirstRow, first_bad_limit, first_foreign_goal, first_repeat};
 

@@ -8,6 +8,8 @@
 // specs/Mending: the same, executable. proofs/: what is found is what the law asks (Deciding), what is left is what it says (Leaving).
 //
 // Rests on `mend_walk`, `mend_passes`, `mend_good`, `mend_told`, `mend_alike`, `mend_law`, `marks`, `output`, `rows` and what they rest on.
+#![tactic(auto)]
+
 ghost use Rattle.std.specs.Prelude.{◌≡◌, [], ◌-◌, ◌/◌, ◌≤◌, length, take, drop, replicate};
 ghost use Rattle.refusal.specs.Size.{most};
 ghost use Rattle.edition.specs.Editions.{inner, rules_of};
@@ -115,7 +117,7 @@ fn are_entries_right(edition: Edition, text: &[u8], list: &mut [u32], gained: Pr
 
 // ## 26
 // The lines that come out have no fault of form, and so many rows; or they have one.
-#[derive(Drop)]
+#[derive(Clone, Copy)]
 enum Formed {
     Rows(Progress),
     No,

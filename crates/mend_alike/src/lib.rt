@@ -4,3 +4,5 @@
 // gives and what is stored (Stored); a step of the walk (Walks).
 //
 // Rests on `network`, `edition_judge`, `progress`, `place`, `judge`, `rows`, `references` (what is read of the tables) and what they rest on.
+#![tactic(auto)]
+

@@ -4,3 +4,5 @@
 // the rows of segments, lanes and zones of a network fit into twice as many words as it has lines (Room).
 //
 // Rests on `mend_law`, `network_reader`, `reader`, `network` and what they rest on.
+#![tactic(auto)]
+

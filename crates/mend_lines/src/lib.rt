@@ -4,6 +4,8 @@
 // proofs/Changes: **the change is the law's** (mend_law/specs/Mend.change).
 //
 // Rests on `find_line` (the kind of a line by its first field), `line`, `number`, `scan`, `statement` and `mend_law`, and on what they rest on.
+#![tactic(auto)]
+
 ghost use Rattle.std.specs.Prelude.{◌≡◌, take, drop};
 ghost use Rattle.terms.specs.Words.{pick};
 ghost use Rattle.find_line.specs.FoundLines.{fields_end_of, rndf_line_kind_of};
@@ -32,7 +34,7 @@ pub fn line_kind(line: &[u8]) -> u8
 
 // ## What the lines before have left
 // The kinds of first fields since the last line that opens a part, its own too, or since the file's start, one place for each; and whether one of all was `end_file`.
-#[derive(Drop)]
+#[derive(Clone, Copy)]
 pub struct Before {
     pub since: [bool; 31],
     pub over: bool,
@@ -131,7 +133,7 @@ impl Before {
 
 // ## Counts
 // What a count line counts: the kind of its items' first fields, and of the end word.
-#[derive(Drop)]
+#[derive(Clone, Copy)]
 pub enum Counted {
     Items(u8, u8),
     Nothing,
@@ -180,7 +182,7 @@ fn fields_on(line: &[u8]) -> Fields
 }
 
 // The second of two fields, if it is a good integer: where it starts and ends in the line, and the number.
-#[derive(Drop)]
+#[derive(Clone, Copy)]
 pub enum Numbered {
     At(usize, usize, u32),
     No,
@@ -214,7 +216,7 @@ fn number_on(line: &[u8]) -> Numbered
 
 // ## The change
 // The line stays; it goes, by 2 or 3; or what stands there from a place of the line to another becomes a number.
-#[derive(Drop)]
+#[derive(Clone, Copy)]
 pub enum Becomes {
     Stays,
     Goes(u8),

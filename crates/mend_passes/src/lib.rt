@@ -4,6 +4,8 @@
 // specs/Passes: the entries, executable; the others are specs/Pieces of `mend_pieces` and specs/Tests of `mend_tests`.
 //
 // Rests on `mend_pieces`, `mend_lines`, `mend_tests`, `references`, `output`, `rows` and what they rest on.
+#![tactic(auto)]
+
 ghost use Rattle.std.specs.Prelude.{◌≡◌, [], ◌∷◌, ◌+◌, ◌≤◌, ◌<◌, length};
 ghost use Rattle.refusal.specs.Size.{most};
 ghost use Rattle.line.specs.Lines.{lines_of};

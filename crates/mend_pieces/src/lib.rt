@@ -3,6 +3,8 @@
 // specs/Pieces: the piece of a line, all pieces, the lines that come out and the rows that are listed, executable, going forward. That they are what the law says is `mend_told`.
 //
 // Rests on `mend_lines`, `output`, `room`, `find_line`, `scan` and what they rest on.
+#![tactic(auto)]
+
 ghost use Rattle.std.specs.Prelude.{◌≡◌, ◌++◌, take, drop};
 ghost use Rattle.number.specs.House.{house_integer};
 ghost use Rattle.room.specs.Room.{fitted};

@@ -5,3 +5,5 @@
 // and Groups (options). Part by part: Lanes, Segments, Perimeters, Spots, Zones, Networks. Stays: the theorems, and what the contract then gives.
 //
 // Rests on `mend_law` and what it rests on.
+#![tactic(auto)]
+

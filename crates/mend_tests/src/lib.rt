@@ -4,3 +4,5 @@
 // specs/Tests: the walk with few tables, an exit's entry on its line.
 //
 // Rests on `network`, `find_line`, `references` and what they rest on.
+#![tactic(auto)]
+

@@ -4,3 +4,5 @@
 // Recounted, a line whose number is replaced stays a count line.
 //
 // Rests on `mend_pieces`, `mend_lines`, `mend_law` and what they rest on.
+#![tactic(auto)]
+

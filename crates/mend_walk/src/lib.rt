@@ -6,6 +6,8 @@
 // is mend/proofs/Natural.
 //
 // Rests on `mend_pieces`, `mend_lines`, `mend_tests`, `network` and what they rest on.
+#![tactic(auto)]
+
 ghost use Rattle.std.specs.Prelude.{◌≡◌, [], ◌∷◌, ◌-◌, ◌≤◌, ◌<◌, length, take, drop};
 ghost use Rattle.refusal.specs.Size.{most};
 ghost use Rattle.grammar.specs.PlaceTable.{rndf_table_of};

@@ -4,6 +4,8 @@
 // The sentences may be more than fit into memory, so they are put one by one: `put_next` tells of one line and goes to the next. proofs/Forward: **all of them, one behind the other, are those of the law's changes**.
 //
 // Rests on `answers`, `mended_lines`, `mend_pieces`, `mend_lines`, `mend_law`, `output`, `room`, `shown`, `scan` and what they rest on.
+#![tactic(auto)]
+
 ghost use Rattle.std.specs.Prelude.{◌≡◌, ◌++◌, ◌+◌, ◌-◌, ◌≤◌, ◌<◌, length, take, drop};
 ghost use Rattle.terms.specs.Ascii.{ascii};
 ghost use Rattle.room.specs.Room.{fitted};
@@ -101,7 +103,7 @@ fn put_change(
 // ## Line by line
 
 // Behind a line: so many bytes tell of it; where the next starts, its number, and what the lines up to it have left.
-#[derive(Drop)]
+#[derive(Clone, Copy)]
 pub struct Next {
     pub at: usize,
     pub from: usize,

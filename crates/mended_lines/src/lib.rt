@@ -3,6 +3,8 @@
 // specs/Given: the numbers of the lines that come out, and the one that is asked for. proofs/Numbers: **they are the lines of the mended text, one for one and in order**. Nothing is required, whatever the bytes are.
 //
 // Rests on `mend_pieces`, `mend_lines`, `mend_told`, `mend_law`, `scan` and what they rest on.
+#![tactic(auto)]
+
 ghost use Rattle.std.specs.Prelude.{◌≡◌, ◌-◌};
 ghost use Rattle.terms.specs.Words.{pick};
 ghost use Rattle.line.specs.Lines.{lines_of};

@@ -5,6 +5,8 @@
 // proofs/Filled: the walk finds what `text` answers, and stores what `fill` gives; for a text that spells a mission, its tables.
 //
 // Rests on `refusal`, `walk`, `plain_order`, `mission_judge`, `mission_progress`, `rows`, `fill`, `table_words` and what they rest on.
+#![tactic(auto)]
+
 ghost use Rattle.std.specs.Prelude.{◌≡◌, ◌<◌};
 ghost use Rattle.mission_progress.specs.Progress.{none_read_of, total};
 ghost use Rattle.walk.specs.Standing.{Where};
@@ -19,7 +21,7 @@ use refusal::{Fault, LONGEST_TEXT};
 use rows::{store_goal, store_limit};
 use statement::Order;
 
-#[derive(Drop)]
+#[derive(Clone, Copy)]
 pub enum MissionFilled {
     Fault(Fault),
     Rows(MissionProgress),

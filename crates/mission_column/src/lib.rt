@@ -4,6 +4,8 @@
 // specs/Before: the place behind the lines before the one that is wanted, and where it starts, executable. proofs/Lines: one line of the walk, and the column of the line where it ends.
 //
 // Rests on `columns`, `column_parts`, `walk` and what they rest on.
+#![tactic(auto)]
+
 ghost use Rattle.std.specs.Prelude.{◌≡◌, ◌<◌, ◌≤◌, length};
 ghost use Rattle.line.specs.Forms.{fields_in_of, part};
 ghost use Rattle.mission_judge.specs.MdfLine.{mdf_kind, judging};
@@ -26,7 +28,7 @@ use scan::{far_byte_from, two_from};
 use statement::orders;
 
 // A place of the grammar; none behind a line that is refused.
-#[derive(Drop)]
+#[derive(Clone, Copy)]
 pub enum MissionStanding {
     At(MissionPlace),
     No,
@@ -185,7 +187,7 @@ fn line_column(table: &[[u8; 13]; 12], s: &[u8], p: MissionPlace, number: u8) ->
 // ## The line in the text
 
 // A line of a text: the place behind the lines before it, and where it starts.
-#[derive(Drop)]
+#[derive(Clone, Copy)]
 enum Arrived {
     At(MissionPlace, usize),
     No,

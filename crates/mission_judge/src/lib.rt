@@ -4,6 +4,8 @@
 // specs/MdfLine: the same, executable, from what `judge` says for every file. proofs/: it is what `text` says of the line (MdfTies).
 //
 // Rests on `line`, `word`, `made_out`, `mission_place`, `judge`, `statement` and what they rest on.
+#![tactic(auto)]
+
 ghost use Rattle.std.specs.Prelude.{◌≡◌, ◌≤◌, ◌<◌, ◌+◌, length};
 ghost use Rattle.made_out.specs.MadeOrders.{order_from};
 ghost use Rattle.judge.specs.Judging.{taken, valued, of_kind, known, told, content};
@@ -18,7 +20,7 @@ use statement::{Order, orders};
 use word::{begins_with_digit, mdf_keyword};
 
 // What a line of an MDF gets.
-#[derive(Drop)]
+#[derive(Clone, Copy)]
 pub enum MissionVerdict {
     Blank,
     Said(Order, MissionPlace),

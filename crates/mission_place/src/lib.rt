@@ -5,6 +5,8 @@
 // specs/Step: the same, executable, which the contracts cite. proofs/: it is the grammar's machine, step by step (Theorems).
 //
 // Rests on `terms`, `grammar`, `statement`, `permitted` and `place_table`.
+#![tactic(auto)]
+
 ghost use Rattle.std.specs.Prelude.{◌≡◌};
 ghost use Rattle.place_table.specs.Verdicts.{verdict_of};
 ghost use Rattle.mission_place.specs.Step.{permits_of, placed, first_place, after_of, index_of, has_of, opted_of, due_of, option_of, cell_of, by_cell, refuses_by, over_of, number_kind_of};
@@ -15,7 +17,7 @@ use place_table::{Verdict, mdf};
 use statement::{Order, orders};
 
 // The place: the row of what is due; how many goals or limits are still owed; the single options given.
-#[derive(Drop)]
+#[derive(Clone, Copy)]
 pub struct MissionPlace {
     pub row: u8,
     pub owed: u32,
@@ -23,7 +25,7 @@ pub struct MissionPlace {
     pub date: bool,
 }
 
-#[derive(Drop)]
+#[derive(Clone, Copy)]
 pub enum MissionOutcome {
     Next(MissionPlace),
     Refused(u8),

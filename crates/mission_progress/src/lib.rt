@@ -5,6 +5,8 @@
 // missing ones 0, 0, and numbers as kinds.
 //
 // Rests on `fill`, `statement`, `rows`, `units`, `grammar` and `terms`.
+#![tactic(auto)]
+
 ghost use Rattle.std.specs.Prelude.{◌≡◌, ◌<◌, leb};
 ghost use Rattle.rows.specs.Read.{the_stretch_of};
 ghost use Rattle.mission_progress.specs.Given.{goal_given, limit_given};
@@ -17,7 +19,7 @@ use units::{CheckpointNumber, CheckpointNumberRead, Mph, MphRead, SegmentId, Seg
 // The number of rows from which on nothing more is counted. No text that is read has so many.
 const FULL: u32 = 4294967295;
 
-#[derive(Drop)]
+#[derive(Clone, Copy)]
 pub struct MissionProgress {
     pub file: MissionFileRow,
     pub goals: u32,
@@ -25,7 +27,7 @@ pub struct MissionProgress {
 }
 
 // The row that one statement gives.
-#[derive(Drop)]
+#[derive(Clone, Copy)]
 pub enum MissionRow {
     Nothing,
     Goal(GoalRow),

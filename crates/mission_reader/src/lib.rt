@@ -11,6 +11,8 @@
 // Rests on `counts`, `refusal`, `room`, `mission`, `marks`, `mission_references`, `find_line`, `rows` and `scan`, for its theorem on `fault_lines`, `form_faults` and `table_words`, and on what they rest on.
 //
 // Settled: the contract of `read_mission` gives its reply, and where it accepts both tables, by a function of what is lent.
+#![tactic(auto)]
+
 ghost use Rattle.std.specs.Prelude.{◌≡◌};
 ghost use Rattle.mission.specs.Storing.{memory};
 ghost use Rattle.mission_reader.specs.MissionReading.{rndf_of, room, same_name, limits_fault_of, refer_of, answered_of, judged_of, outcome, mission_of};
@@ -27,7 +29,7 @@ use scan::same;
 use statement::orders;
 
 // The rows used and the file's own row; or what is at fault.
-#[derive(Drop)]
+#[derive(Clone, Copy)]
 pub enum MissionReply {
     Accepted(MissionCounts, MissionFileRow),
     Refused(Fault),

@@ -4,3 +4,5 @@
 // specs/Numbers: the refusal that each answer stands for. proofs/Laws: over the tables that hold given rows the refusals are those of `fill`.
 //
 // Rests on `marks`, `fill`, `rows`, `units`, `terms` and what they rest on.
+#![tactic(auto)]
+

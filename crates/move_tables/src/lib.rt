@@ -5,3 +5,5 @@
 // exactly if `moves` says so.
 //
 // Rests on `moves`, `filled_rows`, `route_law`, `replies`, `law_tables` and what they rest on.
+#![tactic(auto)]
+

@@ -6,6 +6,8 @@
 // Rests on `read_rows`, `rows`, `counts`, `units` and `terms`.
 //
 // Settled: every contract here reads `r ≡ f ..`, so no second answer satisfies it.
+#![tactic(auto)]
+
 ghost use Rattle.std.specs.Prelude.{◌≡◌, ◌<◌, length};
 ghost use Rattle.rows.specs.Lay.{rows_of};
 ghost use Rattle.rows.specs.Strides.{exit_stride};
@@ -17,7 +19,7 @@ use read_rows::{lane_at, zone_at};
 use rows::{EXIT_STRIDE, LANE_STRIDE, ZONE_STRIDE, rows_of};
 
 // A lane or a zone: its points are the rows from `first` on that stand before `behind`.
-#[derive(Drop)]
+#[derive(Clone, Copy)]
 pub struct Part {
     pub first: usize,
     pub behind: usize,

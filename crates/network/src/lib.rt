@@ -9,6 +9,8 @@
 // proofs/: the walk finds what `text` answers, and stores what `fill` gives (Gathered); of a text that spells a network, the words of its tables (Spelled).
 //
 // Rests on `refusal`, `walk`, `edition_judge`, `said_line`, `place`, `progress`, `rows`, `fill` and what they rest on.
+#![tactic(auto)]
+
 ghost use Rattle.std.specs.Prelude.{◌≡◌, ◌≤◌, length};
 ghost use Rattle.refusal.specs.Size.{most};
 ghost use Rattle.grammar.specs.PlaceTable.{rndf_table_of};
@@ -33,14 +35,14 @@ use said_line::{Line, Said, line_said};
 use statement::Statement;
 use units::CheckpointNumberRead;
 
-#[derive(Drop)]
+#[derive(Clone, Copy)]
 pub enum Filled {
     Fault(Fault),
     Rows(Progress),
 }
 
 // The first fault; or the place behind all lines, what there is behind them, and the number of the line behind them.
-#[derive(Drop)]
+#[derive(Clone, Copy)]
 pub enum Walked {
     Fault(Fault),
     Ended(Place, Progress, u32),

@@ -5,6 +5,8 @@
 // specs/Replies: what a text gets, over statements (replies/specs/Replies says it over lines). specs/Reading: the same, executable. proofs/Theorems: what is answered is so.
 //
 // Rests on `edition`, `counts`, `refusal`, `room`, `network`, `references`, `marks`, `find_line`, `table_words`, `form_faults`, `fault_lines` and what they rest on.
+#![tactic(auto)]
+
 ghost use Rattle.std.specs.Prelude.{◌≡◌};
 ghost use Rattle.edition.specs.Editions.{inner};
 ghost use Rattle.network.specs.Storing.{memory};
@@ -24,7 +26,7 @@ use rows::FileRow;
 use statement::kinds;
 
 // The rows used and the file's own row; or what is at fault.
-#[derive(Drop)]
+#[derive(Clone, Copy)]
 pub enum NetworkReply {
     Accepted(Counts, FileRow),
     Refused(Fault),

@@ -1,13 +1,15 @@
 // Integers and identifiers in fields, and the length of a name.
 // A field that is not spelled right is `No` (refusal 8). A value stays raw, up to 99,999: whether it is in range
 // (refusal 9) is tested in `permitted`. Rests on `terms` and `scan`.
+#![tactic(auto)]
+
 ghost use Rattle.std.specs.Prelude.{◌≡◌, ◌≤◌, length};
 ghost use Rattle.number.specs.Executable.{number_of, plain_of, if_few, the_integer_of, both_of, the_pair_of, three_of, triple_of, is_name_length_of};
 
 use scan::{byte_from, is_digit};
 
 // What an integer field says, or a row of digits.
-#[derive(Drop)]
+#[derive(Clone, Copy)]
 pub enum Number {
     Is(u32),
     No,
@@ -83,7 +85,7 @@ pub fn integer_of(s: &[u8]) -> Number
 }
 
 // What an identifier m.n says.
-#[derive(Drop)]
+#[derive(Clone, Copy)]
 pub enum Pair {
     Is(u32, u32),
     No,
@@ -118,7 +120,7 @@ pub fn pair_of(s: &[u8]) -> Pair
 }
 
 // An identifier x.y.z.
-#[derive(Drop)]
+#[derive(Clone, Copy)]
 pub struct Id {
     pub x: u32,
     pub y: u32,
@@ -126,7 +128,7 @@ pub struct Id {
 }
 
 // What an identifier x.y.z says.
-#[derive(Drop)]
+#[derive(Clone, Copy)]
 pub enum Triple {
     Is(Id),
     No,

@@ -1,6 +1,8 @@
 // Reads lines of a letter, a blank and a field, and says of each field what it is worth, or the refusal it gets:
 // i integer, p identifier m.n, t identifier x.y.z, a latitude, o longitude, n name (its length).
 // `stdin` has document 01's vectors; `stdout` was worked out from document 01 by `expected.py`, not by this program.
+#![tactic(auto)]
+
 use coordinate::{Degrees, coordinate_of};
 use libc::{STDIN_FILENO, STDOUT_FILENO};
 use number::{Number, Pair, Triple, integer_of, is_name_length, pair_of, triple_of};

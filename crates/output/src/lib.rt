@@ -7,6 +7,8 @@
 //
 // Settled: `Wrote p x q` says that q is `put p x`, `clear_output` and `finish` say what is left and answered, so no second answer and no second
 // memory satisfies any contract here (`Wrote-one`, `output-one`).
+#![tactic(auto)]
+
 ghost use Rattle.std.specs.Prelude.{◌≡◌, [], ◌∷◌, ◌%◌, set, length};
 ghost use Rattle.terms.specs.Ascii.{ascii};
 ghost use Rattle.number.specs.Decimal.{digit_of, padded};
@@ -154,7 +156,7 @@ pub fn put_u32_be(out: &mut [u8], at: usize, n: u32) -> usize
 // ## The whole output
 
 // How a writing ended: so many bytes, or refusal 19.
-#[derive(Drop)]
+#[derive(Clone, Copy)]
 pub enum Finished {
     Written(usize),
     TooLong,

@@ -1,6 +1,8 @@
 // Numbers, identifiers and coordinates at their edges, written to outputs that were full of 7s before: the answer, what is written, and every
 // byte of the output behind that. `stdout` was worked out from document 01 by `expected.py`, not by this program.
 // `write_point` is a whole writer, proved: it shows how the laws of `output` are used.
+#![tactic(auto)]
+
 ghost use Rattle.std.specs.Prelude.{length};
 ghost use Rattle.output.specs.Ended.{Output};
 ghost use Rattle.output.specs.Pen.{pen, Wrote};

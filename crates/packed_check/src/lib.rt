@@ -4,6 +4,8 @@
 // specs/Judgement: what is judged, executable. proofs/Law: a form is told exactly of bytes that are some network's (`Judges`), for bytes up to 16,777,215.
 //
 // Rests on the passes, on what they say of rows (`frame_tables`, `part_tables`, `packed_tables`) and on what a judge has to say (`unpacked_tables`). Settled: every contract reads `r ≡ f ..`, and none has a `requires`.
+#![tactic(auto)]
+
 ghost use Rattle.std.specs.Prelude.{◌≡◌};
 ghost use Rattle.packed_check.specs.Judgement.{behind, places_of, table_at, few, tables_right, linked, with_places_of, by_zones_of, with_lanes_of, by_segments_of, by_file_of, judgement};
 
@@ -17,7 +19,7 @@ use units::SegmentId;
 use unpacked_rows::Places;
 
 // No network's form; or the rows of each table, the file's own row and where the records of each table stand.
-#[derive(Drop)]
+#[derive(Clone, Copy)]
 pub enum Verdict {
     No,
     Form(Counts, FileRow, Places),

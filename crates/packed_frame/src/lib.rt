@@ -4,6 +4,8 @@
 // specs/Names: numbers of two bytes, names, records with a name. Named: so many records. Segments, Zones, Spots, File: what the passes are, executable. proofs/..Laws: the laws of their loops; Worked: two yards. What they say: `frame_tables`.
 //
 // Rests on `packed_rows`, `scan`, `counts`, `rows` and what they rest on. Settled: the contracts read `r ≡ f ..`.
+#![tactic(auto)]
+
 ghost use Rattle.std.specs.Prelude.{◌≡◌, ℕ, ◌<◌, ◌+◌, ◌≤◌, take, drop, length};
 ghost use Rattle.scan.specs.Allowed.{field_byte, all};
 ghost use Rattle.packed_frame.specs.Names.{two_at, name_size_of, named_end};
@@ -110,7 +112,7 @@ fn named_end(bytes: &[u8], at: usize, size: u16) -> usize
 
 // ## Segments
 // No such segments; or the place behind them, and how many lanes they have.
-#[derive(Drop)]
+#[derive(Clone, Copy)]
 pub enum Segments {
     Nothing,
     To(usize, u64),
@@ -159,7 +161,7 @@ pub fn segments_at(bytes: &[u8], from: usize, count: u32) -> Segments
 
 // ## Zones
 // No such zones; or the place behind them, the points before what follows them, and how many spots they have.
-#[derive(Drop)]
+#[derive(Clone, Copy)]
 pub enum Zones {
     Nothing,
     To(usize, u64, u64),
@@ -283,7 +285,7 @@ pub fn are_spots(bytes: &[u8], from: usize, count: u32, spots: usize) -> bool
 
 // ## The file
 // No file's record; or the counts of rows, the file's row, and the place behind it.
-#[derive(Drop)]
+#[derive(Clone, Copy)]
 pub enum File {
     Nothing,
     Told(Counts, FileRow, usize),

@@ -4,3 +4,5 @@
 // proofs/Worked: this form, and that of a small yard with zones, byte for byte, and where their names lie. proofs/Told: the records table by table, as proofs go, and that they are the form's. proofs/Cut: what wrong lengths rule out.
 //
 // Rests on `law`, `output` (numbers, the high byte first) and what they rest on. Settled: a packed form is a function of the network.
+#![tactic(auto)]
+

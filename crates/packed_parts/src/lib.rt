@@ -5,6 +5,8 @@
 // A place of a table is a u32, and so is a row: the place of any row's field is a sum that fits.
 //
 // Rests on `packed_rows` (records and numbers in bytes) and `marks`, and on what they rest on. Settled: every contract reads `r ≡ f ..`, and none has a `requires`.
+#![tactic(auto)]
+
 ghost use Rattle.std.specs.Prelude.{◌≡◌, [], ◌+◌, ◌-◌};
 ghost use Rattle.packed_parts.specs.Numbers.{number_new, numbers_right};
 ghost use Rattle.packed_parts.specs.Entries.{halve, entry_right, exit_right, exits_right};
@@ -15,7 +17,7 @@ use packed_rows::{four_at, is_record};
 use units::CheckpointNumber;
 
 // So many records from this place on.
-#[derive(Drop)]
+#[derive(Clone, Copy)]
 pub struct Table {
     pub from: u32,
     pub count: u32,

@@ -6,6 +6,8 @@
 // specs/Fixed, Points, Lanes: the other walks, executable; proofs/FixedLaws, PointLaws, LaneLaws: the laws of their loops. What they say: `packed_tables`/proofs/Fixed, Points; of lanes it is owed.
 //
 // Rests on `packed_law`, `output`, `units` and what they rest on. Settled: the contract reads `r ≡ f ..`.
+#![tactic(auto)]
+
 ghost use Rattle.std.specs.Prelude.{◌≡◌, ◌<◌, drop};
 ghost use Rattle.packed_rows.specs.Walk.{two, walked};
 ghost use Rattle.packed_rows.specs.Fixed.{record_here, records_here};

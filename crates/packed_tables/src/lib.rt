@@ -5,3 +5,5 @@
 // proofs/Records, Whole: the same record by record, as code goes. Fixed, Points: the walks of `packed_rows` are those.
 //
 // Rests on `row_network`, `unpackings`, `packed_rows` and what they rest on.
+#![tactic(auto)]
+

@@ -5,3 +5,5 @@
 // settles the reply and every lent word. proofs/RouteSettled: so does that of routes, and one reply and memory satisfy it. proofs/AllAndOnly: good routes are all accepted, and no others.
 //
 // Rests on `replies`, `route_law`, `room` and what they rest on.
+#![tactic(auto)]
+

@@ -5,3 +5,5 @@
 // Each pass is true exactly if its tables are framed (`packed_tables`/proofs/Records.all-here) and its part of `row_network`/specs/Consistent holds of the rows told. Where each table stands: `frame_tables`/proofs/Told.
 //
 // Rests on `packed_tables`, `row_network`, `packed_parts` and what they rest on.
+#![tactic(auto)]
+

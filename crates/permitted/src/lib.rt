@@ -5,6 +5,8 @@
 // specs/Tests, specs/MissionTests: what each test answers, as `grammar` decides it; specs/Owed. No function here requires anything.
 //
 // Rests on `terms`, `units`, `grammar` and `statement`.
+#![tactic(auto)]
+
 ghost use Rattle.std.specs.Prelude.{◌≡◌, ◌&&◌, pred};
 ghost use Rattle.permitted.specs.Tests.{is_counted, is_at_most, is_up_to, is_the_number, is_the_part, is_point_of, is_numbered, is_latitude, is_longitude, is_the_point, is_own_stop, is_own_checkpoint, is_entry_of, is_inner_entry, is_own_exit, is_perimeter_exit};
 ghost use Rattle.permitted.specs.MissionTests.{is_not_above, is_limit};

@@ -8,6 +8,8 @@
 // specs/Step: the same, executable, which the contracts cite. proofs/: both together are the step (Stepped), and it is the grammar's machine, step by step (Theorems).
 //
 // Rests on `terms`, `grammar`, `statement`, `permitted` and `place_table`.
+#![tactic(auto)]
+
 ghost use Rattle.std.specs.Prelude.{◌≡◌};
 ghost use Rattle.permitted.specs.Owed.{owing};
 ghost use Rattle.place.specs.Step.{major_of, minor_of, first_marked_of, around_of, the_exits_of, permits_of, placed, first_place, opened_of, passed_of, left_of, after_of, index_of, has_of, marked_of, opted_of, cell_of, refuses_by, over_of, ready_of, tested_of, moved_of};
@@ -20,7 +22,7 @@ use place_table::{Verdict, rndf};
 use statement::{Id, Statement};
 
 // The open part, with its identifiers.
-#[derive(Drop)]
+#[derive(Clone, Copy)]
 pub enum Open {
     File,
     Segment(u32),
@@ -31,7 +33,7 @@ pub enum Open {
 }
 
 // The single options given at this place, by their slot.
-#[derive(Drop)]
+#[derive(Clone, Copy)]
 pub struct Given {
     pub first: bool,
     pub second: bool,
@@ -40,7 +42,7 @@ pub struct Given {
 
 // The place: the open part; the row of what is due; its number there; how many segments, zones, parts (lanes or spots) and points are still owed;
 // the options given. Before the first point all points of the part are owed, so that `points` tells how many there are.
-#[derive(Drop)]
+#[derive(Clone, Copy)]
 pub struct Place {
     pub part: Open,
     pub row: u8,
@@ -53,7 +55,7 @@ pub struct Place {
 }
 
 // The part around a closed one, and the number due there.
-#[derive(Drop)]
+#[derive(Clone, Copy)]
 pub struct Around {
     pub part: Open,
     pub due: u64,

@@ -8,6 +8,8 @@
 // Where nothing is lent but a table, a look answers for any table: which one it is, is the caller's to know.
 //
 // Rests on `terms`, `grammar` and `statement`.
+#![tactic(auto)]
+
 ghost use Rattle.std.specs.Prelude.{◌≡◌, ◌<◌, get_or, []};
 ghost use Rattle.grammar.specs.PlaceTable.{rndf_table_of, mdf_table_of};
 ghost use Rattle.place_table.specs.Cells.{due_row, also_row, cell_in};
@@ -18,7 +20,7 @@ pub mod mdf;
 pub mod rndf;
 
 // What becomes of a statement: it is taken, or refused with a number of document 01.
-#[derive(Drop)]
+#[derive(Clone, Copy)]
 pub enum Verdict {
     Taken,
     Refused(u8),

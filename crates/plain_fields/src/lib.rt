@@ -5,3 +5,5 @@
 // proofs/Judged: THE LAW: 2, 3, 4, 7 and 8 are excluded, and 5, 6, 9 and 25 are left.
 //
 // Rests on `plain_parts`, `judge`, `line`, `scan` and what they rest on.
+#![tactic(auto)]
+

@@ -6,6 +6,8 @@
 // proofs/Spelt: its fields; proofs/Made: what they make; proofs/Whole: the line. That the judge looks at such a line's fields is a law of `plain_fields`.
 //
 // Rests on `plain_fields`, `plain_parts`, `plain_word`, `judge` and what they rest on.
+#![tactic(auto)]
+
 ghost use Rattle.std.specs.Prelude.{◌≡◌, ◌<◌, ◌≤◌, length, get_or};
 ghost use Rattle.made_out.specs.Made.{shapes};
 ghost use Rattle.plain_line.specs.Fields.{BehindStands, FieldsStand, Shape};
@@ -22,21 +24,21 @@ use scan::{is_digit, not_separator_from};
 use statement::{Id, Statement, kinds};
 
 // The fields of a line: a statement with its kind, the place behind the last of them, and where that one starts.
-#[derive(Drop)]
+#[derive(Clone, Copy)]
 enum Fields {
     Say(u8, Statement, usize, usize),
     No,
 }
 
 // The fields behind a keyword: the statement that they make with it, the place behind the last of them, and where that one starts.
-#[derive(Drop)]
+#[derive(Clone, Copy)]
 enum Behind {
     Is(Statement, usize, usize),
     No,
 }
 
 // A line: a statement with its kind, the line's end, and where its last field starts; or none, and the end.
-#[derive(Drop)]
+#[derive(Clone, Copy)]
 pub enum Plain {
     Said(u8, Statement, usize, usize),
     Blank(usize),

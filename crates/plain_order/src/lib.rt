@@ -4,6 +4,8 @@
 // specs/Orders: what is said of a line: where it ends, and what the judge makes of it; of a plain one, that this is what it makes of the order alone. proofs/Orders: why. proofs/Lines: every line.
 //
 // Rests on `plain_parts`, `plain_fields`, `mission_judge`, `mission_place`, `statement` and what they rest on.
+#![tactic(auto)]
+
 ghost use Rattle.std.specs.Prelude.{◌≡◌, ◌<◌, length};
 ghost use Rattle.plain_fields.specs.LineStands.{stated};
 ghost use Rattle.judge.specs.Judging.{taken};
@@ -21,21 +23,21 @@ use statement::{Order, orders};
 const LF: u8 = 10;
 
 // An order, and where its line ends.
-#[derive(Drop)]
+#[derive(Clone, Copy)]
 enum PlainOrder {
     Is(Order, usize),
     No,
 }
 
 // A line that is not blank is made out as one order, with the place behind it and the line's end; or it is refused.
-#[derive(Drop)]
+#[derive(Clone, Copy)]
 pub enum MissionSaid {
     Is(Order, MissionPlace, usize),
     Refused(u8),
 }
 
 // A line: nothing, and where it ends; or what it says.
-#[derive(Drop)]
+#[derive(Clone, Copy)]
 pub enum MissionLine {
     Blank(usize),
     Filled(MissionSaid),

@@ -5,6 +5,8 @@
 // specs/Stands: what each answer says of the text. proofs/Stretches: stretches of a text joined; Digits, Joined and Signs: numbers; Names; Ended: a comment, and where a line ends.
 //
 // Rests on `scan`, `number`, `coordinate`, `line` and `terms`.
+#![tactic(auto)]
+
 ghost use Rattle.std.specs.Prelude.{◌≡◌, ◌≤◌, ◌<◌, ◌+◌, length, get_or};
 ghost use Rattle.number.specs.Spelling.{SpellsInteger};
 ghost use Rattle.coordinate.specs.Sign.{signed};
@@ -20,7 +22,7 @@ const CR: u8 = 13;
 const NO_SIX: u32 = 1000000;
 
 // An integer, and the place behind it.
-#[derive(Drop)]
+#[derive(Clone, Copy)]
 pub enum IntegerAt {
     Is(u32, usize),
     No,
@@ -94,7 +96,7 @@ fn dot_at(s: &[u8], at: usize) -> bool
 }
 
 // An identifier m.n, and the place behind it.
-#[derive(Drop)]
+#[derive(Clone, Copy)]
 pub enum PairAt {
     Is(u32, u32, usize),
     No,
@@ -117,7 +119,7 @@ pub fn pair_at(s: &[u8], from: usize) -> PairAt
 }
 
 // An identifier x.y.z, and the place behind it.
-#[derive(Drop)]
+#[derive(Clone, Copy)]
 pub enum TripleAt {
     Is(u32, u32, u32, usize),
     No,
@@ -169,7 +171,7 @@ fn six_at(s: &[u8], from: usize) -> u32
 }
 
 // A count of millionths of a degree, and the place behind it.
-#[derive(Drop)]
+#[derive(Clone, Copy)]
 enum DegreesAt {
     Is(u32, usize),
     No,
@@ -216,7 +218,7 @@ fn with_sign(minus: bool, m: u32) -> i32
 }
 
 // A coordinate, and the place behind it.
-#[derive(Drop)]
+#[derive(Clone, Copy)]
 pub enum CoordinateAt {
     Is(i32, usize),
     No,
@@ -233,7 +235,7 @@ pub fn coordinate_at(s: &[u8], from: usize) -> CoordinateAt
 }
 
 // A place further on.
-#[derive(Drop)]
+#[derive(Clone, Copy)]
 pub enum Reached {
     At(usize),
     No,

@@ -8,12 +8,14 @@
 // specs/Stands: what is answered, and what a row of the tables holds. proofs/Pieces: equal pieces that overlap make equal words; proofs/Rows: what holds of every row.
 //
 // Rests on `word`, `scan` and `terms`.
+#![tactic(auto)]
+
 ghost use Rattle.std.specs.Prelude.{◌≡◌, ◌<◌, ◌≤◌, ◌+◌, ◌*◌, length, take, drop};
 ghost use Rattle.word.specs.Packed.{packed};
 ghost use Rattle.plain_word.specs.Stands.{IsRow, MiddleStands, RowStands, KeywordStands, BoundaryStands};
 
 // A word's number, and the place behind it.
-#[derive(Drop)]
+#[derive(Clone, Copy)]
 pub enum WordAt {
     Is(u8, usize),
     No,
@@ -21,7 +23,7 @@ pub enum WordAt {
 
 // A word: its number, its size, and its letters as numbers: the first eight and the last eight. Where it has no eight they are four.
 // Numbers are those of keywords; behind them, from 29 on, those of boundary words.
-#[derive(Drop)]
+#[derive(Clone, Copy)]
 struct Row(u8, usize, u64, u64);
 
 // The letters between in the only word that has more than 16, num_perimeterpoints.

@@ -5,6 +5,8 @@
 // proofs/Shown: the running form agrees with `fill`, statement by statement; no statement adds more than one row.
 //
 // Rests on `rows` (the rows by value), `room` (a count or a row's number in a word), `units`, `statement`, `fill` and `grammar`.
+#![tactic(auto)]
+
 ghost use Rattle.std.specs.Prelude.{◌≡◌, suc, pred, ◌+◌};
 ghost use Rattle.grammar.specs.Tables.{first_spot_of};
 ghost use Rattle.units.specs.Made.{missing_feet};
@@ -18,7 +20,7 @@ use rows::{ExitRow, FileRow, LaneRow, PointRow, SegmentRow, SpotRow, StopRow, St
 use statement::Statement;
 use units::{CheckpointNumber, CheckpointNumberRead, Feet, FeetRead};
 
-#[derive(Drop)]
+#[derive(Clone, Copy)]
 pub struct Progress {
     // rows so far
     pub segments: u32,
@@ -42,7 +44,7 @@ pub struct Progress {
 
 // What a statement gives: nothing, or one row of one table. The entry of an exit is where its field starts in the text: it is looked up later.
 // A checkpoint's is what its kind answers to the number, and the point: no number that the kind refuses becomes a row (no place lets one through).
-#[derive(Drop)]
+#[derive(Clone, Copy)]
 pub enum Row {
     Nothing,
     Segment(SegmentRow),

@@ -6,3 +6,5 @@
 // `reader`/Replies, `rows`/Name and specs: statements, kinds and the machine stand only in proofs (Counted, YardTexts, MissionTexts, EditionCases).
 //
 // Rests on `reader` and what it rests on.
+#![tactic(auto)]
+

@@ -3,6 +3,8 @@
 // Rests on `rows`, `units` and `terms`. The laws that tie reading to storing are those of `rows` (its proofs/Forms.antt).
 //
 // Settled: every contract here reads `r ≡ f ..`, so no second answer satisfies it.
+#![tactic(auto)]
+
 ghost use Rattle.std.specs.Prelude.{◌≡◌};
 ghost use Rattle.rows.specs.Lay.{row_at};
 ghost use Rattle.rows.specs.Read.{whole_word, short_word, byte_word, segment_at_of, lane_at_of, zone_at_of, spot_at_of, point_at_of, checkpoint_at_of, stop_at, exit_at, goal_at_of, limit_at_of};

@@ -6,6 +6,8 @@
 // That no second reply and no second memory satisfies the contracts is proved in `replies`, without the code. What follows from the contracts alone is the crate `promises`.
 //
 // Rests on `replies`, `network_reader`, `mission_reader`, `column`, `edition`, `room` and what they rest on. Beside it: `look_up` (a checkpoint number's point), `rows` (names, and how rows lie in a table).
+#![tactic(auto)]
+
 ghost use Rattle.std.specs.Prelude.{◌≡◌, ◌+◌};
 ghost use Rattle.room.specs.Room.{fitted};
 ghost use Rattle.edition.specs.Editions.{inner, rules_of};

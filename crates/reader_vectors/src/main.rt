@@ -5,6 +5,8 @@
 // Printed are the label, the reply (the rows used and each file's own row, or file, line and number), and of each table the words lent and those up to
 // the last that is not zero, so that a row too many or one that was not cleared shows. Coordinates are printed as they stand in a text.
 // The file `stdout` was not copied from a run: the oracle in tests/oracle, written from document 01 alone, wrote it (tests/reader_vectors.py).
+#![tactic(auto)]
+
 ghost use Rattle.std.specs.Prelude.{◌≤◌, length};
 
 use counts::{Counts, MissionCounts};
@@ -144,7 +146,7 @@ fn lent_signed(t: &mut [i32], n: usize) -> &mut [i32] {
 }
 
 // The words lent of each table.
-#[derive(Drop)]
+#[derive(Clone, Copy)]
 struct Room {
     segments: usize,
     lanes: usize,

@@ -1,6 +1,8 @@
 // The words of each refusal number, put into a lent output: those of specs/Reasons, for every number and output; nothing is required. Rests on `output` (each put ensures `Wrote`).
 //
 // specs/Parts: the table from one number on, as the parts of the code have it. proofs/Others: the last arm of each part. That the contracts settle every byte: answers/proofs/Settled.
+#![tactic(auto)]
+
 ghost use Rattle.std.specs.Prelude.{◌≡◌};
 ghost use Rattle.terms.specs.Ascii.{ascii};
 ghost use Rattle.output.specs.Pen.{pen, Wrote};

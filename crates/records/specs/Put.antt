@@ -16,7 +16,7 @@ use Rattle.rows.specs.declared.ExitRow.{ExitRow}
 use Rattle.rows.specs.Read.{segment_at_of, lane_at_of, zone_at_of, spot_at_of, point_at_of, checkpoint_at_of, stop_at, exit_at}
 use Rattle.rows.specs.Name.{name_of}
 use Rattle.counts.specs.declared.Counts.{Counts}
-unfoldable pub use Rattle.json.specs.Json.{each}
+unfoldable pub use Rattle.map_json.specs.Json.{each}
 
 -- a name is its length and then its bytes
 unfoldable pub name_put : Bytes → Bytes

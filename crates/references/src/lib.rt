@@ -11,6 +11,8 @@
 //
 // Settled: every contract here gives the answer by an executable function, and what a lent table holds by another, also where the answer is a row at fault: no second answer and no
 // second memory satisfies it. Contracts that give the answer by what it stands for (`found r`, `told r ..`) are settled by proofs/Settled.
+#![tactic(auto)]
+
 ghost use Rattle.std.specs.Prelude.{◌≡◌, [], pred};
 ghost use Rattle.scan.specs.Reach.{reach, fails};
 ghost use Rattle.number.specs.House.{number_byte};
@@ -96,7 +98,7 @@ fn entry_at(text: &[u8], at: usize) -> Id
 
 // ## The point that an entry names
 // The row of a point, by arithmetic on the rows of segments, lanes and zones. No table is searched.
-#[derive(Drop)]
+#[derive(Clone, Copy)]
 pub enum Found {
     At(usize),
     Nothing,

@@ -4,19 +4,21 @@
 // proofs/Apart: the numbers of form, of references, 1, 10 and 11 are apart. proofs/Sized: either side of the longest text.
 //
 // Rests on `terms`.
+#![tactic(auto)]
+
 
 // 1: a text over so many bytes.
 pub const LONGEST_TEXT: usize = 16777215;
 
 // Line and number, of the text that is being read.
-#[derive(Drop)]
+#[derive(Clone, Copy)]
 pub struct Fault {
     pub line: u32,
     pub number: u8,
 }
 
 // File (1 RNDF, 2 MDF), line, number and column (0 where there is none), as document 01 and L7 of document 02 list them.
-#[derive(Drop)]
+#[derive(Clone, Copy)]
 pub struct Refusal {
     pub file: u8,
     pub line: u32,
@@ -25,7 +27,7 @@ pub struct Refusal {
 }
 
 // What is found of the references of a text whose tables are filled: nothing wrong, or the first line at fault.
-#[derive(Drop)]
+#[derive(Clone, Copy)]
 pub enum References {
     Right,
     Wrong(Fault),

@@ -5,19 +5,21 @@
 // proofs/OneAnswer, which says it of one file, whichever it is, proofs/Alone, what is settled of each fault alone, and proofs/Decided: every text gets an answer. proofs/Said: what a reply alone says.
 //
 // Rests on `refusal`, `counts`, `rows`, `law`, and for the proofs on the bridges (`law_spelling`, `law_faults`, `law_tables`) and what they rest on.
+#![tactic(auto)]
+
 use counts::{Counts, MissionCounts};
 use refusal::Refusal;
 use rows::{FileRow, MissionFileRow};
 
 // An RNDF alone: the rows used of each table and the file's own row; or a refusal.
-#[derive(Drop)]
+#[derive(Clone, Copy)]
 pub enum RndfReply {
     Accepted(Counts, FileRow),
     Refused(Refusal),
 }
 
 // An RNDF with its MDF: the rows used and the file's own row, of both; or a refusal.
-#[derive(Drop)]
+#[derive(Clone, Copy)]
 pub enum PairReply {
     Accepted(Counts, FileRow, MissionCounts, MissionFileRow),
     Refused(Refusal),

@@ -7,3 +7,5 @@
 // specs/OneWriting, proofs/OneWriting: what is the same apart from its date has equal writings (L12).
 //
 // Rests on `writings` and `replies` (the contracts), `house_text` (the house writing and what it spells), `promises`, `same` (when networks are the same) and what these rest on.
+#![tactic(auto)]
+

@@ -3,6 +3,8 @@
 // specs/Room: the tests, executable. proofs/Fitted: a number that fits is kept. That the test of all tables is the law's `HasRoom` is law_tables/proofs/Rooms.
 //
 // Rests on `counts`, `rows` and `law` (what the lent tables are) and what they rest on.
+#![tactic(auto)]
+
 ghost use Rattle.std.specs.Prelude.{◌≡◌};
 ghost use Rattle.law.specs.Tables.{lent, zeros};
 ghost use Rattle.room.specs.Room.{fits, fitted, parts_fit_of, marks_fit_of};

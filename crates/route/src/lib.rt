@@ -7,6 +7,8 @@
 // specs/Judged: what a route gets, executable. proofs/Steps, Taking, Found: what that says of the steps and the goals. proofs/Lawful: that it is the law's answer for an accepted pair.
 //
 // Rests on `reader`, `pair_checks`, `moves`, `move_tables`, `goal_points`, `goal_tables` and what they rest on.
+#![tactic(auto)]
+
 ghost use Rattle.std.specs.Prelude.{◌≡◌, length, get_or, ◌-◌};
 ghost use Rattle.edition.specs.Editions.{rules_of};
 ghost use Rattle.law.specs.Tables.{lent, mission_lent};
@@ -26,7 +28,7 @@ use room::{clear_tables, in_word};
 use rows::clear;
 
 // What a route gets: what stands in place of the line, and the number.
-#[derive(Drop)]
+#[derive(Clone, Copy)]
 pub enum Verdict {
     Good,
     Wrong(u32, u8),

@@ -5,3 +5,5 @@
 // proofs/Worked: yard A's moves and routes; a lane's end, an exit one way and one to itself, a zone.
 //
 // Rests on `law`, `look_up` (one for one: `Paired`) and what they rest on.
+#![tactic(auto)]
+

@@ -4,6 +4,8 @@
 //
 // Settled: every contract here reads `r ≡ f ..` or `now t.exit ≡ f ..`, so no second answer and no second memory satisfies it. `name_of` settles the bytes of the
 // part that it returns; which stretch of the text these are, where they stand there twice, the logic does not say.
+#![tactic(auto)]
+
 ghost use Rattle.std.specs.Prelude.{◌≡◌, length, replicate, pos};
 ghost use Rattle.rows.specs.Lay.{rows_of, put_row_of};
 ghost use Rattle.rows.specs.Columns.{segment_words_of, lane_words_of, zone_words_of, spot_words_of, point_words_of, checkpoint_words_of, stop_words_of, exit_words_of, goal_words_of, limit_words_of};
@@ -13,14 +15,14 @@ ghost use Rattle.rows.specs.Name.{name_of};
 use units::{CheckpointNumber, Feet, Mph, SegmentId};
 
 // A stretch of the lent text: a name. A missing name is 0, 0.
-#[derive(Drop)]
+#[derive(Clone, Copy)]
 pub struct Stretch {
     pub start: u32,
     pub length: u32,
 }
 
 // The RNDF's own row. It is handed over by value and needs no table.
-#[derive(Drop)]
+#[derive(Clone, Copy)]
 pub struct FileRow {
     pub name: Stretch,
     pub version: Stretch,
@@ -28,7 +30,7 @@ pub struct FileRow {
 }
 
 // The MDF's own row.
-#[derive(Drop)]
+#[derive(Clone, Copy)]
 pub struct MissionFileRow {
     pub name: Stretch,
     pub rndf: Stretch,
@@ -36,7 +38,7 @@ pub struct MissionFileRow {
     pub date: Stretch,
 }
 
-#[derive(Drop)]
+#[derive(Clone, Copy)]
 pub struct SegmentRow {
     pub first_lane: u32,
     pub lanes: u32,
@@ -44,7 +46,7 @@ pub struct SegmentRow {
 }
 
 // Boundaries are 1 to 4 in document 01's order; a missing one is 0.
-#[derive(Drop)]
+#[derive(Clone, Copy)]
 pub struct LaneRow {
     pub first_point: u32,
     pub points: u32,
@@ -53,7 +55,7 @@ pub struct LaneRow {
     pub right: u8,
 }
 
-#[derive(Drop)]
+#[derive(Clone, Copy)]
 pub struct ZoneRow {
     pub first_point: u32,
     pub points: u32,
@@ -62,42 +64,42 @@ pub struct ZoneRow {
     pub name: Stretch,
 }
 
-#[derive(Drop)]
+#[derive(Clone, Copy)]
 pub struct SpotRow {
     pub first_point: u32,
     pub width: Feet,
 }
 
 // Millionths of a degree.
-#[derive(Drop)]
+#[derive(Clone, Copy)]
 pub struct PointRow {
     pub latitude: i32,
     pub longitude: i32,
 }
 
-#[derive(Drop)]
+#[derive(Clone, Copy)]
 pub struct CheckpointRow {
     pub number: CheckpointNumber,
     pub point: u32,
 }
 
-#[derive(Drop)]
+#[derive(Clone, Copy)]
 pub struct StopRow {
     pub point: u32,
 }
 
-#[derive(Drop)]
+#[derive(Clone, Copy)]
 pub struct ExitRow {
     pub point: u32,
     pub entry: u32,
 }
 
-#[derive(Drop)]
+#[derive(Clone, Copy)]
 pub struct GoalRow {
     pub number: CheckpointNumber,
 }
 
-#[derive(Drop)]
+#[derive(Clone, Copy)]
 pub struct LimitRow {
     pub id: SegmentId,
     pub minimum: Mph,

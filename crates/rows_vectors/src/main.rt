@@ -1,4 +1,6 @@
 // Rows stored and read back, run: one letter for each case, `y` where it came out as document 01 says. The contracts prove more; this shows that they speak of running code.
+#![tactic(auto)]
+
 use libc::STDOUT_FILENO;
 use read_rows::{lane_at, point_at};
 use rows::{LaneRow, PointRow, Stretch, name_of, store_lane, store_point};

@@ -5,6 +5,8 @@
 // tells them.
 //
 // Rests on `plain_line`, `judge` and what they rest on.
+#![tactic(auto)]
+
 ghost use Rattle.std.specs.Prelude.{◌≡◌, ◌≤◌, ◌<◌, ◌+◌, length};
 ghost use Rattle.line.specs.Forms.{form_of, fields_at};
 ghost use Rattle.line_fields.specs.LineFields.{fields_by, line_fields_of, last_start_of};
@@ -25,7 +27,7 @@ use statement::{Statement, kinds};
 const LF: u8 = 10;
 
 // What a line says that is cut into its fields; with a statement, where the last field starts.
-#[derive(Drop)]
+#[derive(Clone, Copy)]
 enum Cut {
     Blank,
     Said(u8, Statement, usize),
@@ -33,14 +35,14 @@ enum Cut {
 }
 
 // A line that is not blank is made out as one statement, with its kind, the line's end, and where its last field starts; or it is refused.
-#[derive(Drop)]
+#[derive(Clone, Copy)]
 pub enum Said {
     Is(u8, Statement, usize, usize),
     Refused(u8),
 }
 
 // A line: nothing, and where it ends; or what it says.
-#[derive(Drop)]
+#[derive(Clone, Copy)]
 pub enum Line {
     Blank(usize),
     Filled(Said),

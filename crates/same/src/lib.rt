@@ -3,3 +3,5 @@
 // specs/Same: the two, which the return trip and any later part that gives a network back (another form of it, or one without its date) speak of.
 //
 // Rests on `grammar` (names told in another way), `text` (a name as its bytes) and what they rest on.
+#![tactic(auto)]
+

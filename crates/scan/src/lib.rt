@@ -1,12 +1,14 @@
 // Which bytes are what, and the loops over bytes: how far it is to the next byte, or pair of bytes, of some kind. No other crate loops over bytes to find one, but for the end of a name (`plain_parts`) and of a number (`references`).
 // Every scan is `reach` of a test (specs/Reach). proofs/Reach: its laws; proofs/Eights: a scan goes over eight bytes at once.
 // Rests on `terms`.
+#![tactic(auto)]
+
 ghost use Rattle.std.specs.Prelude.{◌≡◌, ℕ, ◌<◌, ◌≤◌, ◌+◌, min, length, take, drop};
 ghost use Rattle.scan.specs.Allowed.{separates, outside, inside, digit, all};
 ghost use Rattle.scan.specs.Reach.{reach, two, fails, stops_by, other, plain, same_bytes_of};
 
 // What a scan stops at.
-#[derive(Drop)]
+#[derive(Clone, Copy)]
 pub enum Until {
     Byte(u8),
     Two(u8, u8),

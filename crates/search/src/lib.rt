@@ -7,6 +7,8 @@
 // specs/Search: the same, executable. proofs/Words: stores to words that are 0. proofs/Found: over any points, exits and parts, what is marked at the end is what one move or more lead to.
 //
 // Rests on `moves`, `reach_law` and what they rest on.
+#![tactic(auto)]
+
 ghost use Rattle.std.specs.Prelude.{◌≡◌, ◌-◌, ◌+◌, ◌*◌, ◌<◌, ◌≤◌, length, get_or, replicate};
 ghost use Rattle.rows.specs.Lay.{rows_of};
 ghost use Rattle.rows.specs.Strides.{exit_stride};

@@ -2,6 +2,8 @@
 // What is put are the definitions of specs/Shown, for every line; nothing is required.
 //
 // Rests on `output` (each put ensures `Wrote`), `line` and what they rest on.
+#![tactic(auto)]
+
 ghost use Rattle.std.specs.Prelude.{◌≡◌, ◌-◌, take, drop};
 ghost use Rattle.line.specs.Lines.{lines_of};
 ghost use Rattle.output.specs.Pen.{pen, Wrote};

@@ -5,11 +5,13 @@
 // places by statements, and the way back from a meaning. proofs/Laws, proofs/MissionLaws: there and back again is the same.
 //
 // kinds.rt, orders.rt: the names of the kinds, by their columns. Rests on `terms` and `grammar`.
+#![tactic(auto)]
+
 pub mod kinds;
 pub mod orders;
 
 // A point's identifier, x.y.z.
-#[derive(Drop)]
+#[derive(Clone, Copy)]
 pub struct Id {
     pub x: u32,
     pub y: u32,
@@ -17,7 +19,7 @@ pub struct Id {
 }
 
 // A statement of an RNDF; the kinds in the order of the table's columns. A boundary is 1 to 4, in document 01's order.
-#[derive(Drop)]
+#[derive(Clone, Copy)]
 pub enum Statement {
     RndfName(u32, u32),
     NumSegments(u32),
@@ -52,7 +54,7 @@ pub enum Statement {
 }
 
 // A statement of an MDF. A goal is a checkpoint number; a limit is an id, a minimum and a maximum.
-#[derive(Drop)]
+#[derive(Clone, Copy)]
 pub enum Order {
     MdfName(u32, u32),
     Rndf(u32, u32),

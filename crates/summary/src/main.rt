@@ -2,6 +2,8 @@
 // rows used of each table, or `refused` with file, line and number; `no file` or `file too big` for the first file that is missing or over 8,192 bytes.
 // Both files are loaded before either is judged, by the present edition. The texts and the tables lie on the stack, each once: 8,192 bytes to a text, 15,360 for the tables.
 // Rests on `reader`. Nothing is promised of what is printed (no contract can say it); the judging is `read_pair`'s, and proved there.
+#![tactic(auto)]
+
 use counts::{Counts, MissionCounts};
 use edition::Edition;
 use libc::STDOUT_FILENO;

@@ -10,3 +10,5 @@
 //   Spelled, Renamed: the same network, tables and words, whether its names are known as fields or as start and length. Examples: words worked out by hand.
 //
 // Rests on `rows` and `units` (the typed rows and how they lie), `fill` and `grammar` (the tables), `text`, `line`, `made_out` and `statement` (names and their places).
+#![tactic(auto)]
+

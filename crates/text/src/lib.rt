@@ -5,3 +5,5 @@
 // proofs/: the laws; Theorems has the statements that other crates cite.
 //
 // Rests on `terms`, `scan`, `line`, `number`, `coordinate`, `word` and `grammar`.
+#![tactic(auto)]
+

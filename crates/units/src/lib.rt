@@ -3,6 +3,8 @@
 // their ranges here too, so that each stands in one place of the program. Rests on `terms`.
 //
 // Settled: every contract here reads `r ≡ f ..`, so no second answer satisfies it.
+#![tactic(auto)]
+
 ghost use Rattle.std.specs.Prelude.{◌≡◌};
 ghost use Rattle.units.specs.Made.{feet_of, mph_of, the_checkpoint_number_of, the_segment_id_of, missing_feet};
 
@@ -19,10 +21,10 @@ pub const LEAST_LONGITUDE: i32 = -180000000;
 pub const LARGEST_LONGITUDE: i32 = 180000000;
 
 // A width in feet; 0 is a width.
-#[derive(Drop)]
+#[derive(Clone, Copy)]
 pub struct Feet(pub u16);
 
-#[derive(Drop)]
+#[derive(Clone, Copy)]
 pub enum FeetRead {
     Is(Feet),
     Refused,
@@ -52,10 +54,10 @@ impl Feet {
 }
 
 // A speed in miles per hour; 0 means undefined.
-#[derive(Drop)]
+#[derive(Clone, Copy)]
 pub struct Mph(pub u16);
 
-#[derive(Drop)]
+#[derive(Clone, Copy)]
 pub enum MphRead {
     Is(Mph),
     Refused,
@@ -76,10 +78,10 @@ impl Mph {
 }
 
 // The number that a checkpoint is declared by; never 0.
-#[derive(Drop)]
+#[derive(Clone, Copy)]
 pub struct CheckpointNumber(pub u16);
 
-#[derive(Drop)]
+#[derive(Clone, Copy)]
 pub enum CheckpointNumberRead {
     Is(CheckpointNumber),
     Refused,
@@ -103,10 +105,10 @@ impl CheckpointNumber {
 }
 
 // The identifier of a segment or a zone; never 0.
-#[derive(Drop)]
+#[derive(Clone, Copy)]
 pub struct SegmentId(pub u16);
 
-#[derive(Drop)]
+#[derive(Clone, Copy)]
 pub enum SegmentIdRead {
     Is(SegmentId),
     Refused,

@@ -5,6 +5,8 @@
 // proofs/Storing: the laws of the loops, said once for all tables. That these are the tables of the network whose form the bytes are is `unpacked_tables`.
 //
 // Rests on `packed_rows`, `rows`, `room`, `law` (what the lent tables are), `counts` and what they rest on. Settled: every contract reads `r ≡ f ..` or `now t.exit ≡ f ..`.
+#![tactic(auto)]
+
 ghost use Rattle.std.specs.Prelude.{◌≡◌, ◌+◌};
 ghost use Rattle.law.specs.Tables.{lent};
 ghost use Rattle.room.specs.Room.{fitted};
@@ -24,7 +26,7 @@ use rows::{
 use units::{CheckpointNumber, Feet};
 
 // Where the first record of each table stands in the bytes.
-#[derive(Drop)]
+#[derive(Clone, Copy)]
 pub struct Places {
     pub segments: usize,
     pub lanes: usize,

@@ -5,3 +5,5 @@
 // proofs/Network: of bytes that are taken, counts, file's row, room and tables are those of the network; only these are a form.
 //
 // Rests on `packed_tables`, `unpacked_rows`, `law_tables`, `table_words` and what they rest on.
+#![tactic(auto)]
+

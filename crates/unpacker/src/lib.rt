@@ -8,6 +8,8 @@
 // That no second reply and no second memory satisfies the contract, and one does, is proved in `unpackings` and `packed_tables`, without the code.
 //
 // Rests on `unpackings`, `packed_check`, `unpacked_rows`, `unpacked_tables`, `room` and what they rest on.
+#![tactic(auto)]
+
 ghost use Rattle.std.specs.Prelude.{◌≡◌};
 ghost use Rattle.law.specs.Tables.{lent};
 ghost use Rattle.replies.specs.Replies.{refusal};
@@ -23,7 +25,7 @@ use rows::FileRow;
 use unpacked_rows::{Places, is_framed, is_version, store_tables};
 
 // What bytes tell: a refusal; or the rows of each table, the file's own row and where the records of each table stand.
-#[derive(Drop)]
+#[derive(Clone, Copy)]
 pub enum Told {
     Refused(Refusal),
     Form(Counts, FileRow, Places),

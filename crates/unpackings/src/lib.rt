@@ -6,3 +6,5 @@
 // proofs/OneForm: one network has one form. Placing: names where the form has them. Trip: gives-back, no-others, there-and-back. Cases: the table under one theorem, `all-refused`; `yard-unpacked`.
 //
 // Rests on `packed_law`, `writings`, `replies`, `same`, `promises` and what they rest on.
+#![tactic(auto)]
+

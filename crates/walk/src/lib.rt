@@ -6,6 +6,8 @@
 // proofs/Cutting: one line of a text, for a loop over it. proofs/SeenLaws: the line that is seen is where the statement stands.
 //
 // Rests on `judge` and what it rests on, and on `fill`.
+#![tactic(auto)]
+
 ghost use Rattle.std.specs.Prelude.{◌≡◌};
 ghost use Rattle.walk.specs.Seeing.{none_seen, more_seen};
 
@@ -13,7 +15,7 @@ ghost use Rattle.walk.specs.Seeing.{none_seen, more_seen};
 const FULL: u32 = 4294967295;
 
 // How many statements of one kind were seen, and the line of the one that is looked for: 0 until it is met.
-#[derive(Drop)]
+#[derive(Clone, Copy)]
 pub struct Seen {
     pub count: u32,
     pub line: u32,

@@ -5,6 +5,8 @@
 // The table is a `match`, not an array: the compiler lays the arms of a `match` out as a table that is only read, but writes an array anew at each look at it.
 // For the same reason a word's letters are numbers, eight letters to a number, so that eight are compared at once.
 // The contracts speak of the lists of words alone, not of the table. Rests on `scan` and `terms`.
+#![tactic(auto)]
+
 ghost use Rattle.std.specs.Prelude.{◌≡◌, ◌<◌, ◌≤◌, ◌+◌, ◌*◌, length, take, drop};
 ghost use Rattle.word.specs.Keywords.{rndf_keywords, mdf_keywords};
 ghost use Rattle.word.specs.Number.{index_of, boundary_number, digit_first};
@@ -13,7 +15,7 @@ ghost use Rattle.word.specs.Table.{words, known_of, row_of, folded_of, place_of,
 
 // What is known of a word: its size in bytes, its number in an RNDF (29: none), its number in an MDF (11: none), its number as a boundary (0: none),
 // and its letters, eight to a number, the first of them the lowest byte.
-#[derive(Drop)]
+#[derive(Clone, Copy)]
 struct Word {
     size: u8,
     in_rndf: u8,
@@ -40,7 +42,7 @@ fn no_word() -> Word
 }
 
 // A word as a row of the table: what `Word` names, in its order.
-#[derive(Drop)]
+#[derive(Clone, Copy)]
 struct Row(u8, u8, u8, u8, u64, u64, u64);
 
 // The only word that belongs at this place (see `place_of`). Where none does there stands RNDF_name: the comparison then says no.

@@ -1,5 +1,7 @@
 // Vectors for `word`: for each line of its input, as a field, what it is in an RNDF, in an MDF and as a boundary, and whether it begins with a
 // digit. `stdin` and `stdout` are made by vectors.py from document 01's lists, not from a run. Rests on `word`.
+#![tactic(auto)]
+
 use libc::{STDIN_FILENO, STDOUT_FILENO};
 
 // A number behind a tab, or `none`.

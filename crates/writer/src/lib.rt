@@ -11,6 +11,8 @@
 // crate `return_trip`.
 //
 // Rests on `writings`, `reader`, `house_lines`, `house_arranged`, `house_text`, `output` and what they rest on.
+#![tactic(auto)]
+
 ghost use Rattle.std.specs.Prelude.{◌≡◌, length};
 ghost use Rattle.edition.specs.Editions.{rules_of};
 ghost use Rattle.law.specs.Tables.{lent, mission_lent};

@@ -5,6 +5,8 @@
 // Printed are the label; the reply (the rows used, each file's own row and the bytes written, or file, line and number); of the segments, the points
 // and, behind an MDF, the limits how many words there are up to the last that is not zero; and of the output the same, and these bytes.
 // The file `stdout` was not copied from a run: the oracle in tests/oracle, written from document 01 alone, wrote it (tests/writer_vectors.py).
+#![tactic(auto)]
+
 ghost use Rattle.std.specs.Prelude.{◌≤◌, length};
 
 use counts::{Counts, MissionCounts};

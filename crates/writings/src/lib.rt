@@ -4,19 +4,21 @@
 // and outputs; from the readers' contracts (`replies`) and proofs/OneWriting: a text has one house writing, one map and one packed form.
 //
 // Rests on `replies`, `house_text`, `map_law`, `packed_law`, `output` and what they rest on.
+#![tactic(auto)]
+
 use counts::{Counts, MissionCounts};
 use refusal::Refusal;
 use rows::{FileRow, MissionFileRow};
 
 // An RNDF: what the reader replies and how many bytes were written; or a refusal.
-#[derive(Drop)]
+#[derive(Clone, Copy)]
 pub enum WriteReply {
     Written(Counts, FileRow, u32),
     Refused(Refusal),
 }
 
 // The MDF of a pair, likewise.
-#[derive(Drop)]
+#[derive(Clone, Copy)]
 pub enum WriteMdfReply {
     Written(Counts, FileRow, MissionCounts, MissionFileRow, u32),
     Refused(Refusal),

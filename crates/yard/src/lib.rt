@@ -7,6 +7,8 @@
 // Left out: asking for a name (`rows::name_of`), since a part of a slice cannot be returned to C. There a name is `text + start`, of a packed network `bytes + start`, for `length` bytes.
 //
 // Rests on `answer_fields`, `edition`, `reader`, `writer`, `map_writer`, `packer`, `unpacker`, `mend`, `route`, `reach`, `look_up`, `answers`, `shown`, `expected` and what they rest on.
+#![tactic(auto)]
+
 ghost use Rattle.std.specs.Prelude.{◌≡◌, length};
 ghost use Rattle.law.specs.Tables.{lent, mission_lent};
 ghost use Rattle.edition.specs.Editions.{edition_numbered};

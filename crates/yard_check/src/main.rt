@@ -8,6 +8,8 @@
 // Memory: there is no heap, a program can't raise its stack, and the usual stack has 8 MiB. So a text may have 1,048,576 bytes, and every table has the
 // rows that a text of so many bytes can fill, so 11 should never come of it (counted by hand below, not proved; if it came, it would be told). A larger file is too big for this program; of an RNDF over 16,777,215 bytes the
 // readers' answer is known without them: 1. (An MDF's 1 would come behind everything about the RNDF.)
+#![tactic(auto)]
+
 ghost use Rattle.law.specs.Tables.{lent, mission_lent};
 ghost use Rattle.output.specs.Pen.{pen, Wrote};
 ghost use Rattle.yard_check.specs.Tells.{may_stand, rndf_may_stand, pair_may_stand, TellsRndf, TellsPair};

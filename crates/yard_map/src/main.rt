@@ -7,6 +7,8 @@
 // Memory: there is no heap, and the usual stack has 8 MiB. So a text may have 524,288 bytes, every table has the rows that such a text can fill, as in `yard_check`, and the
 // output has eight bytes to each of the text: 11 and 19 should never come of it (counted by hand, not proved; if they came, they would be told). A larger file is too big for
 // this program; of one over 16,777,215 bytes the answer is known without it: 1.
+#![tactic(auto)]
+
 use answers::put_sentence;
 use edition::Edition;
 use expected::put_expected_line;

@@ -7,6 +7,8 @@
 // Memory: there is no heap, and the usual stack has 8 MiB. So a text may have 524,288 bytes and 262,144 lines (11 with more), a list of 2 MiB. What comes out has at most 4 bytes to 3 of the text: the shortest line
 // that can grow is `num_lanes 0` with its LF, and it grows by 4. The tables for what came out have the rows that such a text can fill, as in `yard_check`: 19, and 11 of the mended text, should never come of it
 // (counted by hand, not proved; if they came, they would be told). The list and those tables are in different functions, so that they need not stand on the stack together.
+#![tactic(auto)]
+
 ghost use Rattle.std.specs.Prelude.{◌+◌, ◌≤◌, ◌<◌, length};
 
 use answers::put_sentence;

@@ -8,6 +8,8 @@
 // Memory: there is no heap, and the usual stack has 8 MiB. So a text may have 524,288 bytes, every table has the rows that such a text can fill, as in `yard_check`, and the
 // work space a word for each point of it: 11 should never come of it (counted by hand, not proved; if it came, it would be told). A larger file is too big for this program; of an RNDF
 // over 16,777,215 bytes the readers' answer is known without them: 1.
+#![tactic(auto)]
+
 ghost use Rattle.std.specs.Prelude.{◌≡◌, pred};
 ghost use Rattle.law.specs.Tables.{lent, mission_lent};
 ghost use Rattle.statement.specs.Meaning.{the_the_point_of};
@@ -67,7 +69,7 @@ const WORK_WORDS: usize = MOST_BYTES / 24 + 1;
 // ## The row of the start
 
 // Where the start is, in a pair that is read: a point's row; no point; or nowhere, since the pair is refused.
-#[derive(Drop)]
+#[derive(Clone, Copy)]
 pub enum Start {
     At(u32),
     Nothing,

@@ -7,6 +7,8 @@
 // Memory: there is no heap, and the usual stack has 8 MiB. So a text may have 1,048,576 bytes, and every table has the rows that such a text can fill, as in `yard_check`. One text and one set of tables serve for both
 // files, one after the other; the two outputs stay. 11 and 19 should never come of it (counted by hand, not proved; if they came, they would be told). A larger file is too big for
 // this program; of one over 16,777,215 bytes the answer is known without it: 1.
+#![tactic(auto)]
+
 use answers::put_sentence;
 use compared::put_compared;
 use edition::Edition;
@@ -46,7 +48,7 @@ const STOP_WORDS: usize = MOST_BYTES / 11 + 1;
 const EXIT_WORDS: usize = 2 * (MOST_BYTES / 17 + 1);
 
 // What came of a file: a house writing of so many bytes; or it was told why there is none.
-#[derive(Drop)]
+#[derive(Clone, Copy)]
 enum Filed {
     Bytes(usize),
     Told,

@@ -6,6 +6,8 @@
 //
 // Memory: there is no heap, and the usual stack has 8 MiB. So a form may have 1,048,576 bytes, and every table has the rows that so many bytes can hold, so 11 should never come of it (counted by hand below, not
 // proved; if it came, it would be told). What `yard_pack` writes is shorter. A larger file is too big for this program; of one over 16,777,215 bytes the answer is known without it: 1.
+#![tactic(auto)]
+
 ghost use Rattle.law.specs.Tables.{lent};
 ghost use Rattle.yard_unpack.specs.Tells.{TellsPacked};
 

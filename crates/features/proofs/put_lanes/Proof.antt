@@ -7,7 +7,7 @@ use lib.ListN.{length}
 use Rattle.output.specs.Pen.{pen, put}
 use Rattle.output.proofs.Writing.{same}
 use Rattle.features.specs.Drawn.{each, behind_one_of, segment_lanes, segment_from, all_lanes}
-use Rattle.json.proofs.Loops.{each_all, each_again, each-done}
+use Rattle.map_json.proofs.Loops.{each_all, each_again, each-done}
 use Rattle.features.proofs.put_lanes.Statement.{statement}
 use Rattle.features.proofs.put_lanes.Tie as tie
 

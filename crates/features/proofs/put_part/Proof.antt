@@ -6,7 +6,7 @@ use lib.ListN.{length}
 use Rattle.output.specs.Pen.{pen, put}
 use Rattle.output.proofs.Writing.{same}
 use Rattle.features.specs.Drawn.{each, checkpoint, checkpoint_from, part_checkpoints}
-use Rattle.json.proofs.Loops.{each_again, each-done}
+use Rattle.map_json.proofs.Loops.{each_again, each-done}
 use Rattle.features.proofs.put_part.Statement.{statement}
 use Rattle.features.proofs.put_part.Tie as tie
 

@@ -7,7 +7,7 @@ use lib.ListN.{length}
 use Rattle.output.specs.Pen.{pen, put}
 use Rattle.output.proofs.Writing.{same}
 use Rattle.features.specs.Drawn.{each, perimeter, behind_one_of, perimeter_from, all_perimeters}
-use Rattle.json.proofs.Loops.{each_all, each_again, each-done}
+use Rattle.map_json.proofs.Loops.{each_all, each_again, each-done}
 use Rattle.features.proofs.put_perimeters.Statement.{statement}
 use Rattle.features.proofs.put_perimeters.Tie as tie
 

@@ -7,7 +7,7 @@ use lib.ListN.{length}
 use Rattle.output.specs.Pen.{pen, put}
 use Rattle.output.proofs.Writing.{same, ◌then◌}
 use Rattle.features.specs.Drawn.{each, lane, behind_one_of, lane_from, segment_lanes}
-use Rattle.json.proofs.Loops.{each_all, each_again, each-done}
+use Rattle.map_json.proofs.Loops.{each_all, each_again, each-done}
 use Rattle.features.proofs.put_segment.Statement.{statement}
 use Rattle.features.proofs.put_segment.Tie as tie
 

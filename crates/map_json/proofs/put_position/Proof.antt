@@ -1,4 +1,4 @@
--- `json::put_position` meets its contract: a run of puts, of the point that was read. Assumes nothing.
+-- `map_json::put_position` meets its contract: a run of puts, of the point that was read. Assumes nothing.
 use mathlib.Core.Path.{◌≡◌, ap, ◌∙◌}
 use mir.Syntax.{w32}
 use mir.Val.{to_z, of_z}
@@ -8,9 +8,9 @@ use Rattle.terms.specs.Ascii.{ascii}
 use Rattle.coordinate.specs.House.{house_coordinate}
 use Rattle.rows.specs.declared.PointRow.{PointRow}
 use Rattle.output.proofs.Writing.{same, ◌then◌}
-use Rattle.json.specs.Json.{position_at}
-use Rattle.json.proofs.put_position.Statement.{statement}
-use Rattle.json.proofs.put_position.Tie as tie
+use Rattle.map_json.specs.Json.{position_at}
+use Rattle.map_json.proofs.put_position.Statement.{statement}
+use Rattle.map_json.proofs.put_position.Tie as tie
 
 point-at-requires : tie.Need-point-at-requires
 point-at-requires c κs = tt

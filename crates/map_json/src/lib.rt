@@ -4,9 +4,11 @@
 // specs/Json: what is put, executable; every contract cites it. proofs/Loops: the laws of the loops. Rests on `output` (each put ensures `Wrote`), `read_rows` and `rows`.
 //
 // Settled: every contract says what the output and the place are, for every output and place.
+#![tactic(auto)]
+
 ghost use Rattle.std.specs.Prelude.{◌≡◌, ◌+◌, ◌-◌};
 ghost use Rattle.output.specs.Pen.{pen, Wrote};
-ghost use Rattle.json.specs.Json.{escaped, quoted, comma_from, position_at, positions, ring};
+ghost use Rattle.map_json.specs.Json.{escaped, quoted, comma_from, position_at, positions, ring};
 
 use output::{put_byte, put_bytes, put_coordinate};
 use read_rows::point_at;

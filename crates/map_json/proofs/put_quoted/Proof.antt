@@ -1,4 +1,4 @@
--- `json::put_quoted` meets its contract: what is left to be put are the bytes from i on, escaped. Assumes nothing.
+-- `map_json::put_quoted` meets its contract: what is left to be put are the bytes from i on, escaped. Assumes nothing.
 use mathlib.Core.Path.{◌≡◌, refl, sym, ◌∙◌}
 use Prim.Native.Nat.{◌-◌, ◌≤◌}
 use native.Mathlib.Omega.{arith}
@@ -6,10 +6,10 @@ use lib.ListN.{length, drop}
 use Rattle.terms.specs.Ascii.{ascii}
 use Rattle.output.specs.Pen.{pen, put}
 use Rattle.output.proofs.Writing.{◌then◌}
-use Rattle.json.specs.Json.{escapes, quoted}
-use Rattle.json.proofs.Loops.{escapes-again, escapes-done}
-use Rattle.json.proofs.put_quoted.Statement.{statement}
-use Rattle.json.proofs.put_quoted.Tie as tie
+use Rattle.map_json.specs.Json.{escapes, quoted}
+use Rattle.map_json.proofs.Loops.{escapes-again, escapes-done}
+use Rattle.map_json.proofs.put_quoted.Statement.{statement}
+use Rattle.map_json.proofs.put_quoted.Tie as tie
 
 abbrev invariant-loop : tie.invariant-loop
 invariant-loop out₀ at s to₀ i₀ i-end out to i = (i ≤ i-end) × (i-end ≡ length s) × (length out ≡ length out₀) × (put (pen out to) (escapes (drop i s)) ≡ put (pen out₀ to₀) (escapes s))

@@ -1,10 +1,10 @@
--- `json::put_escaped` meets its contract. Assumes nothing.
+-- `map_json::put_escaped` meets its contract. Assumes nothing.
 use mathlib.Core.Path.{refl}
 use borrow.Author.Tests.{eq-eqb, ne_eqb}
 use Rattle.terms.specs.Ascii.{ascii}
-use Rattle.json.specs.Json.{escaped}
-use Rattle.json.proofs.put_escaped.Statement.{statement}
-use Rattle.json.proofs.put_escaped.Tie as tie
+use Rattle.map_json.specs.Json.{escaped}
+use Rattle.map_json.proofs.put_escaped.Statement.{statement}
+use Rattle.map_json.proofs.put_escaped.Tie as tie
 
 slice-aggregate-put-bytes : tie.Need-slice-aggregate-put-bytes
 slice-aggregate-put-bytes c = refl

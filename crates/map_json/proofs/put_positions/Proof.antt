@@ -1,14 +1,14 @@
--- `json::put_positions` meets its contract: what is left to be put are the points from k on. Assumes nothing.
+-- `map_json::put_positions` meets its contract: what is left to be put are the points from k on. Assumes nothing.
 use mathlib.Core.Path.{◌≡◌, refl, sym, ◌∙◌}
 use Prim.Native.Nat.{◌-◌}
 use native.Mathlib.Omega.{arith}
 use lib.ListN.{length}
 use Rattle.output.specs.Pen.{pen, put}
 use Rattle.output.proofs.Writing.{◌then◌}
-use Rattle.json.specs.Json.{each, position_from, positions}
-use Rattle.json.proofs.Loops.{each_all, each_again, each-done}
-use Rattle.json.proofs.put_positions.Statement.{statement}
-use Rattle.json.proofs.put_positions.Tie as tie
+use Rattle.map_json.specs.Json.{each, position_from, positions}
+use Rattle.map_json.proofs.Loops.{each_all, each_again, each-done}
+use Rattle.map_json.proofs.put_positions.Statement.{statement}
+use Rattle.map_json.proofs.put_positions.Tie as tie
 
 abbrev invariant-loop : tie.invariant-loop
 invariant-loop out₀ at points first count to₀ k₀ k-end out to k = (k-end ≡ count) × (length out ≡ length out₀) × (put (pen out to) (each (position_from points first) k (count - k)) ≡ put (pen out₀ at) (each (position_from points first) 0 count))

@@ -1,4 +1,4 @@
--- `json::put_ring` meets its contract. Assumes nothing.
+-- `map_json::put_ring` meets its contract. Assumes nothing.
 use mathlib.Core.Path.{◌≡◌, refl, sym, ap, ◌∙◌}
 use Prim.Native.Nat.{◌-◌}
 use native.Mathlib.Omega.{arith}
@@ -6,10 +6,10 @@ use lib.ListN.{length}
 use Rattle.terms.specs.Ascii.{ascii}
 use Rattle.output.specs.Pen.{pen, put}
 use Rattle.output.proofs.Writing.{same, ◌then◌}
-use Rattle.json.specs.Json.{each, position_at, position_back, ring}
-use Rattle.json.proofs.Loops.{each_all, each_again, each-done}
-use Rattle.json.proofs.put_ring.Statement.{statement}
-use Rattle.json.proofs.put_ring.Tie as tie
+use Rattle.map_json.specs.Json.{each, position_at, position_back, ring}
+use Rattle.map_json.proofs.Loops.{each_all, each_again, each-done}
+use Rattle.map_json.proofs.put_ring.Statement.{statement}
+use Rattle.map_json.proofs.put_ring.Tie as tie
 
 abbrev invariant-loop : tie.invariant-loop
 invariant-loop out₀ at points first count n to₀ k₀ out to k = (n ≡ count) × (length out ≡ length out₀) × (put (pen out to) (each (position_back points first count) k (count - k)) ≡ put (pen out₀ at) (each (position_back points first count) 0 count))

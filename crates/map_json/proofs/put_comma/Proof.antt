@@ -1,9 +1,9 @@
--- `json::put_comma` meets its contract. Assumes nothing.
+-- `map_json::put_comma` meets its contract. Assumes nothing.
 use Rattle.terms.specs.Ascii.{ascii}
 use Rattle.output.proofs.Writing.{none, same}
-use Rattle.json.proofs.Loops.{no_comma, some_comma}
-use Rattle.json.proofs.put_comma.Statement.{statement}
-use Rattle.json.proofs.put_comma.Tie as tie
+use Rattle.map_json.proofs.Loops.{no_comma, some_comma}
+use Rattle.map_json.proofs.put_comma.Statement.{statement}
+use Rattle.map_json.proofs.put_comma.Tie as tie
 
 returns : tie.Need-returns
 returns c = same (no_comma _ c.if1.true) none

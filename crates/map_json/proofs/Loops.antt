@@ -9,7 +9,7 @@ use native.Mathlib.Numerals.{add-one}
 use Rattle.terms.specs.Ascii.{Bytes, ascii}
 use Rattle.output.specs.Pen.{Pen, put, Wrote}
 use Rattle.output.proofs.Writing.{◌then◌}
-use Rattle.json.specs.Json.{each, escaped, escapes, comma_from}
+use Rattle.map_json.specs.Json.{each, escaped, escapes, comma_from}
 
 -- what follows a writing
 pub behind : {p q : Pen} {x : Bytes} (y : Bytes) → Wrote p x q → put q y ≡ put p (x ++ y)
