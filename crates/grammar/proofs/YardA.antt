@@ -116,6 +116,7 @@ module _ {N : Type 0} (yard-name round-name : N) where
 
   one-of-one : {A : Type 0} {a b : A} → Nth 1 a (b ∷ []) → a ≡ b
   one-of-one first = refl
+  one-of-one {A = A} {a = a} {b = b} (later x5) = elim x5 [ ]
 
   pub entry-3 : Declared (yard (point_id 1 1 3)) (point_id 1 1 3) → ⊥
   entry-3 (waypoint s a x y z) = let p = one-of-one x in let q = one-of-one (subst-lanes p y) in let h : 3 ≤ 2 = rw q at z.high in omega arith

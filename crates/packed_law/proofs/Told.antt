@@ -97,7 +97,7 @@ zones-long p q (z ∷ l) = ap suc (zones-long (p + zone_size z) (q + length z.sp
 module _ (n : Network Field) where
   lanes_so : map (figures (4 ∷ 2 ∷ 2 ∷ 1 ∷ 1 ∷ [])) (lane_rows_of n) ≡ lane-records n
   unfolding zip_with
-  lanes_so = along_map (figures (4 ∷ 2 ∷ 2 ∷ 1 ∷ 1 ∷ [])) lane_size _ _ (λ p a. refl) 0 (all_lanes n)
+  lanes_so = along_map (figures (4 ∷ 2 ∷ 2 ∷ 1 ∷ 1 ∷ [])) lane_size (λ p l. (p ∷ lane_size l ∷ feet l.width ∷ side l.left ∷ side l.right ∷ []) ∷ []) _ (λ p a. refl) 0 (all_lanes n)
 
   spots_so : map (figures (4 ∷ 2 ∷ [])) (spot_rows n) ≡ spot-records n
   unfolding zip_with
