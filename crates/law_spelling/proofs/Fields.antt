@@ -46,6 +46,7 @@ listed_back march b h = refl
 listed_back december b (inl q) = ap (has_boundary december) q
 listed_back december b (inr (inl q)) = ap (has_boundary december) q
 listed_back december b (inr (inr (inl q))) = ap (has_boundary december) q
+listed_back december b (inr (inr (inr x3))) = elim x3 [ ]
 
 -- ## One field
 pub field-to : (e : Edition) (f : Field) (s : Old.Said) → Of e s → Old.SpellsField f s → Law.SpellsField (law_of e) f (said_of s)

@@ -27,7 +27,7 @@ module _ {A B : Type 0} (f : A → B) where
   mixed-to (Law.left m) = Law.left (mixed-to m)
   mixed-to (Law.right m) = Law.right (mixed-to m)
 
-  pub mixed-back : {both : List B} (l r : List A) → Mixed (map f l) (map f r) both → (os : List A) × (both ≡ map f os) × Mixed l r os
+  pub mixed-back : (l r : List A) {both : List B} → Mixed (map f l) (map f r) both → (os : List A) × (both ≡ map f os) × Mixed l r os
   mixed-back [] [] Law.none = ([], refl, Law.none)
   mixed-back [] (b ∷ r) (Law.right m) = let x = mixed-back [] r m in (b ∷ x.0, ap (◌∷◌ (f b)) x.1, Law.right x.2)
   mixed-back (a ∷ l) [] (Law.left m) = let x = mixed-back l [] m in (a ∷ x.0, ap (◌∷◌ (f a)) x.1, Law.left x.2)

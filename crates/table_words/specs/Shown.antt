@@ -42,7 +42,7 @@ shown_limit r = record { id = segment_id_of r.id; minimum = mph r.minimum; maxim
 
 module _ {N : Type 0} (start len : N → ℕ) where
   abbrev pub shown_segment : G.SegmentRow N → SegmentRow
-  shown_segment r = record { first_lane = r.first-lane; lanes = r.lanes; name = shown_name start len r.name }
+  shown_segment r = record { first_lane = r.first_lane; lanes = r.lanes; name = shown_name start len r.name }
 
   abbrev pub shown_zone : G.ZoneRow N → ZoneRow
   shown_zone r = record { first_point = r.first_point_of; points = r.points; first_spot = r.first_spot_of; spots = r.spots; name = shown_name start len r.name }
