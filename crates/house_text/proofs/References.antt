@@ -28,6 +28,7 @@ nth_map g (later t) = later (nth_map g t)
 nth-from : {A B : Type 0} (g : A → B) {i : ℕ} {b : B} (l : List A) → Nth i b (map g l) → (a : A) × Nth i a l × (g a ≡ b)
 nth-from g (a ∷ l) first = (a, first, refl)
 nth-from g (a ∷ l) (later t) = let x = nth-from g l t in (x.0, later x.1, x.2)
+nth-from {A = A} {B = B} g {i = i} {b = b} mathlib.Core.List.[] x' = elim x' [ ]
 
 module _ {N N' : Type 0} (f : N → N') where
   -- ## Names told in another way

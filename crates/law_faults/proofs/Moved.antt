@@ -95,7 +95,7 @@ module _ {L : Lang} (A : Machine L) (X : Lexis L) (Line-of : (k : L.Kind) → L.
   spelled_at : (k : Kind) (v : Pay k) (fs gs : List Field) → Same fs gs → SpellFields fs (Line-of k v) → (u : Vals (X.sorts k)) × Alike (X.sorts k) (W.parts k v) u × SpellFields gs (Line-of k (X.make k u))
   spelled_at k v fs gs e h =
       let x = front_at (X.keyword k) (X.sorts k) fs gs (W.parts k v) e (subst (SpellFields fs) (line-is A X Line-of W k v) h) in
-      (x.0, x.1, subst (SpellFields gs) (sym (W.Line-made k x.0)) x.2)
+      (x.0, x.1, subst (SpellFields gs) (sym (W.line_made k x.0)) x.2)
 
   -- where a line is taken or not whatever its names' places are
   module _ (steady : (p : Place A) (k : Kind) (u w : Vals (X.sorts k)) → Alike (X.sorts k) u w → step A p (say L k (X.make k u)) ≡ step A p (say L k (X.make k w))) where

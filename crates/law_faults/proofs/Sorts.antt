@@ -144,7 +144,7 @@ module _ {L : Lang} (A : Machine L) (X : Lexis L) (Line-of : (k : L.Kind) → L.
 
   -- a line is its keyword, if it has one, and its values
   pub made-line : (k : Kind) (w : Vals (X.sorts k)) → law_line Line-of (say L k (X.make k w)) ≡ law-front (X.keyword k) ++ law-said (X.sorts k) w
-  made-line k w = ap (map said_of) (W.Line-made k w) ∙ map-front (X.keyword k) (said (X.sorts k) w)
+  made-line k w = ap (map said_of) (W.line_made k w) ∙ map-front (X.keyword k) (said (X.sorts k) w)
 
   pub law-line-is : (k : Kind) (v : Pay k) → law_line Line-of (say L k v) ≡ law-front (X.keyword k) ++ law-said (X.sorts k) (W.parts k v)
   law-line-is k v = ap (map said_of) (line-is A X Line-of W k v) ∙ map-front (X.keyword k) (said (X.sorts k) (W.parts k v))
