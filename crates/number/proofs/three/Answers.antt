@@ -1,0 +1,11 @@
+-- `number::three` meets its contract: an integer and a pair, or none. Assumes nothing.
+use Rattle.number.proofs.three.Goals as goal
+
+pub returns-in_default : goal.returns-in_default
+returns-in_default c = rw c.in_default.is
+
+pub returns-in_default-b : goal.returns-in_default-b
+returns-in_default-b c = rw (c.in-Is.is, c.in_default-b.is)
+
+pub returns : goal.returns
+returns c = rw (c.in-Is.is, c.in-Is-b.is)

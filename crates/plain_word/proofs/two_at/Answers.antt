@@ -1,0 +1,11 @@
+-- `plain_word::two_at` meets its contract. Assumes nothing.
+use mathlib.Core.Path.{◌∙◌}
+use native.Mathlib.Omega.{arith}
+use Rattle.word.proofs.Packed.{packed-two}
+use Rattle.plain_word.proofs.two_at.Goals as goal
+
+-- src/lib.rt:208:1
+pub returns : goal.returns
+returns c =
+    let a = c.args in
+    (c.pair.ensures.0 ∙ packed-two a.s.now a.i (omega arith), c.pair.ensures.1)
