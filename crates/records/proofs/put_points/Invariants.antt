@@ -1,0 +1,12 @@
+use mathlib.Core.Path.{◌≡◌}
+use Prim.Native.Nat.{◌-◌}
+use lib.ListN.{length}
+use Rattle.output.specs.Pen.{pen, put}
+use Rattle.records.specs.Put.{each, point_from}
+use Rattle.records.proofs.put_points.Given as goal
+
+abbrev pub invariant-loop-k : goal.invariant-loop-k
+invariant-loop-k l = (length l.out ≡ length l.initial.out) × (put (pen l.out l.to) (each (point_from l.points) l.k (l.count - l.k)) ≡ put (pen l.initial.out l.at) (each (point_from l.points) 0 l.count))
+
+abbrev pub decreases-loop-k : goal.decreases-loop-k
+decreases-loop-k l = l.count - l.k

@@ -1,0 +1,12 @@
+use mathlib.Core.Path.{◌≡◌}
+use Prim.Native.Nat.{◌-◌}
+use lib.ListN.{length}
+use Rattle.output.specs.Pen.{pen, put}
+use Rattle.records.specs.Put.{each, stop_from}
+use Rattle.records.proofs.put_stops.Given as goal
+
+abbrev pub invariant-loop-k : goal.invariant-loop-k
+invariant-loop-k l = (length l.out ≡ length l.initial.out) × (put (pen l.out l.to) (each (stop_from l.stops) l.k (l.count - l.k)) ≡ put (pen l.initial.out l.at) (each (stop_from l.stops) 0 l.count))
+
+abbrev pub decreases-loop-k : goal.decreases-loop-k
+decreases-loop-k l = l.count - l.k
