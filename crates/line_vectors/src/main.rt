@@ -40,12 +40,11 @@ fn put_span<W: Write>(to: &mut W, s: &[u8], from: usize, f: Span) -> io::Result<
 // How many fields there are.
 fn put_count<W: Write>(to: &mut W, count: u8) -> io::Result<()> {
     if count == 0 {
-        put(to, b"blank")?;
+        put(to, b"blank")
     } else {
         put(to, b"fields ")?;
-        put_number(to, count as usize)?;
+        put_number(to, count as usize)
     }
-    Ok(())
 }
 
 fn put_fields<W: Write>(to: &mut W, s: &[u8], from: usize) -> io::Result<()>
@@ -72,11 +71,10 @@ fn put_content<W: Write>(to: &mut W, s: &[u8], from: usize) -> io::Result<()>
     match f {
         Form::Bad(n) => {
             put(to, b"refused ")?;
-            put_number(to, n as usize)?;
+            put_number(to, n as usize)
         }
-        Form::Body(e) => put_fields(to, &s[..e], from)?,
+        Form::Body(e) => put_fields(to, &s[..e], from),
     }
-    Ok(())
 }
 
 fn put_line<W: Write>(to: &mut W, s: &[u8], from: usize, number: usize) -> io::Result<()>
