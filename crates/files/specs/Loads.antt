@@ -16,6 +16,28 @@ Unread L.Folder = Unit {0}
 Unread L.Unreadable = Unit {0}
 Unread L.Mission = ⊥
 
+-- a byte is left over behind a full text
+abbrev pub TooMuch : Loaded → Type 0
+TooMuch (L.Bytes n) = ⊥
+TooMuch L.NotAsked = ⊥
+TooMuch L.OverLimit = Unit {0}
+TooMuch L.TooBig = Unit {0}
+TooMuch L.Missing = ⊥
+TooMuch L.Folder = ⊥
+TooMuch L.Unreadable = ⊥
+TooMuch L.Mission = ⊥
+
+-- no more than so many bytes
+abbrev pub LoadsUpTo : ℕ → Loaded → Type 0
+LoadsUpTo most (L.Bytes n) = n ≤ most
+LoadsUpTo most L.NotAsked = ⊥
+LoadsUpTo most L.OverLimit = Unit {0}
+LoadsUpTo most L.TooBig = Unit {0}
+LoadsUpTo most L.Missing = Unit {0}
+LoadsUpTo most L.Folder = Unit {0}
+LoadsUpTo most L.Unreadable = Unit {0}
+LoadsUpTo most L.Mission = ⊥
+
 -- `text`: the lent one, as it is left. The file's bytes stand at its front
 abbrev pub Loads : (text : Bytes) → Loaded → Type 0
 Loads text (L.Bytes n) = n ≤ length text

@@ -1,14 +1,17 @@
 // Writes the house writing of `network.rndf`, from the folder that it is run in, to standard output; and behind it, where there is a `mission.mdf`, that of the MDF. Where either is
 // refused it prints one line and nothing else: `refused` with file, line and number; `no file` where there is no RNDF, `file too big` for the first file that is over 8,192 bytes.
 // Both files are loaded before either is judged, by the present edition. There is room for 256 points and 128 rows of every other table, as in the summary program.
-// Rests on `writer`. Nothing is promised of what is printed (no contract can say it); what is written is `write_rndf`'s and `write_mdf`'s, and proved there.
+// Rests on `writer`, `console` and std. Nothing is promised of what is printed (no contract can say it); what is written is `write_rndf`'s and `write_mdf`'s, and proved there.
 //
 // `data/` is yard B with every option and a mission for it, both as untidy as a text may be; `stdout` was written by hand from it.
 #![tactic(auto)]
 
+use console::{put, put_decimal, read_full};
 use edition::Edition;
-use libc::STDOUT_FILENO;
 use refusal::Refusal;
+use std::io::{Read, Write};
+use std::rt::Files;
+use std::{fs, io};
 use writer::{write_mdf, write_rndf};
 use writings::{WriteMdfReply, WriteReply};
 
@@ -32,22 +35,18 @@ enum Ended {
     Refused(Refusal),
 }
 
-fn put(s: &[u8]) {
-    io::write_all(STDOUT_FILENO, s);
+fn put_count<W: Write>(to: &mut W, n: u32) -> io::Result<()> {
+    put(to, b" ")?;
+    put_decimal(to, n as u64)
 }
 
-fn put_count(n: u32) {
-    put(b" ");
-    io::print_decimal(STDOUT_FILENO, n as u64);
-}
-
-fn put_refused(why: Refusal) {
-    put(b"refused");
-    put_count(why.file as u32);
-    put_count(why.line);
-    put_count(why.number as u32);
-    put_count(why.column);
-    put(b"\n");
+fn put_refused<W: Write>(to: &mut W, why: Refusal) -> io::Result<()> {
+    put(to, b"refused")?;
+    put_count(to, why.file as u32)?;
+    put_count(to, why.line)?;
+    put_count(to, why.number as u32)?;
+    put_count(to, why.column)?;
+    put(to, b"\n")
 }
 
 // The first n bytes, or all of them.
@@ -57,29 +56,26 @@ fn first(s: &[u8], n: usize) -> &[u8] {
 
 // ## Files
 
-// Fills the lent text from an open file. A byte that is left over behind a full text makes it too big.
-fn load_open(fd: i32, text: &mut [u8]) -> Loaded {
-    // a folder can be opened and not be read; a read of nothing tells
-    if libc::read(fd, &mut text[..0]) < 0 {
-        return Loaded::NoFile;
-    }
-    let n = io::read_full(fd, text);
-    let mut more = [0u8; 1];
-    if io::read_full(fd, &mut more) > 0 {
-        Loaded::TooBig
-    } else {
-        Loaded::Bytes(n)
+// Fills the lent text from an open file. A byte that is left over behind a full text makes it too big. What can't be read, as a folder, is no file.
+fn load_open<F: Read>(file: &mut F, text: &mut [u8]) -> Loaded {
+    match read_full(file, text) {
+        Ok(n) => {
+            let mut more = [0u8; 1];
+            match file.read(&mut more) {
+                Ok(0) => Loaded::Bytes(n),
+                Ok(_) => Loaded::TooBig,
+                Err(_) => Loaded::NoFile,
+            }
+        }
+        Err(_) => Loaded::NoFile,
     }
 }
 
-fn load(path: &[u8], text: &mut [u8]) -> Loaded {
-    let fd = os::open_read(path);
-    if fd < 0 {
-        return Loaded::NoFile;
+fn load<R: Files>(rt: &R, path: &str, text: &mut [u8]) -> Loaded {
+    match fs::open(rt, path) {
+        Ok(mut file) => load_open(&mut file, text),
+        Err(_) => Loaded::NoFile,
     }
-    let loaded = load_open(fd, text);
-    libc::close(fd);
-    loaded
 }
 
 // ## The two writers, with room for 256 points and 128 rows of every other table, by their strides
@@ -148,44 +144,45 @@ fn write_mission(rndf: &[u8], mdf: &[u8], out: &mut [u8]) -> Ended {
 // ## What is printed
 
 // An RNDF's house writing and what stands behind it.
-fn show_network(rndf: &[u8], behind: &[u8]) {
+fn show_network<W: Write>(to: &mut W, rndf: &[u8], behind: &[u8]) -> io::Result<()> {
     let mut out = [0u8; MOST_WRITTEN];
     let reply = write_network(rndf, &mut out);
     match reply {
         Ended::Bytes(n) => {
-            put(first(&out, n));
-            put(behind);
+            put(to, first(&out, n))?;
+            put(to, behind)
         }
-        Ended::Refused(why) => put_refused(why),
+        Ended::Refused(why) => put_refused(to, why),
     }
 }
 
 // The pair is judged first: nothing is printed of an RNDF whose MDF is refused.
-fn show_pair(rndf: &[u8], mdf: &[u8]) {
+fn show_pair<W: Write>(to: &mut W, rndf: &[u8], mdf: &[u8]) -> io::Result<()> {
     let mut out = [0u8; MOST_WRITTEN];
     let reply = write_mission(rndf, mdf, &mut out);
     match reply {
-        Ended::Bytes(n) => show_network(rndf, first(&out, n)),
-        Ended::Refused(why) => put_refused(why),
+        Ended::Bytes(n) => show_network(to, rndf, first(&out, n)),
+        Ended::Refused(why) => put_refused(to, why),
     }
 }
 
-fn with_network(rndf: &[u8]) {
+fn with_network<R: Files, W: Write>(rt: &R, to: &mut W, rndf: &[u8]) -> io::Result<()> {
     let mut mission = [0u8; MOST_BYTES];
-    let loaded = load(b"mission.mdf", &mut mission);
+    let loaded = load(rt, "mission.mdf", &mut mission);
     match loaded {
-        Loaded::Bytes(n) => show_pair(rndf, first(&mission, n)),
-        Loaded::TooBig => put(b"file too big\n"),
-        Loaded::NoFile => show_network(rndf, b""),
+        Loaded::Bytes(n) => show_pair(to, rndf, first(&mission, n)),
+        Loaded::TooBig => put(to, b"file too big\n"),
+        Loaded::NoFile => show_network(to, rndf, b""),
     }
 }
 
-fn main() {
+fn main(rt: HostRuntime) -> io::Result<()> {
+    let mut to = rt.stdout();
     let mut network = [0u8; MOST_BYTES];
-    let loaded = load(b"network.rndf", &mut network);
+    let loaded = load(&rt, "network.rndf", &mut network);
     match loaded {
-        Loaded::Bytes(n) => with_network(first(&network, n)),
-        Loaded::TooBig => put(b"file too big\n"),
-        Loaded::NoFile => put(b"no file\n"),
+        Loaded::Bytes(n) => with_network(&rt, &mut to, first(&network, n)),
+        Loaded::TooBig => put(&mut to, b"file too big\n"),
+        Loaded::NoFile => put(&mut to, b"no file\n"),
     }
 }

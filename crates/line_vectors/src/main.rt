@@ -10,85 +10,85 @@
 ghost use Rattle.std.specs.Prelude.{◌+◌, ◌≤◌, length};
 ghost use Rattle.line.specs.Forms.{SpanWithin};
 
-use libc::{STDIN_FILENO, STDOUT_FILENO};
+use console::{put, put_decimal, read_full};
 use line::{Form, Span, fields_of, form_of, trimmed};
 use scan::{Until, scan};
+use std::io;
+use std::io::Write;
 
-fn put(s: &[u8]) {
-    io::write_all(STDOUT_FILENO, s);
+fn put_number<W: Write>(to: &mut W, n: usize) -> io::Result<()> {
+    put_decimal(to, n as u64)
 }
 
-fn put_number(n: usize) {
-    io::print_decimal(STDOUT_FILENO, n as u64);
-}
-
-fn put_span(s: &[u8], from: usize, f: Span)
+fn put_span<W: Write>(to: &mut W, s: &[u8], from: usize, f: Span) -> io::Result<()>
     requires span_within { SpanWithin s.now f }
     requires s_bound { from + length s.now ≤ 18446744073709551615 }
 {
     let start = f.start;
     let stop = f.stop;
-    put(b", ");
-    put_number(from + start);
-    put(b"+");
-    put_number(stop - start);
+    put(to, b", ")?;
+    put_number(to, from + start)?;
+    put(to, b"+")?;
+    put_number(to, stop - start)?;
     if stop - start <= 32 {
-        put(b" ");
-        put(&s[start..stop]);
+        put(to, b" ")?;
+        put(to, &s[start..stop])?;
     }
+    Ok(())
 }
 
 // How many fields there are.
-fn put_count(count: u8) {
+fn put_count<W: Write>(to: &mut W, count: u8) -> io::Result<()> {
     if count == 0 {
-        put(b"blank");
+        put(to, b"blank")
     } else {
-        put(b"fields ");
-        put_number(count as usize);
+        put(to, b"fields ")?;
+        put_number(to, count as usize)
     }
 }
 
-fn put_fields(s: &[u8], from: usize)
+fn put_fields<W: Write>(to: &mut W, s: &[u8], from: usize) -> io::Result<()>
     requires { from + length s.now ≤ 18446744073709551615 }
 {
     let r = fields_of(s);
-    put_count(r.count);
+    put_count(to, r.count)?;
     if 0 < r.count {
-        put_span(s, from, r.a);
+        put_span(to, s, from, r.a)?;
     }
     if 1 < r.count {
-        put_span(s, from, r.b);
+        put_span(to, s, from, r.b)?;
     }
     if 2 < r.count {
-        put_span(s, from, r.c);
+        put_span(to, s, from, r.c)?;
     }
+    Ok(())
 }
 
-fn put_content(s: &[u8], from: usize)
+fn put_content<W: Write>(to: &mut W, s: &[u8], from: usize) -> io::Result<()>
     requires { from + length s.now ≤ 18446744073709551615 }
 {
     let f = form_of(s);
     match f {
         Form::Bad(n) => {
-            put(b"refused ");
-            put_number(n as usize);
+            put(to, b"refused ")?;
+            put_number(to, n as usize)
         }
-        Form::Body(e) => put_fields(&s[..e], from),
+        Form::Body(e) => put_fields(to, &s[..e], from),
     }
 }
 
-fn put_line(s: &[u8], from: usize, number: usize)
+fn put_line<W: Write>(to: &mut W, s: &[u8], from: usize, number: usize) -> io::Result<()>
     requires { from + length s.now ≤ 18446744073709551615 }
 {
-    put_number(number);
-    put(b": ");
+    put_number(to, number)?;
+    put(to, b": ")?;
     let k = trimmed(s);
-    put_content(&s[..k], from);
-    put(b"\n");
+    put_content(to, &s[..k], from)?;
+    put(to, b"\n")
 }
 
 // The lines of a text, as every loop over lines goes: on from the LF found, or the end, plus one. Answers how many there are.
-fn put_lines(text: &[u8]) -> usize
+fn put_lines<W: Write>(to: &mut W, text: &[u8]) -> io::Result<usize>
     requires { length text.now ≤ 16777215 }
 {
     let mut from: usize = 0;
@@ -96,40 +96,42 @@ fn put_lines(text: &[u8]) -> usize
     while from < text.len() {
         let stop = scan(text, from, Until::Byte(b'\n'));
         number += 1;
-        put_line(&text[from..stop], from, number);
+        put_line(to, &text[from..stop], from, number)?;
         from = stop + 1;
     }
-    number
+    Ok(number)
 }
 
 // One text with its label in front.
-fn show(piece: &[u8])
+fn show<W: Write>(to: &mut W, piece: &[u8]) -> io::Result<()>
     requires { length piece.now ≤ 16777215 }
 {
     let mark = scan(piece, 0, Until::Byte(253));
     if mark < piece.len() {
-        put(&piece[..mark]);
+        put(to, &piece[..mark])?;
         let k = mark + 1;
-        let lines = put_lines(&piece[k..]);
-        put(b"lines ");
-        put_number(lines);
-        put(b"\n");
+        let lines = put_lines(to, &piece[k..])?;
+        put(to, b"lines ")?;
+        put_number(to, lines)?;
+        put(to, b"\n")?;
     }
+    Ok(())
 }
 
-fn show_all(s: &[u8])
+fn show_all<W: Write>(to: &mut W, s: &[u8]) -> io::Result<()>
     requires { length s.now ≤ 16777215 }
 {
     let mut from: usize = 0;
     while from < s.len() {
         let stop = scan(s, from, Until::Byte(254));
-        show(&s[from..stop]);
+        show(to, &s[from..stop])?;
         from = stop + 1;
     }
+    Ok(())
 }
 
-fn main() {
-    let mut input = io::large_buffer();
-    let n = io::read_full(STDIN_FILENO, &mut input);
-    show_all(&input[..n]);
+fn main(rt: HostRuntime) -> io::Result<()> {
+    let mut input = [0u8; 65536];
+    let n = read_full(&mut rt.stdin(), &mut input)?;
+    show_all(&mut rt.stdout(), &input[..n])
 }

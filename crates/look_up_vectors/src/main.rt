@@ -2,76 +2,80 @@
 // which is full of 9 before the call. The file `stdout` was worked out by hand from request L4.
 #![tactic(auto)]
 
-use libc::STDOUT_FILENO;
+use console::{put, put_decimal};
 use look_up::{ListReply, points_of};
+use std::io;
+use std::io::Write;
 
-fn put(s: &[u8]) {
-    io::write_all(STDOUT_FILENO, s);
+fn put_number<W: Write>(to: &mut W, n: u32) -> io::Result<()> {
+    put(to, b" ")?;
+    put_decimal(to, n as u64)
 }
 
-fn put_number(n: u32) {
-    put(b" ");
-    io::print_decimal(STDOUT_FILENO, n as u64);
-}
-
-fn put_all(numbers: &[u32]) {
+fn put_all<W: Write>(to: &mut W, numbers: &[u32]) -> io::Result<()> {
     for i in 0..numbers.len() {
-        put_number(numbers[i]);
+        put_number(to, numbers[i])?;
     }
-    put(b"\n");
+    put(to, b"\n")
 }
 
-fn put_reply(reply: ListReply) {
+fn put_reply<W: Write>(to: &mut W, reply: ListReply) -> io::Result<()> {
     match reply {
-        ListReply::Answered => put(b"answered"),
+        ListReply::Answered => put(to, b"answered"),
         ListReply::Refused(why) => {
-            put(b"refused");
-            put_number(why.file as u32);
-            put_number(why.line);
-            put_number(why.number as u32);
-            put_number(why.column);
-            put(b":");
+            put(to, b"refused")?;
+            put_number(to, why.file as u32)?;
+            put_number(to, why.line)?;
+            put_number(to, why.number as u32)?;
+            put_number(to, why.column)?;
+            put(to, b":")
         }
     }
 }
 
-fn ask(checkpoints: &[u32], numbers: &[u32], points: &mut [u32]) {
+fn ask<W: Write>(
+    to: &mut W,
+    checkpoints: &[u32],
+    numbers: &[u32],
+    points: &mut [u32],
+) -> io::Result<()> {
     let reply = points_of(checkpoints, numbers, points);
-    put_reply(reply);
-    put_all(points);
+    put_reply(to, reply)?;
+    put_all(to, points)
 }
 
 // Three rows, the third with the first one's number; numbers that repeat, one that is unknown, and 0.
-fn first_rows() {
+fn first_rows<W: Write>(to: &mut W) -> io::Result<()> {
     let table = [7u32, 1, 9, 5, 7, 3];
     let mut points = [9u32; 5];
-    ask(&table, &[7u32, 9, 8, 0, 7], &mut points);
+    ask(to, &table, &[7u32, 9, 8, 0, 7], &mut points)
 }
 
 // Lists without a number, and lists that differ in length: 20 comes first, whatever the table.
-fn lengths() {
+fn lengths<W: Write>(to: &mut W) -> io::Result<()> {
     let table = [7u32, 1];
     let mut none = [9u32; 0];
     let mut one = [9u32; 1];
     let mut two = [9u32; 2];
-    ask(&table, &[0u32; 0], &mut none);
-    ask(&table, &[7u32], &mut two);
-    ask(&table, &[7u32, 9], &mut one);
-    ask(&[0u32; 0], &[7u32], &mut two);
-    ask(&[0u32; 0], &[0u32; 0], &mut one);
+    ask(to, &table, &[0u32; 0], &mut none)?;
+    ask(to, &table, &[7u32], &mut two)?;
+    ask(to, &table, &[7u32, 9], &mut one)?;
+    ask(to, &[0u32; 0], &[7u32], &mut two)?;
+    ask(to, &[0u32; 0], &[0u32; 0], &mut one)
 }
 
 // One word is no row; 4,294,967,295 as a number that is unknown, as one that a row has, and as a point.
-fn words() {
+fn words<W: Write>(to: &mut W) -> io::Result<()> {
     let mut one = [9u32; 1];
     let mut three = [9u32; 3];
-    ask(&[7u32], &[7u32], &mut one);
-    ask(&[7u32, 1, 4294967295], &[4294967295u32], &mut one);
+    ask(to, &[7u32], &[7u32], &mut one)?;
+    ask(to, &[7u32, 1, 4294967295], &[4294967295u32], &mut one)?;
     ask(
+        to,
         &[4294967295u32, 6, 8, 4294967295],
         &[4294967295u32, 8, 6],
         &mut three,
-    );
+    )
 }
 
 // Twenty rows and a word: row i has the number i + 1 and the point 100 + i, but for row 18, which has the number of row 7 again.
@@ -88,19 +92,21 @@ fn twenty_rows() -> [u32; 41] {
 }
 
 // More rows than are asked at once: every number is found in its own row, the first of two wins, and the word behind the last row is no row.
-fn many() {
+fn many<W: Write>(to: &mut W) -> io::Result<()> {
     let table = twenty_rows();
     let mut points = [9u32; 10];
     ask(
+        to,
         &table,
         &[1u32, 7, 8, 9, 16, 17, 18, 19, 20, 21],
         &mut points,
-    );
+    )
 }
 
-fn main() {
-    first_rows();
-    lengths();
-    words();
-    many();
+fn main(rt: HostRuntime) -> io::Result<()> {
+    let mut to = rt.stdout();
+    first_rows(&mut to)?;
+    lengths(&mut to)?;
+    words(&mut to)?;
+    many(&mut to)
 }

@@ -4,8 +4,10 @@
 // `stdout` was worked out from document 01 by `expected.py`, not by this program.
 #![tactic(auto)]
 
-use libc::STDOUT_FILENO;
+use console::{put, put_decimal};
 use marks::{BadLimit, FirstRow, first_bad_limit, first_foreign_goal, first_repeat};
+use std::io;
+use std::io::Write;
 
 const COUNT: usize = 14;
 
@@ -13,85 +15,86 @@ const EDGES: [u32; COUNT] = [
     0, 1, 7, 8, 9, 16, 17, 255, 256, 32767, 32768, 32769, 65535, 65537,
 ];
 
-fn say(letter: &[u8], row: u32) {
-    io::write_all(STDOUT_FILENO, letter);
-    io::print_decimal(STDOUT_FILENO, row as u64);
+fn say<W: Write>(to: &mut W, letter: &[u8], row: u32) -> io::Result<()> {
+    put(to, letter)?;
+    put_decimal(to, row as u64)
 }
 
-fn say_row(letter: &[u8], answer: FirstRow) {
+fn say_row<W: Write>(to: &mut W, letter: &[u8], answer: FirstRow) -> io::Result<()> {
     match answer {
-        FirstRow::At(row) => say(letter, row),
-        FirstRow::Nothing => {
-            io::write_all(STDOUT_FILENO, b" -");
-        }
+        FirstRow::At(row) => say(to, letter, row),
+        FirstRow::Nothing => { put(to, b" -") }
     }
 }
 
-fn repeat(a: u32, b: u32) {
+fn repeat<W: Write>(to: &mut W, a: u32, b: u32) -> io::Result<()> {
     let checkpoints = [a, 0, b, 0];
-    say_row(b" r", first_repeat(&checkpoints, 2));
+    say_row(to, b" r", first_repeat(&checkpoints, 2))
 }
 
-fn goal(a: u32, b: u32) {
+fn goal<W: Write>(to: &mut W, a: u32, b: u32) -> io::Result<()> {
     let checkpoints = [a, 0];
     let goals = [b];
-    say_row(b" f", first_foreign_goal(&checkpoints, 1, &goals, 1));
+    say_row(to, b" f", first_foreign_goal(&checkpoints, 1, &goals, 1))
 }
 
-fn limit(a: u32, b: u32) {
+fn limit<W: Write>(to: &mut W, a: u32, b: u32) -> io::Result<()> {
     let limits = [a, 0, 0, b, 0, 0];
     let answer = first_bad_limit(&limits, 2, 32768);
     match answer {
-        BadLimit::NotThere(row) => say(b" n", row),
-        BadLimit::Again(row) => say(b" a", row),
-        BadLimit::Nothing => {
-            io::write_all(STDOUT_FILENO, b" -");
-        }
+        BadLimit::NotThere(row) => say(to, b" n", row),
+        BadLimit::Again(row) => say(to, b" a", row),
+        BadLimit::Nothing => { put(to, b" -") }
     }
 }
 
 // This number, then each number behind it.
-fn repeats(a: u32) {
+fn repeats<W: Write>(to: &mut W, a: u32) -> io::Result<()> {
     for j in 0..COUNT {
-        repeat(a, EDGES[j]);
+        repeat(to, a, EDGES[j])?;
     }
+    Ok(())
 }
 
-fn goals(a: u32) {
+fn goals<W: Write>(to: &mut W, a: u32) -> io::Result<()> {
     for j in 0..COUNT {
-        goal(a, EDGES[j]);
+        goal(to, a, EDGES[j])?;
     }
+    Ok(())
 }
 
-fn limits(a: u32) {
+fn limits<W: Write>(to: &mut W, a: u32) -> io::Result<()> {
     for j in 0..COUNT {
-        limit(a, EDGES[j]);
+        limit(to, a, EDGES[j])?;
     }
+    Ok(())
 }
 
-fn pairs() {
+fn pairs<W: Write>(to: &mut W) -> io::Result<()> {
     for i in 0..COUNT {
-        repeats(EDGES[i]);
-        goals(EDGES[i]);
-        limits(EDGES[i]);
-        io::write_all(STDOUT_FILENO, b"\n");
+        repeats(to, EDGES[i])?;
+        goals(to, EDGES[i])?;
+        limits(to, EDGES[i])?;
+        put(to, b"\n")?;
     }
+    Ok(())
 }
 
 // Every number once, and one behind them.
-fn behind_all(n: u32) {
+fn behind_all<W: Write>(to: &mut W, n: u32) -> io::Result<()> {
     let mut checkpoints = [0u32; 65538];
     for i in 0..32768u32 {
         checkpoints[i as usize * 2] = i + 1;
     }
     checkpoints[65536] = n;
-    say_row(b" r", first_repeat(&checkpoints, 32769));
+    say_row(to, b" r", first_repeat(&checkpoints, 32769))
 }
 
-fn main() {
-    pairs();
+fn main(rt: HostRuntime) -> io::Result<()> {
+    let mut to = rt.stdout();
+    pairs(&mut to)?;
     for i in 0..COUNT {
-        behind_all(EDGES[i]);
+        behind_all(&mut to, EDGES[i])?;
     }
-    io::write_all(STDOUT_FILENO, b"\n");
+    put(&mut to, b"\n")
 }

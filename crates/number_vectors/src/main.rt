@@ -3,28 +3,30 @@
 // `stdin` has document 01's vectors; `stdout` was worked out from document 01 by `expected.py`, not by this program.
 #![tactic(auto)]
 
+use console::{put, put_decimal, read_full};
 use coordinate::{Degrees, coordinate_of};
-use libc::{STDIN_FILENO, STDOUT_FILENO};
 use number::{Number, Pair, Triple, integer_of, is_name_length, pair_of, triple_of};
 use scan::{Until, scan};
+use std::io;
+use std::io::Write;
 
-fn refused(n: u64) {
-    io::write_all(STDOUT_FILENO, b" refused ");
-    io::print_decimal(STDOUT_FILENO, n);
+fn refused<W: Write>(to: &mut W, n: u64) -> io::Result<()> {
+    put(to, b" refused ")?;
+    put_decimal(to, n)
 }
 
-fn value(n: u32) {
-    io::write_all(STDOUT_FILENO, b" ");
-    io::print_decimal(STDOUT_FILENO, n as u64);
+fn value<W: Write>(to: &mut W, n: u32) -> io::Result<()> {
+    put(to, b" ")?;
+    put_decimal(to, n as u64)
 }
 
-fn signed_value(z: i32) {
+fn signed_value<W: Write>(to: &mut W, z: i32) -> io::Result<()> {
     if z < 0 {
-        io::write_all(STDOUT_FILENO, b" -");
-        io::print_decimal(STDOUT_FILENO, (0 - (z as i64)) as u64);
+        put(to, b" -")?;
+        put_decimal(to, (0 - (z as i64)) as u64)
     } else {
-        io::write_all(STDOUT_FILENO, b" ");
-        io::print_decimal(STDOUT_FILENO, z as u64);
+        put(to, b" ")?;
+        put_decimal(to, z as u64)
     }
 }
 
@@ -45,17 +47,17 @@ fn longitude_in_range(z: i32) -> bool {
     }
 }
 
-fn integer(s: &[u8]) {
+fn integer<W: Write>(to: &mut W, s: &[u8]) -> io::Result<()> {
     let n = integer_of(s);
     match n {
         Number::Is(v) => {
             if integer_in_range(v) {
-                value(v)
+                value(to, v)
             } else {
-                refused(9)
+                refused(to, 9)
             }
         }
-        Number::No => refused(8),
+        Number::No => refused(to, 8),
     }
 }
 
@@ -67,18 +69,18 @@ fn good_pair(m: u32, n: u32) -> bool {
     }
 }
 
-fn pair(s: &[u8]) {
+fn pair<W: Write>(to: &mut W, s: &[u8]) -> io::Result<()> {
     let p = pair_of(s);
     match p {
         Pair::Is(m, n) => {
             if good_pair(m, n) {
-                value(m);
-                value(n)
+                value(to, m)?;
+                value(to, n)
             } else {
-                refused(9)
+                refused(to, 9)
             }
         }
-        Pair::No => refused(8),
+        Pair::No => refused(to, 8),
     }
 }
 
@@ -90,90 +92,92 @@ fn good_triple(x: u32, y: u32, z: u32) -> bool {
     }
 }
 
-fn triple(s: &[u8]) {
+fn triple<W: Write>(to: &mut W, s: &[u8]) -> io::Result<()> {
     let t = triple_of(s);
     match t {
         Triple::Is(i) => {
             if good_triple(i.x, i.y, i.z) {
-                value(i.x);
-                value(i.y);
-                value(i.z)
+                value(to, i.x)?;
+                value(to, i.y)?;
+                value(to, i.z)
             } else {
-                refused(9)
+                refused(to, 9)
             }
         }
-        Triple::No => refused(8),
+        Triple::No => refused(to, 8),
     }
 }
 
-fn latitude(s: &[u8]) {
+fn latitude<W: Write>(to: &mut W, s: &[u8]) -> io::Result<()> {
     let d = coordinate_of(s);
     match d {
         Degrees::Is(z) => {
             if latitude_in_range(z) {
-                signed_value(z)
+                signed_value(to, z)
             } else {
-                refused(9)
+                refused(to, 9)
             }
         }
-        Degrees::No => refused(8),
+        Degrees::No => refused(to, 8),
     }
 }
 
-fn longitude(s: &[u8]) {
+fn longitude<W: Write>(to: &mut W, s: &[u8]) -> io::Result<()> {
     let d = coordinate_of(s);
     match d {
         Degrees::Is(z) => {
             if longitude_in_range(z) {
-                signed_value(z)
+                signed_value(to, z)
             } else {
-                refused(9)
+                refused(to, 9)
             }
         }
-        Degrees::No => refused(8),
+        Degrees::No => refused(to, 8),
     }
 }
 
-fn name(n: usize) {
+fn name<W: Write>(to: &mut W, n: usize) -> io::Result<()> {
     if is_name_length(n) {
-        io::write_all(STDOUT_FILENO, b" ");
-        io::print_decimal(STDOUT_FILENO, n as u64);
+        put(to, b" ")?;
+        put_decimal(to, n as u64)
     } else {
-        refused(8);
+        refused(to, 8)
     }
 }
 
-fn field(kind: u8, s: &[u8]) {
+fn field<W: Write>(to: &mut W, kind: u8, s: &[u8]) -> io::Result<()> {
     match kind {
-        b'i' => integer(s),
-        b'p' => pair(s),
-        b't' => triple(s),
-        b'a' => latitude(s),
-        b'o' => longitude(s),
-        _ => name(s.len()),
+        b'i' => integer(to, s),
+        b'p' => pair(to, s),
+        b't' => triple(to, s),
+        b'a' => latitude(to, s),
+        b'o' => longitude(to, s),
+        _ => name(to, s.len()),
     }
 }
 
-fn line(s: &[u8]) {
+fn line<W: Write>(to: &mut W, s: &[u8]) -> io::Result<()> {
     if 1 < s.len() {
-        io::write_all(STDOUT_FILENO, s);
-        io::write_all(STDOUT_FILENO, b":");
-        field(s[0], &s[2..]);
-        io::write_all(STDOUT_FILENO, b"\n");
+        put(to, s)?;
+        put(to, b":")?;
+        field(to, s[0], &s[2..])?;
+        put(to, b"\n")?;
     }
+    Ok(())
 }
 
-fn lines(t: &[u8]) {
+fn lines<W: Write>(to: &mut W, t: &[u8]) -> io::Result<()> {
     let mut at: usize = 0;
     while at < t.len() {
         let stop = scan(t, at, Until::Byte(b'\n'));
-        line(&t[at..stop]);
+        line(to, &t[at..stop])?;
         at = stop + 1;
     }
+    Ok(())
 }
 
-fn main() {
-    let mut space = io::buffer();
-    let n = io::read_full(STDIN_FILENO, &mut space);
-    lines(&space[..n]);
+fn main(rt: HostRuntime) -> io::Result<()> {
+    let mut space = [0u8; 4096];
+    let n = read_full(&mut rt.stdin(), &mut space)?;
+    lines(&mut rt.stdout(), &space[..n])
 }

@@ -8,11 +8,13 @@ ghost use Rattle.output.specs.Ended.{Output};
 ghost use Rattle.output.specs.Pen.{pen, Wrote};
 ghost use Rattle.output_vectors.specs.Point.{point_line};
 
-use libc::STDOUT_FILENO;
+use console::{put, put_decimal};
 use output::{
     Finished, clear_output, finish, put_byte, put_bytes, put_coordinate, put_integer, put_line_end,
     put_pair, put_tab, put_triple, put_u16_be, put_u32_be,
 };
+use std::io;
+use std::io::Write;
 
 // ## What is said of an output
 
@@ -20,29 +22,29 @@ fn wide(b: u8) -> u64 {
     b as u64
 }
 
-fn bytes_from(out: &[u8], from: usize) {
-    io::write_all(STDOUT_FILENO, b" then");
+fn bytes_from<W: Write>(to: &mut W, out: &[u8], from: usize) -> io::Result<()> {
+    put(to, b" then")?;
     for i in from..out.len() {
-        io::write_all(STDOUT_FILENO, b" ");
-        io::print_decimal(STDOUT_FILENO, wide(out[i]));
+        put(to, b" ")?;
+        put_decimal(to, wide(out[i]))?;
     }
-    io::write_all(STDOUT_FILENO, b"\n");
+    put(to, b"\n")
 }
 
-fn show(out: &[u8], f: Finished) {
+fn show<W: Write>(to: &mut W, out: &[u8], f: Finished) -> io::Result<()> {
     match f {
         Finished::Written(n) => {
-            io::write_all(STDOUT_FILENO, b"written ");
-            io::print_decimal(STDOUT_FILENO, n as u64);
-            io::write_all(STDOUT_FILENO, b"\n");
+            put(to, b"written ")?;
+            put_decimal(to, n as u64)?;
+            put(to, b"\n")?;
             if n <= out.len() {
-                io::write_all(STDOUT_FILENO, &out[..n]);
+                put(to, &out[..n])?;
             }
-            bytes_from(out, n);
+            bytes_from(to, out, n)
         }
         Finished::TooLong => {
-            io::write_all(STDOUT_FILENO, b"refused 19\n");
-            bytes_from(out, 0);
+            put(to, b"refused 19\n")?;
+            bytes_from(to, out, 0)
         }
     }
 }
@@ -111,21 +113,22 @@ fn write_numbers(out: &mut [u8]) -> Finished {
     finish(out, c)
 }
 
-fn show_packed(out: &mut [u8]) {
+fn show_packed<W: Write>(to: &mut W, out: &mut [u8]) -> io::Result<()> {
     let a = put_u16_be(out, 0, 258);
     let b = put_u32_be(out, a, 16909060);
     let c = put_u16_be(out, b, 65280);
     put_u32_be(out, c, 4278190335);
-    bytes_from(out, 0);
+    bytes_from(to, out, 0)
 }
 
 // Where a put from a place leaves the pen.
-fn show_places(out: &mut [u8]) {
+fn show_places<W: Write>(to: &mut W, out: &mut [u8]) -> io::Result<()> {
     for i in 0..8 {
-        let to = put_byte(out, PLACES[i], b'x');
-        io::print_decimal(STDOUT_FILENO, to as u64);
-        bytes_from(out, 0);
+        let place = put_byte(out, PLACES[i], b'x');
+        put_decimal(to, place as u64)?;
+        bytes_from(to, out, 0)?;
     }
+    Ok(())
 }
 
 // ## A whole writer: the line of a waypoint, and `end_lane`
@@ -157,27 +160,28 @@ fn sevens() -> [u8; 212] {
     [7u8; 212]
 }
 
-fn numbers() {
+fn numbers<W: Write>(to: &mut W) -> io::Result<()> {
     let mut out = sevens();
     let f = write_numbers(&mut out);
-    show(&out, f);
+    show(to, &out, f)?;
     let mut twelve = [7u8; 12];
-    show_packed(&mut twelve);
+    show_packed(to, &mut twelve)?;
     let mut two = [7u8; 2];
-    show_places(&mut two);
+    show_places(to, &mut two)
 }
 
 // Refusal 19: exactly enough, and one byte too short.
-fn points() {
+fn points<W: Write>(to: &mut W) -> io::Result<()> {
     let mut enough = [7u8; 36];
     let f = write_point(&mut enough, 2, 45000100, -93000000);
-    show(&enough, f);
+    show(to, &enough, f)?;
     let mut short = [7u8; 35];
     let g = write_point(&mut short, 2, 45000100, -93000000);
-    show(&short, g);
+    show(to, &short, g)
 }
 
-fn main() {
-    numbers();
-    points();
+fn main(rt: HostRuntime) -> io::Result<()> {
+    let mut to = rt.stdout();
+    numbers(&mut to)?;
+    points(&mut to)
 }

@@ -7,16 +7,19 @@
 // The file `stdout` was not copied from a run: the oracle in tests/oracle, written from document 01 alone, wrote it (tests/reader_vectors.py).
 #![tactic(auto)]
 
-ghost use Rattle.std.specs.Prelude.{◌≤◌, length};
+ghost use Rattle.std.specs.Prelude.{◌≤◌, length, IfOk};
 
+use console::{put, put_decimal, read_full};
 use counts::{Counts, MissionCounts};
 use edition::Edition;
-use libc::STDOUT_FILENO;
 use output::put_coordinate;
 use reader::{read_pair, read_rndf};
 use refusal::Refusal;
 use replies::{PairReply, RndfReply};
 use rows::{FileRow, MissionFileRow, Stretch};
+use std::io::Write;
+use std::rt::Files;
+use std::{fs, io};
 
 // A case's first line with its LF: a digit and thirteen times a space and four digits.
 const HEAD: usize = 67;
@@ -25,13 +28,9 @@ const MOST_WORDS: usize = 640;
 
 // ## What is printed
 
-fn put(s: &[u8]) {
-    io::write_all(STDOUT_FILENO, s);
-}
-
-fn put_count(n: u32) {
-    put(b" ");
-    io::print_decimal(STDOUT_FILENO, n as u64);
+fn put_count<W: Write>(to: &mut W, n: u32) -> io::Result<()> {
+    put(to, b" ")?;
+    put_decimal(to, n as u64)
 }
 
 // The first n bytes, or all of them.
@@ -40,51 +39,51 @@ fn first(s: &[u8], n: usize) -> &[u8] {
 }
 
 // A coordinate as it stands in a text.
-fn put_degrees(z: i32) {
+fn put_degrees<W: Write>(to: &mut W, z: i32) -> io::Result<()> {
     let mut digits = [0u8; 16];
     let n = put_coordinate(&mut digits, 0, z);
-    put(b" ");
-    put(first(&digits, n));
+    put(to, b" ")?;
+    put(to, first(&digits, n))
 }
 
-fn put_stretch(s: Stretch) {
-    put_count(s.start);
-    put_count(s.length);
+fn put_stretch<W: Write>(to: &mut W, s: Stretch) -> io::Result<()> {
+    put_count(to, s.start)?;
+    put_count(to, s.length)
 }
 
-fn put_refused(why: Refusal) {
-    put(b"refused");
-    put_count(why.file as u32);
-    put_count(why.line);
-    put_count(why.number as u32);
-    put_count(why.column);
+fn put_refused<W: Write>(to: &mut W, why: Refusal) -> io::Result<()> {
+    put(to, b"refused")?;
+    put_count(to, why.file as u32)?;
+    put_count(to, why.line)?;
+    put_count(to, why.number as u32)?;
+    put_count(to, why.column)
 }
 
-fn put_accepted(c: Counts, f: FileRow) {
-    put(b"ok");
-    put_count(c.segments);
-    put_count(c.lanes);
-    put_count(c.zones);
-    put_count(c.spots);
-    put_count(c.points);
-    put_count(c.checkpoints);
-    put_count(c.stops);
-    put_count(c.exits);
-    put(b" file");
-    put_stretch(f.name);
-    put_stretch(f.version);
-    put_stretch(f.date);
+fn put_accepted<W: Write>(to: &mut W, c: Counts, f: FileRow) -> io::Result<()> {
+    put(to, b"ok")?;
+    put_count(to, c.segments)?;
+    put_count(to, c.lanes)?;
+    put_count(to, c.zones)?;
+    put_count(to, c.spots)?;
+    put_count(to, c.points)?;
+    put_count(to, c.checkpoints)?;
+    put_count(to, c.stops)?;
+    put_count(to, c.exits)?;
+    put(to, b" file")?;
+    put_stretch(to, f.name)?;
+    put_stretch(to, f.version)?;
+    put_stretch(to, f.date)
 }
 
-fn put_mission(c: MissionCounts, f: MissionFileRow) {
-    put(b" ok");
-    put_count(c.goals);
-    put_count(c.limits);
-    put(b" file");
-    put_stretch(f.name);
-    put_stretch(f.rndf);
-    put_stretch(f.version);
-    put_stretch(f.date);
+fn put_mission<W: Write>(to: &mut W, c: MissionCounts, f: MissionFileRow) -> io::Result<()> {
+    put(to, b" ok")?;
+    put_count(to, c.goals)?;
+    put_count(to, c.limits)?;
+    put(to, b" file")?;
+    put_stretch(to, f.name)?;
+    put_stretch(to, f.rndf)?;
+    put_stretch(to, f.version)?;
+    put_stretch(to, f.date)
 }
 
 // How many words there are up to the last that is not zero.
@@ -112,24 +111,24 @@ fn used_signed(t: &[i32]) -> usize
     used
 }
 
-fn put_words(t: &[u32]) {
-    io::print_decimal(STDOUT_FILENO, t.len() as u64);
-    put(b":");
+fn put_words<W: Write>(to: &mut W, t: &[u32]) -> io::Result<()> {
+    put_decimal(to, t.len() as u64)?;
+    put(to, b":")?;
     let used = used_words(t);
     for i in 0..used {
-        put_count(t[i]);
+        put_count(to, t[i])?;
     }
-    put(b";");
+    put(to, b";")
 }
 
-fn put_points(t: &[i32]) {
-    io::print_decimal(STDOUT_FILENO, t.len() as u64);
-    put(b":");
+fn put_points<W: Write>(to: &mut W, t: &[i32]) -> io::Result<()> {
+    put_decimal(to, t.len() as u64)?;
+    put(to, b":")?;
     let used = used_signed(t);
     for i in 0..used {
-        put_degrees(t[i]);
+        put_degrees(to, t[i])?;
     }
-    put(b";");
+    put(to, b";")
 }
 
 // ## What is lent
@@ -162,26 +161,27 @@ struct Room {
 
 // ## The two readers, run
 
-fn put_rndf_reply(reply: RndfReply) {
+fn put_rndf_reply<W: Write>(to: &mut W, reply: RndfReply) -> io::Result<()> {
     match reply {
-        RndfReply::Accepted(c, f) => put_accepted(c, f),
-        RndfReply::Refused(why) => put_refused(why),
+        RndfReply::Accepted(c, f) => put_accepted(to, c, f)?,
+        RndfReply::Refused(why) => put_refused(to, why)?,
     }
-    put(b"\n");
+    put(to, b"\n")
 }
 
-fn put_pair_reply(reply: PairReply) {
+fn put_pair_reply<W: Write>(to: &mut W, reply: PairReply) -> io::Result<()> {
     match reply {
         PairReply::Accepted(c, f, m, g) => {
-            put_accepted(c, f);
-            put_mission(m, g);
+            put_accepted(to, c, f)?;
+            put_mission(to, m, g)?;
         }
-        PairReply::Refused(why) => put_refused(why),
+        PairReply::Refused(why) => put_refused(to, why)?,
     }
-    put(b"\n");
+    put(to, b"\n")
 }
 
-fn put_network(
+fn put_network<W: Write>(
+    to: &mut W,
     segments: &[u32],
     lanes: &[u32],
     zones: &[u32],
@@ -190,19 +190,19 @@ fn put_network(
     checkpoints: &[u32],
     stops: &[u32],
     exits: &[u32],
-) {
-    put_words(segments);
-    put_words(lanes);
-    put_words(zones);
-    put_words(spots);
-    put_points(points);
-    put_words(checkpoints);
-    put_words(stops);
-    put_words(exits);
+) -> io::Result<()> {
+    put_words(to, segments)?;
+    put_words(to, lanes)?;
+    put_words(to, zones)?;
+    put_words(to, spots)?;
+    put_points(to, points)?;
+    put_words(to, checkpoints)?;
+    put_words(to, stops)?;
+    put_words(to, exits)
 }
 
 // The tables stand where they are lent from: a function that only handed ten slices on would be dear to check.
-fn show_alone(edition: Edition, text: &[u8], room: Room) {
+fn show_alone<W: Write>(to: &mut W, edition: Edition, text: &[u8], room: Room) -> io::Result<()> {
     let mut segment_words = [FULL; MOST_WORDS];
     let mut lane_words = [FULL; MOST_WORDS];
     let mut zone_words = [FULL; MOST_WORDS];
@@ -231,8 +231,9 @@ fn show_alone(edition: Edition, text: &[u8], room: Room) {
         stops,
         exits,
     );
-    put_rndf_reply(reply);
+    put_rndf_reply(to, reply)?;
     put_network(
+        to,
         segments,
         lanes,
         zones,
@@ -241,10 +242,16 @@ fn show_alone(edition: Edition, text: &[u8], room: Room) {
         checkpoints,
         stops,
         exits,
-    );
+    )
 }
 
-fn show_pair(edition: Edition, rndf: &[u8], mdf: &[u8], room: Room) {
+fn show_pair<W: Write>(
+    to: &mut W,
+    edition: Edition,
+    rndf: &[u8],
+    mdf: &[u8],
+    room: Room,
+) -> io::Result<()> {
     let mut segment_words = [FULL; MOST_WORDS];
     let mut lane_words = [FULL; MOST_WORDS];
     let mut zone_words = [FULL; MOST_WORDS];
@@ -280,8 +287,9 @@ fn show_pair(edition: Edition, rndf: &[u8], mdf: &[u8], room: Room) {
         goals,
         limits,
     );
-    put_pair_reply(reply);
+    put_pair_reply(to, reply)?;
     put_network(
+        to,
         segments,
         lanes,
         zones,
@@ -290,9 +298,9 @@ fn show_pair(edition: Edition, rndf: &[u8], mdf: &[u8], room: Room) {
         checkpoints,
         stops,
         exits,
-    );
-    put_words(goals);
-    put_words(limits);
+    )?;
+    put_words(to, goals)?;
+    put_words(to, limits)
 }
 
 // ## The cases
@@ -361,8 +369,8 @@ fn is_pair(mode: usize) -> bool {
 }
 
 // Prints one case, and answers its length.
-fn show(s: &[u8]) -> usize
-    ensures { 67 ≤ result }
+fn show<W: Write>(to: &mut W, s: &[u8]) -> io::Result<usize>
+    ensures { IfOk result (λ size. 67 ≤ size) }
 {
     let label_size = number(s, 12);
     let rndf_size = number(s, 0);
@@ -370,48 +378,47 @@ fn show(s: &[u8]) -> usize
     let rndf_at = HEAD + label_size + 1;
     let mdf_at = rndf_at + rndf_size;
     let behind = mdf_at + mdf_size;
-    put(part(s, HEAD, label_size));
-    put(b"\n");
+    put(to, part(s, HEAD, label_size))?;
+    put(to, b"\n")?;
     let rndf = part(s, rndf_at, rndf_size);
     let mode = digit(s, 0);
     let edition = edition_in(mode);
     if is_pair(mode) {
-        show_pair(edition, rndf, part(s, mdf_at, mdf_size), room_of(s));
+        show_pair(to, edition, rndf, part(s, mdf_at, mdf_size), room_of(s))?;
     } else {
-        show_alone(edition, rndf, room_of(s));
+        show_alone(to, edition, rndf, room_of(s))?;
     }
-    put(b"\n");
-    behind + 1
+    put(to, b"\n")?;
+    Ok(behind + 1)
 }
 
-fn show_all(s: &[u8]) {
+fn show_all<W: Write>(to: &mut W, s: &[u8]) -> io::Result<()> {
     let mut at: usize = 0;
     while at < s.len() {
-        let size = show(&s[at..]);
+        let size = show(to, &s[at..])?;
         if size < s.len() - at {
             at += size;
         } else {
             at = s.len();
         }
     }
+    Ok(())
 }
 
-// The file of cases with that digit. A digit is cheaper to hand over than a name: each name would be an array of the caller's.
-fn show_file(digit: u8) {
-    let path = [b'c', b'a', b's', b'e', b's', b'_', digit];
-    let fd = os::open_read(&path);
-    let mut input = io::large_buffer();
-    let n = io::read_full(fd, &mut input);
-    libc::close(fd);
-    show_all(&input[..n]);
+fn show_file<R: Files, W: Write>(rt: &R, to: &mut W, path: &str) -> io::Result<()> {
+    let mut file = fs::open(rt, path)?;
+    let mut input = [0u8; 65536];
+    let n = read_full(&mut file, &mut input)?;
+    show_all(to, &input[..n])
 }
 
-fn main() {
-    show_file(b'1');
-    show_file(b'2');
-    show_file(b'3');
-    show_file(b'4');
-    show_file(b'5');
-    show_file(b'6');
-    show_file(b'7');
+fn main(rt: HostRuntime) -> io::Result<()> {
+    let mut to = rt.stdout();
+    show_file(&rt, &mut to, "cases_1")?;
+    show_file(&rt, &mut to, "cases_2")?;
+    show_file(&rt, &mut to, "cases_3")?;
+    show_file(&rt, &mut to, "cases_4")?;
+    show_file(&rt, &mut to, "cases_5")?;
+    show_file(&rt, &mut to, "cases_6")?;
+    show_file(&rt, &mut to, "cases_7")
 }

@@ -2,45 +2,48 @@
 // digit. `stdin` and `stdout` are made by vectors.py from document 01's lists, not from a run. Rests on `word`.
 #![tactic(auto)]
 
-use libc::{STDIN_FILENO, STDOUT_FILENO};
+use console::{put, put_decimal, read_full};
+use std::io;
+use std::io::Write;
 
 // A number behind a tab, or `none`.
-fn show_number(n: u8, none: u8) {
-    io::write_all(STDOUT_FILENO, b"\t");
+fn show_number<W: Write>(to: &mut W, n: u8, none: u8) -> io::Result<()> {
+    put(to, b"\t")?;
     if n == none {
-        io::write_all(STDOUT_FILENO, b"none");
+        put(to, b"none")
     } else {
-        io::print_decimal(STDOUT_FILENO, n as u64);
+        put_decimal(to, n as u64)
     }
 }
 
-fn show(field: &[u8]) {
-    io::write_all(STDOUT_FILENO, field);
-    show_number(word::rndf_keyword(field), 29);
-    show_number(word::mdf_keyword(field), 11);
-    show_number(word::boundary_word(field), 0);
+fn show<W: Write>(to: &mut W, field: &[u8]) -> io::Result<()> {
+    put(to, field)?;
+    show_number(to, word::rndf_keyword(field), 29)?;
+    show_number(to, word::mdf_keyword(field), 11)?;
+    show_number(to, word::boundary_word(field), 0)?;
     if word::begins_with_digit(field) {
-        io::write_all(STDOUT_FILENO, b"\tdigit\n");
+        put(to, b"\tdigit\n")
     } else {
-        io::write_all(STDOUT_FILENO, b"\tother\n");
+        put(to, b"\tother\n")
     }
 }
 
 // Each line of the text that an LF ends.
-fn show_lines(text: &[u8]) {
+fn show_lines<W: Write>(to: &mut W, text: &[u8]) -> io::Result<()> {
     let mut from: usize = 0;
     let mut i: usize = 0;
     while i < text.len() {
         if text[i] == b'\n' {
-            show(&text[from..i]);
+            show(to, &text[from..i])?;
             from = i + 1;
         }
         i += 1;
     }
+    Ok(())
 }
 
-fn main() {
-    let mut buffer = io::buffer();
-    let n = io::read_full(STDIN_FILENO, &mut buffer);
-    show_lines(&buffer[..n]);
+fn main(rt: HostRuntime) -> io::Result<()> {
+    let mut buffer = [0u8; 4096];
+    let n = read_full(&mut rt.stdin(), &mut buffer)?;
+    show_lines(&mut rt.stdout(), &buffer[..n])
 }

@@ -7,13 +7,16 @@
 // The file `stdout` was not copied from a run: the oracle in tests/oracle, written from document 01 alone, wrote it (tests/writer_vectors.py).
 #![tactic(auto)]
 
-ghost use Rattle.std.specs.Prelude.{◌≤◌, length};
+ghost use Rattle.std.specs.Prelude.{◌≤◌, length, IfOk};
 
+use console::{put, put_decimal, read_full};
 use counts::{Counts, MissionCounts};
 use edition::Edition;
-use libc::STDOUT_FILENO;
 use refusal::Refusal;
 use rows::{FileRow, MissionFileRow, Stretch};
+use std::io::Write;
+use std::rt::Files;
+use std::{fs, io};
 use writer::{write_mdf, write_rndf};
 use writings::{WriteMdfReply, WriteReply};
 
@@ -30,18 +33,14 @@ const FULL: u32 = 2779096485;
 
 // ## What is printed
 
-fn put(s: &[u8]) {
-    io::write_all(STDOUT_FILENO, s);
+fn put_count<W: Write>(to: &mut W, n: u32) -> io::Result<()> {
+    put(to, b" ")?;
+    put_decimal(to, n as u64)
 }
 
-fn put_count(n: u32) {
-    put(b" ");
-    io::print_decimal(STDOUT_FILENO, n as u64);
-}
-
-fn put_size(n: usize) {
-    put(b" ");
-    io::print_decimal(STDOUT_FILENO, n as u64);
+fn put_size<W: Write>(to: &mut W, n: usize) -> io::Result<()> {
+    put(to, b" ")?;
+    put_decimal(to, n as u64)
 }
 
 // The first n bytes, or all of them.
@@ -49,72 +48,72 @@ fn first(s: &[u8], n: usize) -> &[u8] {
     if n < s.len() { &s[..n] } else { s }
 }
 
-fn put_stretch(s: Stretch) {
-    put_count(s.start);
-    put_count(s.length);
+fn put_stretch<W: Write>(to: &mut W, s: Stretch) -> io::Result<()> {
+    put_count(to, s.start)?;
+    put_count(to, s.length)
 }
 
-fn put_refused(why: Refusal) {
-    put(b"refused");
-    put_count(why.file as u32);
-    put_count(why.line);
-    put_count(why.number as u32);
-    put_count(why.column);
+fn put_refused<W: Write>(to: &mut W, why: Refusal) -> io::Result<()> {
+    put(to, b"refused")?;
+    put_count(to, why.file as u32)?;
+    put_count(to, why.line)?;
+    put_count(to, why.number as u32)?;
+    put_count(to, why.column)
 }
 
-fn put_accepted(c: Counts, f: FileRow) {
-    put(b"written");
-    put_count(c.segments);
-    put_count(c.lanes);
-    put_count(c.zones);
-    put_count(c.spots);
-    put_count(c.points);
-    put_count(c.checkpoints);
-    put_count(c.stops);
-    put_count(c.exits);
-    put(b" file");
-    put_stretch(f.name);
-    put_stretch(f.version);
-    put_stretch(f.date);
+fn put_accepted<W: Write>(to: &mut W, c: Counts, f: FileRow) -> io::Result<()> {
+    put(to, b"written")?;
+    put_count(to, c.segments)?;
+    put_count(to, c.lanes)?;
+    put_count(to, c.zones)?;
+    put_count(to, c.spots)?;
+    put_count(to, c.points)?;
+    put_count(to, c.checkpoints)?;
+    put_count(to, c.stops)?;
+    put_count(to, c.exits)?;
+    put(to, b" file")?;
+    put_stretch(to, f.name)?;
+    put_stretch(to, f.version)?;
+    put_stretch(to, f.date)
 }
 
-fn put_mission(c: MissionCounts, f: MissionFileRow) {
-    put(b" mission");
-    put_count(c.goals);
-    put_count(c.limits);
-    put(b" file");
-    put_stretch(f.name);
-    put_stretch(f.rndf);
-    put_stretch(f.version);
-    put_stretch(f.date);
+fn put_mission<W: Write>(to: &mut W, c: MissionCounts, f: MissionFileRow) -> io::Result<()> {
+    put(to, b" mission")?;
+    put_count(to, c.goals)?;
+    put_count(to, c.limits)?;
+    put(to, b" file")?;
+    put_stretch(to, f.name)?;
+    put_stretch(to, f.rndf)?;
+    put_stretch(to, f.version)?;
+    put_stretch(to, f.date)
 }
 
-fn put_bytes_written(n: u32) {
-    put(b" bytes");
-    put_count(n);
+fn put_bytes_written<W: Write>(to: &mut W, n: u32) -> io::Result<()> {
+    put(to, b" bytes")?;
+    put_count(to, n)
 }
 
-fn put_reply(reply: WriteReply) {
+fn put_reply<W: Write>(to: &mut W, reply: WriteReply) -> io::Result<()> {
     match reply {
         WriteReply::Written(c, f, n) => {
-            put_accepted(c, f);
-            put_bytes_written(n);
+            put_accepted(to, c, f)?;
+            put_bytes_written(to, n)?;
         }
-        WriteReply::Refused(why) => put_refused(why),
+        WriteReply::Refused(why) => put_refused(to, why)?,
     }
-    put(b"\ntables");
+    put(to, b"\ntables")
 }
 
-fn put_mdf_reply(reply: WriteMdfReply) {
+fn put_mdf_reply<W: Write>(to: &mut W, reply: WriteMdfReply) -> io::Result<()> {
     match reply {
         WriteMdfReply::Written(c, f, m, g, n) => {
-            put_accepted(c, f);
-            put_mission(m, g);
-            put_bytes_written(n);
+            put_accepted(to, c, f)?;
+            put_mission(to, m, g)?;
+            put_bytes_written(to, n)?;
         }
-        WriteMdfReply::Refused(why) => put_refused(why),
+        WriteMdfReply::Refused(why) => put_refused(to, why)?,
     }
-    put(b"\ntables");
+    put(to, b"\ntables")
 }
 
 // ## What is in use: how many there are up to the last that is not zero
@@ -155,23 +154,28 @@ fn used_bytes(t: &[u8]) -> usize
     used
 }
 
-fn put_used(t: &[u32]) {
-    put_size(used_words(t));
+fn put_used<W: Write>(to: &mut W, t: &[u32]) -> io::Result<()> {
+    put_size(to, used_words(t))
 }
 
-fn put_output(out: &[u8]) {
+fn put_output<W: Write>(to: &mut W, out: &[u8]) -> io::Result<()> {
     let used = used_bytes(out);
-    put(b"\noutput");
-    put_size(out.len());
-    put_size(used);
-    put(b"\n");
-    put(first(out, used));
-    put(b"\n");
+    put(to, b"\noutput")?;
+    put_size(to, out.len())?;
+    put_size(to, used)?;
+    put(to, b"\n")?;
+    put(to, first(out, used))?;
+    put(to, b"\n")
 }
 
 // ## The two writers, run
 
-fn show_rndf(edition: Edition, text: &[u8], out: &mut [u8]) {
+fn show_rndf<W: Write>(
+    to: &mut W,
+    edition: Edition,
+    text: &[u8],
+    out: &mut [u8],
+) -> io::Result<()> {
     let mut segments = [FULL; WORDS];
     let mut lanes = [FULL; WORDS];
     let mut zones = [FULL; WORDS];
@@ -193,12 +197,18 @@ fn show_rndf(edition: Edition, text: &[u8], out: &mut [u8]) {
         &mut exits,
         out,
     );
-    put_reply(reply);
-    put_used(&segments);
-    put_size(used_signed(&points));
+    put_reply(to, reply)?;
+    put_used(to, &segments)?;
+    put_size(to, used_signed(&points))
 }
 
-fn show_mdf(edition: Edition, rndf: &[u8], mdf: &[u8], out: &mut [u8]) {
+fn show_mdf<W: Write>(
+    to: &mut W,
+    edition: Edition,
+    rndf: &[u8],
+    mdf: &[u8],
+    out: &mut [u8],
+) -> io::Result<()> {
     let mut segments = [FULL; WORDS];
     let mut lanes = [FULL; WORDS];
     let mut zones = [FULL; WORDS];
@@ -225,10 +235,10 @@ fn show_mdf(edition: Edition, rndf: &[u8], mdf: &[u8], out: &mut [u8]) {
         &mut limits,
         out,
     );
-    put_mdf_reply(reply);
-    put_used(&segments);
-    put_size(used_signed(&points));
-    put_used(&limits);
+    put_mdf_reply(to, reply)?;
+    put_used(to, &segments)?;
+    put_size(to, used_signed(&points))?;
+    put_used(to, &limits)
 }
 
 // ## The cases
@@ -286,54 +296,61 @@ fn is_pair(mode: usize) -> bool {
     if mode == 2 { true } else { mode == 4 }
 }
 
-fn show_in(mode: usize, rndf: &[u8], mdf: &[u8], out: &mut [u8]) {
+fn show_in<W: Write>(
+    to: &mut W,
+    mode: usize,
+    rndf: &[u8],
+    mdf: &[u8],
+    out: &mut [u8],
+) -> io::Result<()> {
     let edition = edition_in(mode);
     if is_pair(mode) {
-        show_mdf(edition, rndf, mdf, out);
-        put_output(out);
-        return;
+        show_mdf(to, edition, rndf, mdf, out)?;
+        put_output(to, out)
+    } else {
+        show_rndf(to, edition, rndf, out)?;
+        put_output(to, out)
     }
-    show_rndf(edition, rndf, out);
-    put_output(out);
 }
 
 // Prints one case, and answers its length.
-fn show(s: &[u8]) -> usize
-    ensures { 22 ≤ result }
+fn show<W: Write>(to: &mut W, s: &[u8]) -> io::Result<usize>
+    ensures { IfOk result (λ size. 22 ≤ size) }
 {
     let rndf_at = HEAD + number(s, 3) + 1;
     let mdf_at = rndf_at + number(s, 0);
     let behind = mdf_at + number(s, 1);
-    put(part(s, HEAD, number(s, 3)));
-    put(b"\n");
+    put(to, part(s, HEAD, number(s, 3)))?;
+    put(to, b"\n")?;
     let rndf = part(s, rndf_at, number(s, 0));
     let mdf = part(s, mdf_at, number(s, 1));
     let mut output = [165u8; BYTES];
-    show_in(digit(s, 0), rndf, mdf, lent(&mut output, number(s, 2)));
-    behind + 1
+    show_in(to, digit(s, 0), rndf, mdf, lent(&mut output, number(s, 2)))?;
+    Ok(behind + 1)
 }
 
-fn show_all(s: &[u8]) {
+fn show_all<W: Write>(to: &mut W, s: &[u8]) -> io::Result<()> {
     let mut at: usize = 0;
     while at < s.len() {
-        let size = show(&s[at..]);
+        let size = show(to, &s[at..])?;
         if size < s.len() - at {
             at += size;
         } else {
             at = s.len();
         }
     }
+    Ok(())
 }
 
-fn show_file(path: &[u8]) {
-    let fd = os::open_read(path);
-    let mut input = io::large_buffer();
-    let n = io::read_full(fd, &mut input);
-    libc::close(fd);
-    show_all(&input[..n]);
+fn show_file<R: Files, W: Write>(rt: &R, to: &mut W, path: &str) -> io::Result<()> {
+    let mut file = fs::open(rt, path)?;
+    let mut input = [0u8; 65536];
+    let n = read_full(&mut file, &mut input)?;
+    show_all(to, &input[..n])
 }
 
-fn main() {
-    show_file(b"cases_1");
-    show_file(b"cases_2");
+fn main(rt: HostRuntime) -> io::Result<()> {
+    let mut to = rt.stdout();
+    show_file(&rt, &mut to, "cases_1")?;
+    show_file(&rt, &mut to, "cases_2")
 }

@@ -15,15 +15,18 @@ ghost use Rattle.output.specs.Pen.{pen, Wrote};
 ghost use Rattle.yard_check.specs.Tells.{may_stand, rndf_may_stand, pair_may_stand, TellsRndf, TellsPair};
 
 use answers::{put_pair_answer, put_rndf_answer, put_sentence};
+use console::put;
 use edition::Edition;
 use expected::put_expected_line;
-use files::{Loaded, is_argument, load, load_rndf, put_trouble};
-use libc::STDOUT_FILENO;
+use files::{Given, Loaded, argument, argument_count, is_argument, load, load_rndf, put_trouble};
 use reader::{read_pair, read_rndf};
 use refusal::Refusal;
 use replies::{PairReply, RndfReply};
 use scan::same;
 use shown::first;
+use std::io;
+use std::io::Write;
+use std::rt::{Env, Files};
 
 const MOST_BYTES: usize = 1048576;
 
@@ -189,8 +192,8 @@ fn tell_pair(
 
 // ## Files
 
-fn say(s: &[u8]) {
-    io::write_all(STDOUT_FILENO, s);
+fn say<W: Write>(to: &mut W, s: &[u8]) -> io::Result<()> {
+    put(to, s)
 }
 
 // What is the matter with a file, as `files` says it.
@@ -204,23 +207,23 @@ fn put_matter(out: &mut [u8], name: &[u8], loaded: Loaded) -> usize {
     )
 }
 
-fn say_matter(name: &[u8], loaded: Loaded) {
+fn say_matter<W: Write>(to: &mut W, name: &[u8], loaded: Loaded) -> io::Result<()> {
     let mut out = [0u8; MOST_ANSWER];
     let n = put_matter(&mut out, name, loaded);
-    say(first(&out, n));
+    say(to, first(&out, n))
 }
 
 // Of an RNDF over the readers' limit.
-fn say_over_limit(name: &[u8]) {
+fn say_over_limit<W: Write>(to: &mut W, name: &[u8]) -> io::Result<()> {
     let mut out = [0u8; MOST_ANSWER];
     let n = put_sentence(&mut out, 0, name, b"", 0, 1, 0);
-    say(first(&out, n));
+    say(to, first(&out, n))
 }
 
 // The MDF, if it is asked for.
-fn load_asked(asked: bool, path: &[u8], text: &mut [u8]) -> Loaded {
+fn load_asked<R: Files>(rt: &R, asked: bool, path: &[u8], text: &mut [u8]) -> Loaded {
     if asked {
-        return load(path, text);
+        return load(rt, path, text);
     }
     Loaded::NotAsked
 }
@@ -228,7 +231,8 @@ fn load_asked(asked: bool, path: &[u8], text: &mut [u8]) -> Loaded {
 // ## What is asked
 
 // The RNDF's text, the MDF's room, and what came of the MDF: its bytes, or what is the matter with it.
-fn judge(
+fn judge<W: Write>(
+    to: &mut W,
     edition: Edition,
     rndf_name: &[u8],
     mdf_name: &[u8],
@@ -236,7 +240,7 @@ fn judge(
     mdf: &[u8],
     loaded: Loaded,
     trouble: &[u8],
-) {
+) -> io::Result<()> {
     let mut segments = [0u32; SEGMENT_WORDS];
     let mut lanes = [0u32; LANE_WORDS];
     let mut zones = [0u32; ZONE_WORDS];
@@ -268,7 +272,7 @@ fn judge(
                 &mut goals,
                 &mut limits,
             );
-            say(first(&out, told));
+            say(to, first(&out, told))
         }
         _ => {
             let told = tell_rndf(
@@ -286,23 +290,25 @@ fn judge(
                 &mut stops,
                 &mut exits,
             );
-            say(first(&out, told));
+            say(to, first(&out, told))
         }
     }
 }
 
 // What came of the MDF, if it is asked for, in this room.
-fn with_mission(
+fn with_mission<W: Write>(
+    to: &mut W,
     edition: Edition,
     rndf_name: &[u8],
     mdf_name: &[u8],
     rndf: &[u8],
     mdf: &[u8],
     loaded: Loaded,
-) {
+) -> io::Result<()> {
     let mut trouble = [0u8; MOST_ANSWER];
     let n = put_matter(&mut trouble, mdf_name, loaded);
     judge(
+        to,
         edition,
         rndf_name,
         mdf_name,
@@ -310,23 +316,46 @@ fn with_mission(
         mdf,
         loaded,
         first(&trouble, n),
-    );
+    )
 }
 
 // The room stands in a function of its own: beside a second array its length took 10 s to check.
-fn with_network(edition: Edition, rndf_name: &[u8], mdf_name: &[u8], rndf: &[u8], asked: bool) {
+fn with_network<R: Files, W: Write>(
+    rt: &R,
+    to: &mut W,
+    edition: Edition,
+    rndf_name: &[u8],
+    mdf_name: &[u8],
+    rndf: &[u8],
+    asked: bool,
+) -> io::Result<()> {
     let mut mission = [0u8; MOST_BYTES];
-    let loaded = load_asked(asked, mdf_name, &mut mission);
-    with_mission(edition, rndf_name, mdf_name, rndf, &mission, loaded);
+    let loaded = load_asked(rt, asked, mdf_name, &mut mission);
+    with_mission(to, edition, rndf_name, mdf_name, rndf, &mission, loaded)
 }
 
-fn with_names(edition: Edition, rndf_name: &[u8], mdf_name: &[u8], asked: bool) {
+fn with_names<R: Files, W: Write>(
+    rt: &R,
+    to: &mut W,
+    edition: Edition,
+    rndf_name: &[u8],
+    mdf_name: &[u8],
+    asked: bool,
+) -> io::Result<()> {
     let mut network = [0u8; MOST_BYTES];
-    let loaded = load_rndf(rndf_name, &mut network);
+    let loaded = load_rndf(rt, rndf_name, &mut network);
     match loaded {
-        Loaded::Bytes(n) => with_network(edition, rndf_name, mdf_name, first(&network, n), asked),
-        Loaded::OverLimit => say_over_limit(rndf_name),
-        _ => say_matter(rndf_name, loaded),
+        Loaded::Bytes(n) => with_network(
+            rt,
+            to,
+            edition,
+            rndf_name,
+            mdf_name,
+            first(&network, n),
+            asked,
+        ),
+        Loaded::OverLimit => say_over_limit(to, rndf_name),
+        _ => say_matter(to, rndf_name, loaded),
     }
 }
 
@@ -334,64 +363,105 @@ fn is_help(name: &[u8]) -> bool {
     same(name, b"--help") | same(name, b"-h")
 }
 
-fn say_usage() {
+fn say_usage<W: Write>(to: &mut W) -> io::Result<()> {
     say(
+        to,
         b"Name an RNDF file, and behind it an MDF file if both are to be checked: run-check [--edition 2006] RNDF [MDF]\n",
-    );
+    )
 }
 
-fn say_help() {
-    say_usage();
+fn say_help<W: Write>(to: &mut W) -> io::Result<()> {
+    say_usage(to)?;
     say(
+        to,
         b"With --edition 2006 the RNDF is read by the edition of December 6, 2006; without, or with --edition 2007, by the present one.\n",
-    );
+    )?;
     say(
+        to,
         b"The answer is what is wrong first, as FILE:LINE:COLUMN: reason (NUMBER), that line with a caret under the column, and what may stand there; or what the files hold.\n",
-    );
+    )?;
     say(
+        to,
         b"A file may have up to 1,048,576 bytes. The status is 0 accepted, 1 refused, 2 not checked.\n",
-    );
+    )
+}
+
+// The names, or the question how to ask.
+fn with_given<R: Files, W: Write>(
+    rt: &R,
+    to: &mut W,
+    edition: Edition,
+    rndf_name: &[u8],
+    mdf_name: &[u8],
+    asked: bool,
+) -> io::Result<()> {
+    if is_help(rndf_name) {
+        say_help(to)
+    } else {
+        with_names(rt, to, edition, rndf_name, mdf_name, asked)
+    }
 }
 
 // The names are the arguments at these places.
-fn with_arguments(edition: Edition, rndf_at: usize, mdf_at: usize, asked: bool) {
+fn with_arguments<R: Env + Files, W: Write>(
+    rt: &R,
+    to: &mut W,
+    edition: Edition,
+    rndf_at: usize,
+    mdf_at: usize,
+    asked: bool,
+) -> io::Result<()> {
     let mut rndf_name = [0u8; MOST_NAME];
-    let n = os::arg(rndf_at, &mut rndf_name);
-    let rndf_error = os::errno();
+    let rndf = argument(rt, rndf_at, &mut rndf_name);
     let mut mdf_name = [0u8; MOST_NAME];
-    let m = os::arg(mdf_at, &mut mdf_name);
-    let mdf_error = os::errno();
-    if rndf_error == libc::ENAMETOOLONG {
-        say(b"The RNDF file's name is over 4,095 bytes.\n");
-    } else if mdf_error == libc::ENAMETOOLONG {
-        say(b"The MDF file's name is over 4,095 bytes.\n");
-    } else if is_help(first(&rndf_name, n)) {
-        say_help();
-    } else {
-        with_names(edition, first(&rndf_name, n), first(&mdf_name, m), asked);
+    let mdf = argument(rt, mdf_at, &mut mdf_name);
+    match rndf {
+        Given::TooLong => say(to, b"The RNDF file's name is over 4,095 bytes.\n"),
+        Given::Bytes(n) => {
+            match mdf {
+                Given::TooLong => say(to, b"The MDF file's name is over 4,095 bytes.\n"),
+                Given::Bytes(m) => with_given(
+                    rt,
+                    to,
+                    edition,
+                    first(&rndf_name, n),
+                    first(&mdf_name, m),
+                    asked,
+                ),
+            }
+        }
     }
 }
 
 // The names begin at this argument: one or two.
-fn with_names_at(edition: Edition, at: usize) {
-    let count = os::arg_count();
+fn with_names_at<R: Env + Files, W: Write>(
+    rt: &R,
+    to: &mut W,
+    edition: Edition,
+    at: usize,
+) -> io::Result<()> {
+    let count = argument_count(rt);
     if count <= at {
-        say_usage();
+        say_usage(to)
     } else if count - at > 2 {
-        say(b"Too many names: one RNDF file and at most one MDF file can be checked.\n");
+        say(
+            to,
+            b"Too many names: one RNDF file and at most one MDF file can be checked.\n",
+        )
     } else {
-        with_arguments(edition, at, at + 1, count - at == 2);
+        with_arguments(rt, to, edition, at, at + 1, count - at == 2)
     }
 }
 
-fn main() {
-    if !is_argument(1, b"--edition") {
-        with_names_at(Edition::March2007, 1);
-    } else if is_argument(2, b"2006") {
-        with_names_at(Edition::December2006, 3);
-    } else if is_argument(2, b"2007") {
-        with_names_at(Edition::March2007, 3);
+fn main(rt: HostRuntime) -> io::Result<()> {
+    let mut to = rt.stdout();
+    if !is_argument(&rt, 1, b"--edition") {
+        with_names_at(&rt, &mut to, Edition::March2007, 1)
+    } else if is_argument(&rt, 2, b"2006") {
+        with_names_at(&rt, &mut to, Edition::December2006, 3)
+    } else if is_argument(&rt, 2, b"2007") {
+        with_names_at(&rt, &mut to, Edition::March2007, 3)
     } else {
-        say_usage();
+        say_usage(&mut to)
     }
 }

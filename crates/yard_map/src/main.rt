@@ -10,12 +10,15 @@
 #![tactic(auto)]
 
 use answers::put_sentence;
+use console::put;
 use edition::Edition;
 use expected::put_expected_line;
-use files::{Loaded, is_argument, load, put_trouble};
-use libc::{STDERR_FILENO, STDOUT_FILENO};
+use files::{Given, Loaded, argument, argument_count, is_argument, load, put_trouble};
 use map_writer::write_map;
 use shown::first;
+use std::io;
+use std::io::Write;
+use std::rt::{Env, Files};
 use writings::WriteReply;
 
 const MOST_BYTES: usize = 524288;
@@ -48,20 +51,28 @@ const EXIT_WORDS: usize = 2 * (MOST_BYTES / 17 + 1);
 
 // ## What is said instead of a map
 
-fn say(s: &[u8]) {
-    io::write_all(STDERR_FILENO, s);
+fn say<W: Write>(to: &mut W, s: &[u8]) -> io::Result<()> {
+    put(to, s)
 }
 
 // As `yard_check` says it: the sentence, and what may stand there.
-fn say_refused(edition: Edition, name: &[u8], text: &[u8], line: u32, number: u8, column: u32) {
+fn say_refused<W: Write>(
+    to: &mut W,
+    edition: Edition,
+    name: &[u8],
+    text: &[u8],
+    line: u32,
+    number: u8,
+    column: u32,
+) -> io::Result<()> {
     let mut out = [0u8; MOST_ANSWER];
     let a = put_sentence(&mut out, 0, name, text, line, number, column);
     let n = put_expected_line(&mut out, a, edition, text, b"", 1, line, number);
-    say(first(&out, n));
+    say(to, first(&out, n))
 }
 
 // What is the matter with the file.
-fn say_matter(name: &[u8], loaded: Loaded) {
+fn say_matter<W: Write>(to: &mut W, name: &[u8], loaded: Loaded) -> io::Result<()> {
     let mut out = [0u8; MOST_ANSWER];
     let n = put_trouble(
         &mut out,
@@ -70,7 +81,7 @@ fn say_matter(name: &[u8], loaded: Loaded) {
         b": the file is too big for this program, which takes up to 524,288 bytes\n",
         loaded,
     );
-    say(first(&out, n));
+    say(to, first(&out, n))
 }
 
 // ## The map
@@ -104,11 +115,17 @@ fn draw(
     )
 }
 
-fn print(out: &[u8; MOST_MAP], n: u32) {
-    io::write_all(STDOUT_FILENO, first(out, n as usize));
+fn print<P: Write>(page: &mut P, out: &[u8; MOST_MAP], n: u32) -> io::Result<()> {
+    put(page, first(out, n as usize))
 }
 
-fn show(edition: Edition, name: &[u8], text: &[u8]) {
+fn show<P: Write, W: Write>(
+    page: &mut P,
+    to: &mut W,
+    edition: Edition,
+    name: &[u8],
+    text: &[u8],
+) -> io::Result<()> {
     let mut segments = [0u32; SEGMENT_WORDS];
     let mut lanes = [0u32; LANE_WORDS];
     let mut zones = [0u32; ZONE_WORDS];
@@ -132,59 +149,78 @@ fn show(edition: Edition, name: &[u8], text: &[u8]) {
         &mut exits,
     );
     match reply {
-        WriteReply::Written(_, _, n) => print(&out, n),
+        WriteReply::Written(_, _, n) => print(page, &out, n),
         WriteReply::Refused(why) => say_refused(
-            edition, name, text, why.line, why.number, why.column,
+            to, edition, name, text, why.line, why.number, why.column,
         ),
     }
 }
 
-fn with_name(edition: Edition, name: &[u8]) {
+fn with_name<R: Files, P: Write, W: Write>(
+    rt: &R,
+    page: &mut P,
+    to: &mut W,
+    edition: Edition,
+    name: &[u8],
+) -> io::Result<()> {
     let mut text = [0u8; MOST_BYTES];
-    let loaded = load(name, &mut text);
+    let loaded = load(rt, name, &mut text);
     match loaded {
-        Loaded::Bytes(n) => show(edition, name, first(&text, n)),
-        Loaded::OverLimit => say_refused(edition, name, b"", 0, 1, 0),
-        _ => say_matter(name, loaded),
+        Loaded::Bytes(n) => show(page, to, edition, name, first(&text, n)),
+        Loaded::OverLimit => say_refused(to, edition, name, b"", 0, 1, 0),
+        _ => say_matter(to, name, loaded),
     }
 }
 
 // ## What is asked
 
-fn say_usage() {
-    say(b"Name one RNDF file: run-map [--edition 2006] FILE\n");
+fn say_usage<W: Write>(to: &mut W) -> io::Result<()> {
+    say(to, b"Name one RNDF file: run-map [--edition 2006] FILE\n")
 }
 
-fn with_argument(edition: Edition, at: usize) {
+fn with_argument<R: Env + Files, P: Write, W: Write>(
+    rt: &R,
+    page: &mut P,
+    to: &mut W,
+    edition: Edition,
+    at: usize,
+) -> io::Result<()> {
     let mut name = [0u8; MOST_NAME];
-    let n = os::arg(at, &mut name);
-    if os::errno() == libc::ENAMETOOLONG {
-        say(b"The file's name is over 4,095 bytes.\n");
-    } else {
-        with_name(edition, first(&name, n));
+    let given = argument(rt, at, &mut name);
+    match given {
+        Given::TooLong => say(to, b"The file's name is over 4,095 bytes.\n"),
+        Given::Bytes(n) => with_name(rt, page, to, edition, first(&name, n)),
     }
 }
 
 // The name is this argument, and the last.
-fn with_name_at(edition: Edition, at: usize) {
-    let count = os::arg_count();
+fn with_name_at<R: Env + Files, P: Write, W: Write>(
+    rt: &R,
+    page: &mut P,
+    to: &mut W,
+    edition: Edition,
+    at: usize,
+) -> io::Result<()> {
+    let count = argument_count(rt);
     if count <= at {
-        say_usage();
+        say_usage(to)
     } else if count - at > 1 {
-        say_usage();
+        say_usage(to)
     } else {
-        with_argument(edition, at);
+        with_argument(rt, page, to, edition, at)
     }
 }
 
-fn main() {
-    if !is_argument(1, b"--edition") {
-        with_name_at(Edition::March2007, 1);
-    } else if is_argument(2, b"2006") {
-        with_name_at(Edition::December2006, 3);
-    } else if is_argument(2, b"2007") {
-        with_name_at(Edition::March2007, 3);
+fn main(rt: HostRuntime) -> io::Result<()> {
+    let mut page = rt.stdout();
+    let mut to = rt.stderr();
+    if !is_argument(&rt, 1, b"--edition") {
+        with_name_at(&rt, &mut page, &mut to, Edition::March2007, 1)
+    } else if is_argument(&rt, 2, b"2006") {
+        with_name_at(&rt, &mut page, &mut to, Edition::December2006, 3)
+    } else if is_argument(&rt, 2, b"2007") {
+        with_name_at(&rt, &mut page, &mut to, Edition::March2007, 3)
     } else {
-        say_usage();
+        say_usage(&mut to)
     }
 }

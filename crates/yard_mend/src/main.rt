@@ -9,12 +9,12 @@
 // (counted by hand, not proved; if they came, they would be told). The list and those tables are in different functions, so that they need not stand on the stack together.
 #![tactic(auto)]
 
-ghost use Rattle.std.specs.Prelude.{◌+◌, ◌≤◌, ◌<◌, length};
+ghost use Rattle.std.specs.Prelude.{◌+◌, ◌≤◌, ◌<◌, length, IfOk};
 
 use answers::put_sentence;
+use console::put;
 use edition::Edition;
-use files::{Loaded, is_argument, load, put_trouble};
-use libc::{STDERR_FILENO, STDOUT_FILENO};
+use files::{Given, Loaded, argument, argument_count, is_argument, load, put_trouble};
 use mend::mend;
 use mend_law::MendReply;
 use mend_lines::Before;
@@ -23,6 +23,9 @@ use mend_words::{Next, put_next, put_nothing, put_past};
 use reader::read_rndf;
 use replies::RndfReply;
 use shown::first;
+use std::io;
+use std::io::Write;
+use std::rt::{Env, Files};
 
 const MOST_BYTES: usize = 524288;
 
@@ -56,18 +59,18 @@ const EXIT_WORDS: usize = 2 * (MOST_MENDED / 17 + 1);
 
 // ## What is said
 
-fn say(s: &[u8]) {
-    io::write_all(STDERR_FILENO, s);
+fn say<W: Write>(to: &mut W, s: &[u8]) -> io::Result<()> {
+    put(to, s)
 }
 
-fn say_refused(name: &[u8], number: u8) {
+fn say_refused<W: Write>(to: &mut W, name: &[u8], number: u8) -> io::Result<()> {
     let mut out = [0u8; MOST_ANSWER];
     let n = put_sentence(&mut out, 0, name, b"", 0, number, 0);
-    say(first(&out, n));
+    say(to, first(&out, n))
 }
 
 // What is the matter with the file.
-fn say_matter(name: &[u8], loaded: Loaded) {
+fn say_matter<W: Write>(to: &mut W, name: &[u8], loaded: Loaded) -> io::Result<()> {
     let mut out = [0u8; MOST_ANSWER];
     let n = put_trouble(
         &mut out,
@@ -76,46 +79,48 @@ fn say_matter(name: &[u8], loaded: Loaded) {
         b": the file is too big for this program, which takes up to 524,288 bytes\n",
         loaded,
     );
-    say(first(&out, n));
+    say(to, first(&out, n))
 }
 
-fn say_nothing(name: &[u8]) {
+fn say_nothing<W: Write>(to: &mut W, name: &[u8]) -> io::Result<()> {
     let mut out = [0u8; MOST_ANSWER];
     let n = put_nothing(&mut out, 0, name);
-    say(first(&out, n));
+    say(to, first(&out, n))
 }
 
 // The sentence of the line that starts there, if it is changed, and the next line. The output is lent as an array, which is cheaper to prove.
-fn say_next(
+fn say_next<W: Write>(
+    to: &mut W,
     out: &mut [u8; MOST_ANSWER],
     name: &[u8],
     text: &[u8],
     from: usize,
     line: usize,
     before: Before,
-) -> Next
+) -> io::Result<Next>
     requires from_in_bounds { from < length text.now }
     requires line_bound { line ≤ from + 1 }
-    ensures from_lt_from { from < result.from }
-    ensures line_bound_2 { result.line ≤ result.from + 1 }
+    ensures from_lt_from { IfOk result (λ next. from < next.from) }
+    ensures line_bound_2 { IfOk result (λ next. next.line ≤ next.from + 1) }
 {
     let next = put_next(out, name, text, from, line, before);
-    say(first(out, next.at));
-    next
+    say(to, first(out, next.at))?;
+    Ok(next)
 }
 
 // A sentence for each changed line.
-fn say_changes(name: &[u8], text: &[u8]) {
+fn say_changes<W: Write>(to: &mut W, name: &[u8], text: &[u8]) -> io::Result<()> {
     let mut out = [0u8; MOST_ANSWER];
     let mut before = Before::none();
     let mut from: usize = 0;
     let mut line: usize = 1;
     while from < text.len() {
-        let next = say_next(&mut out, name, text, from, line, before);
+        let next = say_next(to, &mut out, name, text, from, line, before)?;
         before = next.before;
         from = next.from;
         line = next.line;
     }
+    Ok(())
 }
 
 // ## Past mending
@@ -170,23 +175,29 @@ fn reply_of(edition: Edition, mended: &[u8]) -> RndfReply {
     )
 }
 
-fn say_fault(edition: Edition, name: &[u8], text: &[u8], mended: &[u8]) {
+fn say_fault<W: Write>(
+    to: &mut W,
+    edition: Edition,
+    name: &[u8],
+    text: &[u8],
+    mended: &[u8],
+) -> io::Result<()> {
     let reply = reply_of(edition, mended);
     let mut out = [0u8; MOST_ANSWER];
     let n = put_past(&mut out, 0, name, text, mended, reply);
-    say(first(&out, n));
+    say(to, first(&out, n))
 }
 
-fn say_past(edition: Edition, name: &[u8], text: &[u8]) {
+fn say_past<W: Write>(to: &mut W, edition: Edition, name: &[u8], text: &[u8]) -> io::Result<()> {
     let mut mended = [0u8; MOST_MENDED];
     let n = put_mended(&mut mended, text);
-    say_fault(edition, name, text, first(&mended, n));
+    say_fault(to, edition, name, text, first(&mended, n))
 }
 
 // ## The text
 
-fn print(out: &[u8; MOST_MENDED], n: u32) {
-    io::write_all(STDOUT_FILENO, first(out, n as usize));
+fn print<P: Write>(page: &mut P, out: &[u8; MOST_MENDED], n: u32) -> io::Result<()> {
+    put(page, first(out, n as usize))
 }
 
 // List and output are lent as arrays up to here, which is cheaper to prove.
@@ -200,111 +211,151 @@ fn mend_into(
 }
 
 // The text is printed here, and its reply returned.
-fn print_mended(edition: Edition, text: &[u8]) -> MendReply {
+fn print_mended<P: Write>(page: &mut P, edition: Edition, text: &[u8]) -> io::Result<MendReply> {
     let mut list = [0u32; LIST_WORDS];
     let mut out = [0u8; MOST_MENDED];
     let reply = mend_into(edition, text, &mut list, &mut out);
     match reply {
-        MendReply::Mended(_, n) => print(&out, n),
+        MendReply::Mended(_, n) => print(page, &out, n)?,
         MendReply::Refused(_) => (),
     }
-    reply
+    Ok(reply)
 }
 
-fn say_rows(name: &[u8], text: &[u8], rows: u32) {
+fn say_rows<W: Write>(to: &mut W, name: &[u8], text: &[u8], rows: u32) -> io::Result<()> {
     if rows == 0 {
-        say_nothing(name);
+        say_nothing(to, name)
     } else {
-        say_changes(name, text);
+        say_changes(to, name, text)
     }
 }
 
-fn say_why(edition: Edition, name: &[u8], text: &[u8], number: u8) {
+fn say_why<W: Write>(
+    to: &mut W,
+    edition: Edition,
+    name: &[u8],
+    text: &[u8],
+    number: u8,
+) -> io::Result<()> {
     if number == 26 {
-        say_past(edition, name, text);
+        say_past(to, edition, name, text)
     } else {
-        say_refused(name, number);
+        say_refused(to, name, number)
     }
 }
 
-fn show(edition: Edition, name: &[u8], text: &[u8]) {
-    let reply = print_mended(edition, text);
+fn show<P: Write, W: Write>(
+    page: &mut P,
+    to: &mut W,
+    edition: Edition,
+    name: &[u8],
+    text: &[u8],
+) -> io::Result<()> {
+    let reply = print_mended(page, edition, text)?;
     match reply {
-        MendReply::Mended(rows, _) => say_rows(name, text, rows),
-        MendReply::Refused(why) => say_why(edition, name, text, why.number),
+        MendReply::Mended(rows, _) => say_rows(to, name, text, rows),
+        MendReply::Refused(why) => say_why(to, edition, name, text, why.number),
     }
 }
 
-fn with_name(edition: Edition, name: &[u8]) {
+fn with_name<R: Files, P: Write, W: Write>(
+    rt: &R,
+    page: &mut P,
+    to: &mut W,
+    edition: Edition,
+    name: &[u8],
+) -> io::Result<()> {
     let mut text = [0u8; MOST_BYTES];
-    let loaded = load(name, &mut text);
+    let loaded = load(rt, name, &mut text);
     match loaded {
-        Loaded::Bytes(n) => show(edition, name, first(&text, n)),
-        Loaded::OverLimit => say_refused(name, 1),
-        _ => say_matter(name, loaded),
+        Loaded::Bytes(n) => show(page, to, edition, name, first(&text, n)),
+        Loaded::OverLimit => say_refused(to, name, 1),
+        _ => say_matter(to, name, loaded),
     }
 }
 
 // ## What is asked
 
-fn say_usage() {
-    say(b"Name one RNDF file: run-mend [--edition 2006] FILE > mended.rndf\n");
+fn say_usage<W: Write>(to: &mut W) -> io::Result<()> {
+    say(
+        to,
+        b"Name one RNDF file: run-mend [--edition 2006] FILE > mended.rndf\n",
+    )
 }
 
-fn say_help() {
-    say_usage();
+fn say_help<W: Write>(to: &mut W) -> io::Result<()> {
+    say_usage(to)?;
     say(
+        to,
         b"Three things are mended and nothing else: counts that disagree with their items, single options given again, lines behind the first end_file.\n",
-    );
+    )?;
     say(
+        to,
         b"Standard output is the mended text and nothing else. Standard error has a sentence for each changed line, as FILE:LINE: what was done;\n",
-    );
+    )?;
     say(
+        to,
         b"or, of a text that would still be refused, FILE: past mending (26) and what run-check says of the mended text, with the line in FILE.\n",
-    );
+    )?;
     say(
+        to,
         b"FILE is only read. Do not write > FILE with the same name: the shell empties FILE before the program runs.\n",
-    );
+    )?;
     say(
+        to,
         b"With --edition 2006 the RNDF is read by the edition of December 6, 2006; without, or with --edition 2007, by the present one.\n",
-    );
+    )?;
     say(
+        to,
         b"A file may have up to 524,288 bytes and 262,144 lines. The status is 0 mended or nothing to mend, 1 refused, 2 not tried.\n",
-    );
+    )
 }
 
-fn with_argument(edition: Edition, at: usize) {
+fn with_argument<R: Env + Files, P: Write, W: Write>(
+    rt: &R,
+    page: &mut P,
+    to: &mut W,
+    edition: Edition,
+    at: usize,
+) -> io::Result<()> {
     let mut name = [0u8; MOST_NAME];
-    let n = os::arg(at, &mut name);
-    if os::errno() == libc::ENAMETOOLONG {
-        say(b"The file's name is over 4,095 bytes.\n");
-    } else {
-        with_name(edition, first(&name, n));
+    let given = argument(rt, at, &mut name);
+    match given {
+        Given::TooLong => say(to, b"The file's name is over 4,095 bytes.\n"),
+        Given::Bytes(n) => with_name(rt, page, to, edition, first(&name, n)),
     }
 }
 
 // The name is this argument, and the last; or it is the question how to ask.
-fn with_name_at(edition: Edition, at: usize) {
-    let count = os::arg_count();
-    if is_argument(at, b"--help") | is_argument(at, b"-h") {
-        say_help();
+fn with_name_at<R: Env + Files, P: Write, W: Write>(
+    rt: &R,
+    page: &mut P,
+    to: &mut W,
+    edition: Edition,
+    at: usize,
+) -> io::Result<()> {
+    let count = argument_count(rt);
+    if is_argument(rt, at, b"--help") | is_argument(rt, at, b"-h") {
+        say_help(to)
     } else if count <= at {
-        say_usage();
+        say_usage(to)
     } else if count - at > 1 {
-        say_usage();
+        say_usage(to)
     } else {
-        with_argument(edition, at);
+        with_argument(rt, page, to, edition, at)
     }
 }
 
-fn main() {
-    if !is_argument(1, b"--edition") {
-        with_name_at(Edition::March2007, 1);
-    } else if is_argument(2, b"2006") {
-        with_name_at(Edition::December2006, 3);
-    } else if is_argument(2, b"2007") {
-        with_name_at(Edition::March2007, 3);
+fn main(rt: HostRuntime) -> io::Result<()> {
+    let mut page = rt.stdout();
+    let mut to = rt.stderr();
+    if !is_argument(&rt, 1, b"--edition") {
+        with_name_at(&rt, &mut page, &mut to, Edition::March2007, 1)
+    } else if is_argument(&rt, 2, b"2006") {
+        with_name_at(&rt, &mut page, &mut to, Edition::December2006, 3)
+    } else if is_argument(&rt, 2, b"2007") {
+        with_name_at(&rt, &mut page, &mut to, Edition::March2007, 3)
     } else {
-        say_usage();
+        say_usage(&mut to)
     }
 }

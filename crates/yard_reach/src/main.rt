@@ -18,10 +18,10 @@ ghost use Rattle.yard_reach.specs.Starts.{spot_point_of, spot-at, start-row, sta
 ghost use Rattle.yard_reach.specs.Tells.{FindsStart, TellsMission};
 
 use answers::{put_mission_answer, put_no_start, put_pair_answer, put_sentence};
+use console::put;
 use edition::Edition;
 use expected::put_expected_line;
-use files::{Loaded, is_argument, load, load_rndf, put_trouble};
-use libc::STDOUT_FILENO;
+use files::{Given, Loaded, argument, argument_count, is_argument, load, load_rndf, put_trouble};
 use number::{Triple, triple_of};
 use output::put_bytes;
 use reach::check_mission;
@@ -33,6 +33,9 @@ use replies::PairReply;
 use room::in_word;
 use shown::first;
 use statement::Id;
+use std::io;
+use std::io::Write;
+use std::rt::{Env, Files};
 
 const MOST_BYTES: usize = 524288;
 
@@ -243,16 +246,16 @@ fn ask(
 
 // ## Said
 
-fn say(s: &[u8]) {
-    io::write_all(STDOUT_FILENO, s);
+fn say<W: Write>(to: &mut W, s: &[u8]) -> io::Result<()> {
+    put(to, s)
 }
 
-fn print(out: &[u8; MOST_ANSWER], n: usize) {
-    say(first(out, n));
+fn print<W: Write>(to: &mut W, out: &[u8; MOST_ANSWER], n: usize) -> io::Result<()> {
+    say(to, first(out, n))
 }
 
 // What is the matter with a file, as `files` says it.
-fn say_matter(name: &[u8], loaded: Loaded) {
+fn say_matter<W: Write>(to: &mut W, name: &[u8], loaded: Loaded) -> io::Result<()> {
     let mut out = [0u8; MOST_ANSWER];
     let n = put_trouble(
         &mut out,
@@ -261,25 +264,26 @@ fn say_matter(name: &[u8], loaded: Loaded) {
         b": the file is too big for this program, which takes up to 524,288 bytes\n",
         loaded,
     );
-    say(first(&out, n));
+    say(to, first(&out, n))
 }
 
 // Of an RNDF over the readers' limit.
-fn say_over_limit(name: &[u8]) {
+fn say_over_limit<W: Write>(to: &mut W, name: &[u8]) -> io::Result<()> {
     let mut out = [0u8; MOST_ANSWER];
     let n = put_sentence(&mut out, 0, name, b"", 0, 1, 0);
-    say(first(&out, n));
+    say(to, first(&out, n))
 }
 
 // Of a pair that the reader refuses, as `yard_check` says it: the sentence, and what may stand there.
-fn say_refused(
+fn say_refused<W: Write>(
+    to: &mut W,
     edition: Edition,
     rndf_name: &[u8],
     mdf_name: &[u8],
     rndf: &[u8],
     mdf: &[u8],
     why: Refusal,
-) {
+) -> io::Result<()> {
     let mut out = [0u8; MOST_ANSWER];
     let reply = PairReply::Refused(why);
     let a = put_pair_answer(&mut out, 0, rndf_name, mdf_name, rndf, mdf, reply);
@@ -293,26 +297,27 @@ fn say_refused(
         why.line,
         why.number,
     );
-    say(first(&out, n));
+    say(to, first(&out, n))
 }
 
-fn say_no_start(rndf_name: &[u8], start: &[u8]) {
+fn say_no_start<W: Write>(to: &mut W, rndf_name: &[u8], start: &[u8]) -> io::Result<()> {
     let mut out = [0u8; MOST_ANSWER];
     let n = put_no_start(&mut out, 0, rndf_name, start);
-    say(first(&out, n));
+    say(to, first(&out, n))
 }
 
-fn say_misspelt(start: &[u8]) {
+fn say_misspelt<W: Write>(to: &mut W, start: &[u8]) -> io::Result<()> {
     let mut out = [0u8; MOST_ANSWER];
     let a = put_bytes(&mut out, 0, start);
     let n = put_bytes(&mut out, a, b" is no point identifier x.y.z\n");
-    say(first(&out, n));
+    say(to, first(&out, n))
 }
 
 // ## What is asked
 
 // The mission, from the point in this row.
-fn drive(
+fn drive<W: Write>(
+    to: &mut W,
     edition: Edition,
     rndf_name: &[u8],
     mdf_name: &[u8],
@@ -321,7 +326,7 @@ fn drive(
     mdf: &[u8],
     known: &[u32; GOAL_WORDS],
     row: u32,
-) {
+) -> io::Result<()> {
     let mut segments = [0u32; SEGMENT_WORDS];
     let mut lanes = [0u32; LANE_WORDS];
     let mut zones = [0u32; ZONE_WORDS];
@@ -356,7 +361,7 @@ fn drive(
         row,
         &mut work,
     );
-    print(&out, told);
+    print(to, &out, told)
 }
 
 // The pair read: where the start is, and the table of goals filled.
@@ -388,7 +393,8 @@ fn read(edition: Edition, rndf: &[u8], mdf: &[u8], e: Id, goals: &mut [u32; GOAL
     )
 }
 
-fn judge(
+fn judge<W: Write>(
+    to: &mut W,
     edition: Edition,
     rndf_name: &[u8],
     mdf_name: &[u8],
@@ -396,28 +402,33 @@ fn judge(
     e: Id,
     rndf: &[u8],
     mdf: &[u8],
-) {
+) -> io::Result<()> {
     let mut goals = [0u32; GOAL_WORDS];
     let found = read(edition, rndf, mdf, e, &mut goals);
     match found {
-        Start::At(row) => drive(edition, rndf_name, mdf_name, start, rndf, mdf, &goals, row),
-        Start::Nothing => say_no_start(rndf_name, start),
-        Start::Refused(why) => say_refused(edition, rndf_name, mdf_name, rndf, mdf, why),
+        Start::At(row) => drive(
+            to, edition, rndf_name, mdf_name, start, rndf, mdf, &goals, row,
+        ),
+        Start::Nothing => say_no_start(to, rndf_name, start),
+        Start::Refused(why) => say_refused(to, edition, rndf_name, mdf_name, rndf, mdf, why),
     }
 }
 
-fn with_network(
+fn with_network<R: Files, W: Write>(
+    rt: &R,
+    to: &mut W,
     edition: Edition,
     rndf_name: &[u8],
     mdf_name: &[u8],
     start: &[u8],
     e: Id,
     rndf: &[u8],
-) {
+) -> io::Result<()> {
     let mut mission = [0u8; MOST_BYTES];
-    let loaded = load(mdf_name, &mut mission);
+    let loaded = load(rt, mdf_name, &mut mission);
     match loaded {
         Loaded::Bytes(n) => judge(
+            to,
             edition,
             rndf_name,
             mdf_name,
@@ -426,15 +437,25 @@ fn with_network(
             rndf,
             first(&mission, n),
         ),
-        _ => say_matter(mdf_name, loaded),
+        _ => say_matter(to, mdf_name, loaded),
     }
 }
 
-fn with_names(edition: Edition, rndf_name: &[u8], mdf_name: &[u8], start: &[u8], e: Id) {
+fn with_names<R: Files, W: Write>(
+    rt: &R,
+    to: &mut W,
+    edition: Edition,
+    rndf_name: &[u8],
+    mdf_name: &[u8],
+    start: &[u8],
+    e: Id,
+) -> io::Result<()> {
     let mut network = [0u8; MOST_BYTES];
-    let loaded = load_rndf(rndf_name, &mut network);
+    let loaded = load_rndf(rt, rndf_name, &mut network);
     match loaded {
         Loaded::Bytes(n) => with_network(
+            rt,
+            to,
             edition,
             rndf_name,
             mdf_name,
@@ -442,12 +463,19 @@ fn with_names(edition: Edition, rndf_name: &[u8], mdf_name: &[u8], start: &[u8],
             e,
             first(&network, n),
         ),
-        Loaded::OverLimit => say_over_limit(rndf_name),
-        _ => say_matter(rndf_name, loaded),
+        Loaded::OverLimit => say_over_limit(to, rndf_name),
+        _ => say_matter(to, rndf_name, loaded),
     }
 }
 
-fn with_start(edition: Edition, rndf_name: &[u8], mdf_name: &[u8], start: &[u8]) {
+fn with_start<R: Files, W: Write>(
+    rt: &R,
+    to: &mut W,
+    edition: Edition,
+    rndf_name: &[u8],
+    mdf_name: &[u8],
+    start: &[u8],
+) -> io::Result<()> {
     let spelled = triple_of(start);
     match spelled {
         Triple::Is(i) => {
@@ -456,83 +484,105 @@ fn with_start(edition: Edition, rndf_name: &[u8], mdf_name: &[u8], start: &[u8])
                 y: i.y,
                 z: i.z,
             };
-            with_names(edition, rndf_name, mdf_name, start, e)
+            with_names(rt, to, edition, rndf_name, mdf_name, start, e)
         }
-        Triple::No => say_misspelt(start),
+        Triple::No => say_misspelt(to, start),
     }
 }
 
-fn say_usage() {
+fn say_usage<W: Write>(to: &mut W) -> io::Result<()> {
     say(
+        to,
         b"Name an RNDF file, an MDF file and the point to start from, x.y.z: run-reach [--edition 2006] RNDF MDF START\n",
-    );
+    )
 }
 
-fn say_help() {
-    say_usage();
+fn say_help<W: Write>(to: &mut W) -> io::Result<()> {
+    say_usage(to)?;
     say(
+        to,
         b"The start is a lane's waypoint, a perimeter point (y is 0) or a spot's waypoint (x a zone, y the spot, z 1 or 2).\n",
-    );
+    )?;
     say(
+        to,
         b"With --edition 2006 the RNDF is read by the edition of December 6, 2006; without, or with --edition 2007, by the present one.\n",
-    );
+    )?;
     say(
+        to,
         b"The answer is that the mission can be driven, or the first goal that can't be reached, as FILE:LINE:COLUMN and that line with a caret; or what is wrong with the files, as run-check says it.\n",
-    );
+    )?;
     say(
+        to,
         b"A file may have up to 524,288 bytes. The status is 0 can be driven, 1 can't be driven or refused, 2 not checked.\n",
-    );
+    )
 }
 
 // The names are the three arguments from this place on.
-fn with_arguments(edition: Edition, rndf_at: usize, mdf_at: usize, start_at: usize) {
+fn with_arguments<R: Env + Files, W: Write>(
+    rt: &R,
+    to: &mut W,
+    edition: Edition,
+    rndf_at: usize,
+    mdf_at: usize,
+    start_at: usize,
+) -> io::Result<()> {
     let mut rndf_name = [0u8; MOST_NAME];
-    let n = os::arg(rndf_at, &mut rndf_name);
-    let rndf_error = os::errno();
+    let rndf = argument(rt, rndf_at, &mut rndf_name);
     let mut mdf_name = [0u8; MOST_NAME];
-    let m = os::arg(mdf_at, &mut mdf_name);
-    let mdf_error = os::errno();
-    let mut start = [0u8; MOST_NAME];
-    let k = os::arg(start_at, &mut start);
-    let start_error = os::errno();
-    if rndf_error == libc::ENAMETOOLONG {
-        say(b"The RNDF file's name is over 4,095 bytes.\n");
-    } else if mdf_error == libc::ENAMETOOLONG {
-        say(b"The MDF file's name is over 4,095 bytes.\n");
-    } else if start_error == libc::ENAMETOOLONG {
-        say(b"The start is over 4,095 bytes.\n");
-    } else {
-        with_start(
-            edition,
-            first(&rndf_name, n),
-            first(&mdf_name, m),
-            first(&start, k),
-        );
+    let mdf = argument(rt, mdf_at, &mut mdf_name);
+    let mut start_name = [0u8; MOST_NAME];
+    let start = argument(rt, start_at, &mut start_name);
+    match rndf {
+        Given::TooLong => say(to, b"The RNDF file's name is over 4,095 bytes.\n"),
+        Given::Bytes(n) => {
+            match mdf {
+                Given::TooLong => say(to, b"The MDF file's name is over 4,095 bytes.\n"),
+                Given::Bytes(m) => {
+                    match start {
+                        Given::TooLong => say(to, b"The start is over 4,095 bytes.\n"),
+                        Given::Bytes(k) => with_start(
+                            rt,
+                            to,
+                            edition,
+                            first(&rndf_name, n),
+                            first(&mdf_name, m),
+                            first(&start_name, k),
+                        ),
+                    }
+                }
+            }
+        }
     }
 }
 
 // The names begin at this argument: three, or the question how to ask.
-fn with_names_at(edition: Edition, at: usize) {
-    let count = os::arg_count();
-    if is_argument(at, b"--help") | is_argument(at, b"-h") {
-        say_help();
+fn with_names_at<R: Env + Files, W: Write>(
+    rt: &R,
+    to: &mut W,
+    edition: Edition,
+    at: usize,
+) -> io::Result<()> {
+    let count = argument_count(rt);
+    if is_argument(rt, at, b"--help") | is_argument(rt, at, b"-h") {
+        say_help(to)
     } else if count <= at {
-        say_usage();
+        say_usage(to)
     } else if count - at == 3 {
-        with_arguments(edition, at, at + 1, at + 2);
+        with_arguments(rt, to, edition, at, at + 1, at + 2)
     } else {
-        say_usage();
+        say_usage(to)
     }
 }
 
-fn main() {
-    if !is_argument(1, b"--edition") {
-        with_names_at(Edition::March2007, 1);
-    } else if is_argument(2, b"2006") {
-        with_names_at(Edition::December2006, 3);
-    } else if is_argument(2, b"2007") {
-        with_names_at(Edition::March2007, 3);
+fn main(rt: HostRuntime) -> io::Result<()> {
+    let mut to = rt.stdout();
+    if !is_argument(&rt, 1, b"--edition") {
+        with_names_at(&rt, &mut to, Edition::March2007, 1)
+    } else if is_argument(&rt, 2, b"2006") {
+        with_names_at(&rt, &mut to, Edition::December2006, 3)
+    } else if is_argument(&rt, 2, b"2007") {
+        with_names_at(&rt, &mut to, Edition::March2007, 3)
     } else {
-        say_usage();
+        say_usage(&mut to)
     }
 }

@@ -11,11 +11,14 @@
 
 use answers::put_sentence;
 use compared::put_compared;
+use console::put;
 use edition::Edition;
 use expected::put_expected_line;
-use files::{Loaded, is_argument, load, put_trouble};
-use libc::STDOUT_FILENO;
+use files::{Given, Loaded, argument, argument_count, is_argument, load, put_trouble};
 use shown::first;
+use std::io;
+use std::io::Write;
+use std::rt::{Env, Files};
 use writer::write_rndf;
 use writings::WriteReply;
 
@@ -56,20 +59,28 @@ enum Filed {
 
 // ## What is said
 
-fn say(s: &[u8]) {
-    io::write_all(STDOUT_FILENO, s);
+fn say<W: Write>(to: &mut W, s: &[u8]) -> io::Result<()> {
+    put(to, s)
 }
 
 // As `yard_check` says it: the sentence, and what may stand there.
-fn say_refused(edition: Edition, name: &[u8], text: &[u8], line: u32, number: u8, column: u32) {
+fn say_refused<W: Write>(
+    to: &mut W,
+    edition: Edition,
+    name: &[u8],
+    text: &[u8],
+    line: u32,
+    number: u8,
+    column: u32,
+) -> io::Result<()> {
     let mut out = [0u8; MOST_ANSWER];
     let a = put_sentence(&mut out, 0, name, text, line, number, column);
     let n = put_expected_line(&mut out, a, edition, text, b"", 1, line, number);
-    say(first(&out, n));
+    say(to, first(&out, n))
 }
 
 // What is the matter with the file.
-fn say_matter(name: &[u8], loaded: Loaded) {
+fn say_matter<W: Write>(to: &mut W, name: &[u8], loaded: Loaded) -> io::Result<()> {
     let mut out = [0u8; MOST_ANSWER];
     let n = put_trouble(
         &mut out,
@@ -78,14 +89,20 @@ fn say_matter(name: &[u8], loaded: Loaded) {
         b": the file is too big for this program, which takes up to 1,048,576 bytes\n",
         loaded,
     );
-    say(first(&out, n));
+    say(to, first(&out, n))
 }
 
 // What is told of the two writings.
-fn say_compared(name: &[u8], other: &[u8], a: &[u8], b: &[u8]) {
+fn say_compared<W: Write>(
+    to: &mut W,
+    name: &[u8],
+    other: &[u8],
+    a: &[u8],
+    b: &[u8],
+) -> io::Result<()> {
     let mut out = [0u8; MOST_ANSWER];
     let n = put_compared(&mut out, 0, name, other, a, b);
-    say(first(&out, n));
+    say(to, first(&out, n))
 }
 
 // ## The writings
@@ -119,7 +136,13 @@ fn write(
     )
 }
 
-fn file_text(edition: Edition, out: &mut [u8; MOST_WRITING], name: &[u8], text: &[u8]) -> Filed {
+fn file_text<W: Write>(
+    to: &mut W,
+    edition: Edition,
+    out: &mut [u8; MOST_WRITING],
+    name: &[u8],
+    text: &[u8],
+) -> io::Result<Filed> {
     let mut segments = [0u32; SEGMENT_WORDS];
     let mut lanes = [0u32; LANE_WORDS];
     let mut zones = [0u32; ZONE_WORDS];
@@ -142,119 +165,158 @@ fn file_text(edition: Edition, out: &mut [u8; MOST_WRITING], name: &[u8], text: 
         &mut exits,
     );
     match reply {
-        WriteReply::Written(_, _, n) => Filed::Bytes(n as usize),
+        WriteReply::Written(_, _, n) => Ok(Filed::Bytes(n as usize)),
         WriteReply::Refused(why) => {
-            say_refused(edition, name, text, why.line, why.number, why.column);
-            Filed::Told
+            say_refused(to, edition, name, text, why.line, why.number, why.column)?;
+            Ok(Filed::Told)
         }
     }
 }
 
-fn file_name(edition: Edition, out: &mut [u8; MOST_WRITING], name: &[u8]) -> Filed {
+fn file_name<R: Files, W: Write>(
+    rt: &R,
+    to: &mut W,
+    edition: Edition,
+    out: &mut [u8; MOST_WRITING],
+    name: &[u8],
+) -> io::Result<Filed> {
     let mut text = [0u8; MOST_BYTES];
-    let loaded = load(name, &mut text);
+    let loaded = load(rt, name, &mut text);
     match loaded {
-        Loaded::Bytes(n) => file_text(edition, out, name, first(&text, n)),
+        Loaded::Bytes(n) => file_text(to, edition, out, name, first(&text, n)),
         Loaded::OverLimit => {
-            say_refused(edition, name, b"", 0, 1, 0);
-            Filed::Told
+            say_refused(to, edition, name, b"", 0, 1, 0)?;
+            Ok(Filed::Told)
         }
         _ => {
-            say_matter(name, loaded);
-            Filed::Told
+            say_matter(to, name, loaded)?;
+            Ok(Filed::Told)
         }
     }
 }
 
-fn print(
+fn print<W: Write>(
+    to: &mut W,
     name: &[u8],
     other: &[u8],
     a: &[u8; MOST_WRITING],
     n: usize,
     b: &[u8; MOST_WRITING],
     m: usize,
-) {
-    say_compared(name, other, first(a, n), first(b, m));
+) -> io::Result<()> {
+    say_compared(to, name, other, first(a, n), first(b, m))
 }
 
 // The second, where there is a writing of the first.
-fn with_first(edition: Edition, name: &[u8], other: &[u8], a: &[u8; MOST_WRITING], n: usize) {
+fn with_first<R: Files, W: Write>(
+    rt: &R,
+    to: &mut W,
+    edition: Edition,
+    name: &[u8],
+    other: &[u8],
+    a: &[u8; MOST_WRITING],
+    n: usize,
+) -> io::Result<()> {
     let mut b = [0u8; MOST_WRITING];
-    let filed = file_name(edition, &mut b, other);
+    let filed = file_name(rt, to, edition, &mut b, other)?;
     match filed {
-        Filed::Bytes(m) => print(name, other, a, n, &b, m),
-        Filed::Told => say(b""),
+        Filed::Bytes(m) => print(to, name, other, a, n, &b, m),
+        Filed::Told => Ok(()),
     }
 }
 
-fn with_names(edition: Edition, name: &[u8], other: &[u8]) {
+fn with_names<R: Files, W: Write>(
+    rt: &R,
+    to: &mut W,
+    edition: Edition,
+    name: &[u8],
+    other: &[u8],
+) -> io::Result<()> {
     let mut a = [0u8; MOST_WRITING];
-    let filed = file_name(edition, &mut a, name);
+    let filed = file_name(rt, to, edition, &mut a, name)?;
     match filed {
-        Filed::Bytes(n) => with_first(edition, name, other, &a, n),
-        Filed::Told => say(b""),
+        Filed::Bytes(n) => with_first(rt, to, edition, name, other, &a, n),
+        Filed::Told => Ok(()),
     }
 }
 
 // ## What is asked
 
-fn say_usage() {
-    say(b"Name two RNDF files: run-same [--edition 2006] A B\n");
+fn say_usage<W: Write>(to: &mut W) -> io::Result<()> {
+    say(to, b"Name two RNDF files: run-same [--edition 2006] A B\n")
 }
 
-fn say_help() {
-    say_usage();
+fn say_help<W: Write>(to: &mut W) -> io::Result<()> {
+    say_usage(to)?;
     say(
+        to,
         b"With --edition 2006 both are read by the edition of December 6, 2006; without, or with --edition 2007, by the present one.\n",
-    );
+    )?;
     say(
+        to,
         b"Two files are the same yard if they mean the same network apart from creation dates: comments, spacing and the order of different options do not count, the order of checkpoints, stops and exits does.\n",
-    );
+    )?;
     say(
+        to,
         b"The answer is that they are, or that they are not, with the first line of their house writings in which they differ and its part; or what is wrong with a file, as run-check says it.\n",
-    );
+    )?;
     say(
+        to,
         b"A file may have up to 1,048,576 bytes. The status is 0 the same, 1 not the same or refused, 2 not tried.\n",
-    );
+    )
 }
 
 // The names are the arguments at these places.
-fn with_arguments(edition: Edition, at: usize, other_at: usize) {
+fn with_arguments<R: Env + Files, W: Write>(
+    rt: &R,
+    to: &mut W,
+    edition: Edition,
+    at: usize,
+    other_at: usize,
+) -> io::Result<()> {
     let mut name = [0u8; MOST_NAME];
-    let n = os::arg(at, &mut name);
-    let error = os::errno();
+    let one = argument(rt, at, &mut name);
     let mut other = [0u8; MOST_NAME];
-    let m = os::arg(other_at, &mut other);
-    let other_error = os::errno();
-    if (error == libc::ENAMETOOLONG) | (other_error == libc::ENAMETOOLONG) {
-        say(b"A file's name is over 4,095 bytes.\n");
-    } else {
-        with_names(edition, first(&name, n), first(&other, m));
+    let two = argument(rt, other_at, &mut other);
+    match one {
+        Given::TooLong => say(to, b"A file's name is over 4,095 bytes.\n"),
+        Given::Bytes(n) => {
+            match two {
+                Given::TooLong => say(to, b"A file's name is over 4,095 bytes.\n"),
+                Given::Bytes(m) => with_names(rt, to, edition, first(&name, n), first(&other, m)),
+            }
+        }
     }
 }
 
 // The names are this argument and the next, and there are no more; or it is the question how to ask.
-fn with_names_at(edition: Edition, at: usize) {
-    let count = os::arg_count();
-    if is_argument(at, b"--help") | is_argument(at, b"-h") {
-        say_help();
+fn with_names_at<R: Env + Files, W: Write>(
+    rt: &R,
+    to: &mut W,
+    edition: Edition,
+    at: usize,
+) -> io::Result<()> {
+    let count = argument_count(rt);
+    if is_argument(rt, at, b"--help") | is_argument(rt, at, b"-h") {
+        say_help(to)
     } else if count <= at {
-        say_usage();
+        say_usage(to)
     } else if count - at != 2 {
-        say_usage();
+        say_usage(to)
     } else {
-        with_arguments(edition, at, at + 1);
+        with_arguments(rt, to, edition, at, at + 1)
     }
 }
 
-fn main() {
-    if !is_argument(1, b"--edition") {
-        with_names_at(Edition::March2007, 1);
-    } else if is_argument(2, b"2006") {
-        with_names_at(Edition::December2006, 3);
-    } else if is_argument(2, b"2007") {
-        with_names_at(Edition::March2007, 3);
+fn main(rt: HostRuntime) -> io::Result<()> {
+    let mut to = rt.stdout();
+    if !is_argument(&rt, 1, b"--edition") {
+        with_names_at(&rt, &mut to, Edition::March2007, 1)
+    } else if is_argument(&rt, 2, b"2006") {
+        with_names_at(&rt, &mut to, Edition::December2006, 3)
+    } else if is_argument(&rt, 2, b"2007") {
+        with_names_at(&rt, &mut to, Edition::March2007, 3)
     } else {
-        say_usage();
+        say_usage(&mut to)
     }
 }

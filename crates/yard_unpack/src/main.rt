@@ -12,9 +12,12 @@ ghost use Rattle.law.specs.Tables.{lent};
 ghost use Rattle.yard_unpack.specs.Tells.{TellsPacked};
 
 use answers::{put_rndf_answer, put_sentence};
-use files::{Loaded, is_argument, load, put_trouble};
-use libc::STDOUT_FILENO;
+use console::put;
+use files::{Given, Loaded, argument, argument_count, is_argument, load, put_trouble};
 use shown::first;
+use std::io;
+use std::io::Write;
+use std::rt::{Env, Files};
 use unpacker::read_packed;
 
 const MOST_BYTES: usize = 1048576;
@@ -77,12 +80,12 @@ fn tell_packed(
 
 // ## The file
 
-fn say(s: &[u8]) {
-    io::write_all(STDOUT_FILENO, s);
+fn say<W: Write>(to: &mut W, s: &[u8]) -> io::Result<()> {
+    put(to, s)
 }
 
 // What is the matter with the file, as `files` says it.
-fn say_matter(name: &[u8], loaded: Loaded) {
+fn say_matter<W: Write>(to: &mut W, name: &[u8], loaded: Loaded) -> io::Result<()> {
     let mut out = [0u8; MOST_ANSWER];
     let n = put_trouble(
         &mut out,
@@ -91,19 +94,19 @@ fn say_matter(name: &[u8], loaded: Loaded) {
         b": the file is too big for this program, which takes up to 1,048,576 bytes\n",
         loaded,
     );
-    say(first(&out, n));
+    say(to, first(&out, n))
 }
 
 // Of a file over the unpacker's limit.
-fn say_over_limit(name: &[u8]) {
+fn say_over_limit<W: Write>(to: &mut W, name: &[u8]) -> io::Result<()> {
     let mut out = [0u8; MOST_ANSWER];
     let n = put_sentence(&mut out, 0, name, b"", 0, 1, 0);
-    say(first(&out, n));
+    say(to, first(&out, n))
 }
 
 // ## What is asked
 
-fn judge(name: &[u8], bytes: &[u8]) {
+fn judge<W: Write>(to: &mut W, name: &[u8], bytes: &[u8]) -> io::Result<()> {
     let mut segments = [0u32; SEGMENT_WORDS];
     let mut lanes = [0u32; LANE_WORDS];
     let mut zones = [0u32; ZONE_WORDS];
@@ -126,50 +129,52 @@ fn judge(name: &[u8], bytes: &[u8]) {
         &mut stops,
         &mut exits,
     );
-    say(first(&out, told));
+    say(to, first(&out, told))
 }
 
-fn with_name(name: &[u8]) {
+fn with_name<R: Files, W: Write>(rt: &R, to: &mut W, name: &[u8]) -> io::Result<()> {
     let mut bytes = [0u8; MOST_BYTES];
-    let loaded = load(name, &mut bytes);
+    let loaded = load(rt, name, &mut bytes);
     match loaded {
-        Loaded::Bytes(n) => judge(name, first(&bytes, n)),
-        Loaded::OverLimit => say_over_limit(name),
-        _ => say_matter(name, loaded),
+        Loaded::Bytes(n) => judge(to, name, first(&bytes, n)),
+        Loaded::OverLimit => say_over_limit(to, name),
+        _ => say_matter(to, name, loaded),
     }
 }
 
-fn say_usage() {
-    say(b"Name one packed file: run-unpack FILE\n");
+fn say_usage<W: Write>(to: &mut W) -> io::Result<()> {
+    say(to, b"Name one packed file: run-unpack FILE\n")
 }
 
-fn say_help() {
-    say_usage();
+fn say_help<W: Write>(to: &mut W) -> io::Result<()> {
+    say_usage(to)?;
     say(
+        to,
         b"The answer is what the packed yard holds, or why its bytes are refused, as FILE: reason (NUMBER).\n",
-    );
+    )?;
     say(
+        to,
         b"A file may have up to 1,048,576 bytes. The status is 0 accepted, 1 refused, 2 not tried.\n",
-    );
+    )
 }
 
-fn with_argument() {
+fn with_argument<R: Env + Files, W: Write>(rt: &R, to: &mut W) -> io::Result<()> {
     let mut name = [0u8; MOST_NAME];
-    let n = os::arg(1, &mut name);
-    if os::errno() == libc::ENAMETOOLONG {
-        say(b"The file's name is over 4,095 bytes.\n");
-    } else {
-        with_name(first(&name, n));
+    let given = argument(rt, 1, &mut name);
+    match given {
+        Given::TooLong => say(to, b"The file's name is over 4,095 bytes.\n"),
+        Given::Bytes(n) => with_name(rt, to, first(&name, n)),
     }
 }
 
 // One name, or the question how to ask.
-fn main() {
-    if is_argument(1, b"--help") | is_argument(1, b"-h") {
-        say_help();
-    } else if os::arg_count() == 2 {
-        with_argument();
+fn main(rt: HostRuntime) -> io::Result<()> {
+    let mut to = rt.stdout();
+    if is_argument(&rt, 1, b"--help") | is_argument(&rt, 1, b"-h") {
+        say_help(&mut to)
+    } else if argument_count(&rt) == 2 {
+        with_argument(&rt, &mut to)
     } else {
-        say_usage();
+        say_usage(&mut to)
     }
 }
