@@ -1,0 +1,9 @@
+-- `permitted::perimeter_exit` meets its contract. Assumes nothing.
+use Rattle.permitted.proofs.Computes.{perimeter-exit-is}
+use Rattle.permitted.proofs.perimeter_exit.Goals as goal
+
+pub returns-then-own_stop : goal.returns-then-own_stop
+returns-then-own_stop c = rw (perimeter-exit-is, ← c.own_stop.ensures, c.if-own_stop.true) c.inner_entry.ensures
+
+pub returns-else-own_stop : goal.returns-else-own_stop
+returns-else-own_stop c = rw (perimeter-exit-is, ← c.own_stop.ensures, c.if-own_stop.false)
