@@ -1,0 +1,8 @@
+-- `progress::Progress::file_named` meets its contract. Assumes nothing.
+use mathlib.Core.Path.{refl}
+use Rattle.progress.specs.After.{after_within}
+use Rattle.progress.proofs.Progress.file_named.Goals as goal
+
+pub returns : goal.returns
+unfolding after_within
+returns c = rw (c.file_row-named.ensures, c.named.ensures) refl

@@ -1,0 +1,6 @@
+-- `progress::Progress::lane_begun` meets its contract. Assumes nothing.
+use mathlib.Core.Path.{refl}
+use Rattle.progress.proofs.Progress.lane_begun.Goals as goal
+
+pub returns : goal.returns
+returns c = rw (c.lane_row-lane.ensures, c.missing.ensures, c.next_point-first.ensures) refl

@@ -1,0 +1,6 @@
+-- `progress::Progress::segment_begun` meets its contract. Assumes nothing.
+use mathlib.Core.Path.{refl}
+use Rattle.progress.proofs.Progress.segment_begun.Goals as goal
+
+pub returns : goal.returns
+returns c = rw (c.segment_row-segment.ensures, c.no_name.ensures) refl

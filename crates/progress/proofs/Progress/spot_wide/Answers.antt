@@ -1,0 +1,8 @@
+-- `progress::Progress::spot_wide` meets its contract. Assumes nothing.
+use mathlib.Core.Path.{refl}
+use Rattle.progress.specs.After.{after_within}
+use Rattle.progress.proofs.Progress.spot_wide.Goals as goal
+
+pub returns : goal.returns
+unfolding after_within
+returns c = rw (c.spot_row-spot.ensures, c.feet.ensures) refl

@@ -1,0 +1,6 @@
+-- `progress::Progress::zone_begun` meets its contract. Assumes nothing.
+use mathlib.Core.Path.{refl}
+use Rattle.progress.proofs.Progress.zone_begun.Goals as goal
+
+pub returns : goal.returns
+returns c = rw (c.zone_row-zone.ensures, c.no_name.ensures, c.next_point-first.ensures) refl

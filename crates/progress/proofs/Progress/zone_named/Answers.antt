@@ -1,0 +1,8 @@
+-- `progress::Progress::zone_named` meets its contract. Assumes nothing.
+use mathlib.Core.Path.{refl}
+use Rattle.progress.specs.After.{after_within}
+use Rattle.progress.proofs.Progress.zone_named.Goals as goal
+
+pub returns : goal.returns
+unfolding after_within
+returns c = rw (c.zone_row-named.ensures, c.named.ensures) refl
