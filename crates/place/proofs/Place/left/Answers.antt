@@ -1,0 +1,5 @@
+-- `place::Place::left` meets its contract. Assumes nothing.
+use Rattle.place.proofs.Place.left.Goals as goal
+
+pub returns : goal.returns
+returns c = rw (← c.around-a.ensures) c.at.ensures
