@@ -1,4 +1,4 @@
-// The library for C and Rust engineers: `rt staticlib yard` writes target/staticlib/libyard.a, include/kastepuhm.h declares it for C, tests/callers/caller.rs for Rust.
+// The library for C and Rust engineers, one function for each that they call. `yard_c` exports them: include/kastepuhm.h declares them for C, tests/callers/caller.rs for Rust.
 // `edition` is the number of `edition`/specs/Editions: 1 reads by the edition of December 6, 2006, any other number by the present one.
 // Every function here takes plain slices (C hands over a pointer, then how many elements) and numbers, requires nothing of them, keeps nothing and allocates nothing.
 //
@@ -234,8 +234,7 @@ fn mend_answer(reply: MendReply) -> MendAnswer
 }
 
 // An RNDF alone.
-#[unsafe(no_mangle)]
-pub extern "C" fn kastepuhm_read_rndf(
+pub fn kastepuhm_read_rndf(
     edition: u32,
     text: &[u8],
     segments: &mut [u32],
@@ -266,8 +265,7 @@ pub extern "C" fn kastepuhm_read_rndf(
 }
 
 // An RNDF with its MDF.
-#[unsafe(no_mangle)]
-pub extern "C" fn kastepuhm_read_pair(
+pub fn kastepuhm_read_pair(
     edition: u32,
     rndf: &[u8],
     mdf: &[u8],
@@ -304,8 +302,7 @@ pub extern "C" fn kastepuhm_read_pair(
 }
 
 // A route over an RNDF with its MDF, from a start: is it drivable?
-#[unsafe(no_mangle)]
-pub extern "C" fn kastepuhm_check_route(
+pub fn kastepuhm_check_route(
     edition: u32,
     rndf: &[u8],
     mdf: &[u8],
@@ -346,8 +343,7 @@ pub extern "C" fn kastepuhm_check_route(
 }
 
 // The mission of an RNDF with its MDF, from a start: can it be driven at all?
-#[unsafe(no_mangle)]
-pub extern "C" fn kastepuhm_check_mission(
+pub fn kastepuhm_check_mission(
     edition: u32,
     rndf: &[u8],
     mdf: &[u8],
@@ -388,8 +384,7 @@ pub extern "C" fn kastepuhm_check_mission(
 }
 
 // The house writing of an RNDF, into `out`.
-#[unsafe(no_mangle)]
-pub extern "C" fn kastepuhm_write_rndf(
+pub fn kastepuhm_write_rndf(
     edition: u32,
     text: &[u8],
     segments: &mut [u32],
@@ -422,8 +417,7 @@ pub extern "C" fn kastepuhm_write_rndf(
 }
 
 // The map of an RNDF's network, into `out`.
-#[unsafe(no_mangle)]
-pub extern "C" fn kastepuhm_write_map(
+pub fn kastepuhm_write_map(
     edition: u32,
     text: &[u8],
     segments: &mut [u32],
@@ -456,8 +450,7 @@ pub extern "C" fn kastepuhm_write_map(
 }
 
 // The packed form of an RNDF's network, into `out`.
-#[unsafe(no_mangle)]
-pub extern "C" fn kastepuhm_write_packed(
+pub fn kastepuhm_write_packed(
     edition: u32,
     text: &[u8],
     segments: &mut [u32],
@@ -490,8 +483,7 @@ pub extern "C" fn kastepuhm_write_packed(
 }
 
 // The house writing of the MDF of a pair, into `out`.
-#[unsafe(no_mangle)]
-pub extern "C" fn kastepuhm_write_mdf(
+pub fn kastepuhm_write_mdf(
     edition: u32,
     rndf: &[u8],
     mdf: &[u8],
@@ -530,8 +522,7 @@ pub extern "C" fn kastepuhm_write_mdf(
 }
 
 // A packed network: names have their places in the packed bytes.
-#[unsafe(no_mangle)]
-pub extern "C" fn kastepuhm_read_packed(
+pub fn kastepuhm_read_packed(
     bytes: &[u8],
     segments: &mut [u32],
     lanes: &mut [u32],
@@ -559,8 +550,7 @@ pub extern "C" fn kastepuhm_read_packed(
 }
 
 // An RNDF with three kinds of trouble mended, into `out`; a row of `list` for each changed line.
-#[unsafe(no_mangle)]
-pub extern "C" fn kastepuhm_mend(
+pub fn kastepuhm_mend(
     edition: u32,
     text: &[u8],
     list: &mut [u32],
@@ -574,16 +564,14 @@ pub extern "C" fn kastepuhm_mend(
 }
 
 // The point of the first row with that checkpoint number, or 4,294,967,295.
-#[unsafe(no_mangle)]
-pub extern "C" fn kastepuhm_point_of(checkpoints: &[u32], number: u32) -> u32
+pub fn kastepuhm_point_of(checkpoints: &[u32], number: u32) -> u32
     ensures { PointOf checkpoints.now number result }
 {
     point_of_word(checkpoints, number)
 }
 
 // The point of each checkpoint number of a list, in its place.
-#[unsafe(no_mangle)]
-pub extern "C" fn kastepuhm_points_of(
+pub fn kastepuhm_points_of(
     checkpoints: &[u32],
     numbers: &[u32],
     points: &mut [u32],
@@ -596,8 +584,7 @@ pub extern "C" fn kastepuhm_points_of(
 
 // What planners are told of a refusal: `network.rndf:9:12: the entry is no declared lane waypoint or perimeter point (12)`, and below it the line with a caret. How many bytes it has; where the output
 // is shorter, 0, and the output is zero.
-#[unsafe(no_mangle)]
-pub extern "C" fn kastepuhm_sentence(
+pub fn kastepuhm_sentence(
     name: &[u8],
     text: &[u8],
     line: u32,
@@ -611,16 +598,14 @@ pub extern "C" fn kastepuhm_sentence(
 }
 
 // Does the text begin as an MDF does?
-#[unsafe(no_mangle)]
-pub extern "C" fn kastepuhm_is_mission(text: &[u8]) -> bool
+pub fn kastepuhm_is_mission(text: &[u8]) -> bool
     ensures { result ≡ mission_first text.now }
 {
     is_mission_first(text)
 }
 
 // What may stand where a text was refused, in the planners' words, without a line feed: of the refusal's file, line and number. Nothing is told of 2, 3 and 4, nor without a line; 19 where the output is too short.
-#[unsafe(no_mangle)]
-pub extern "C" fn kastepuhm_expected(
+pub fn kastepuhm_expected(
     edition: u32,
     rndf: &[u8],
     mdf: &[u8],
