@@ -1,0 +1,23 @@
+-- `references::resolve_exit` meets its contract. Assumes nothing.
+use mathlib.Core.Path.{ap, ◌∙◌}
+use Rattle.references.specs.Finding.{look_in}
+use Rattle.references.specs.Exits.{done}
+use Rattle.references.proofs.ExitSteps.{stored, row_named, row-left}
+use Rattle.references.proofs.resolve_exit.Goals as goal
+
+pub returns-in-At : goal.returns-in-At
+returns-in-At c =
+    let a = c.args in
+    let look = look_in a.segments.now a.lanes.now a.zones.now in
+    let o = row_named a.text.now look a.segment_count a.exits.now a.row c.exit_at-exit.result c.named_at-found.result c.exit_at-exit.ensures c.named_at-found.ensures in
+    let k = row-left a.text.now look a.segment_count a.exits.now a.row c.exit_at-exit.result c.named_at-found.result c.exit_at-exit.ensures c.named_at-found.ensures in
+    let s = stored a.exits.now a.row c.in-At.i c.exit_at-exit.result c.in_word.result c.store_exit.new.t c.exit_at-exit.ensures c.in_word.ensures c.store_exit.ensures in
+    record { exits_after = ap done s ∙ (rw c.in-At.is at o); exits_after_2 = s ∙ (rw c.in-At.is at k) }
+
+pub returns-in-Nothing : goal.returns-in-Nothing
+returns-in-Nothing c =
+    let a = c.args in
+    let look = look_in a.segments.now a.lanes.now a.zones.now in
+    let o = row_named a.text.now look a.segment_count a.exits.now a.row c.exit_at-exit.result c.named_at-found.result c.exit_at-exit.ensures c.named_at-found.ensures in
+    let k = row-left a.text.now look a.segment_count a.exits.now a.row c.exit_at-exit.result c.named_at-found.result c.exit_at-exit.ensures c.named_at-found.ensures in
+    record { exits_after = rw c.in-Nothing.is at o; exits_after_2 = rw c.in-Nothing.is at k }
