@@ -67,6 +67,8 @@ misspelt-at ed (s ∷ z ∷ ss) o low w (here {g = f} {fs = fs} n) = go (read s 
 misspelt-at ed (s ∷ z ∷ ss) o low w (further {f = f} x k h m) =
     let y = kind-read ed s w.0 (says_of ed s o.0 w.0) f x k h in
     rw y.1 (misspelt-at ed (z ∷ ss) o.1 low.1 w.1 m)
+misspelt-at ed [] o low w {fs = fs} {g = g} x'' = elim x'' [ ]
+misspelt-at ed (s ∷ []) o low w {g = g} (further {f = f} {fs = fs} x k h m) = elim m [ ]
 
 -- .. also behind the keyword, where there is one
 pub misspelt-start : (ed : Edition) {L : Lang} (A : Machine L) (X : Lexis L) (ss : List Sort) → Each (SortOf ed) ss → (low w : Vals ss) (o : Option Bytes) {f : Field} {fs : List Field} {g : Field} → ((b : Bytes) → o ≡ some b → f.bytes ≡ b)
