@@ -1,0 +1,20 @@
+use mathlib.Core.Path.{◌≡◌}
+use mathlib.Core.List.{map}
+use Prim.Native.Nat.{◌+◌, ◌-◌, ◌≤◌}
+use lib.ListN.{length, drop}
+use Rattle.terms.specs.Ascii.{ascii}
+use Rattle.line.specs.Lines.{lines_of}
+use Rattle.number.specs.Decimal.{decimal}
+use Rattle.refusal.specs.Size.{most}
+use Rattle.output.specs.Pen.{pen, put}
+use Rattle.expected_law.specs.Expected.{goals}
+use Rattle.expected_law.specs.Telling.{told}
+use Rattle.expected_references.specs.Listing.{listing}
+use Rattle.expected_references.specs.Named.{checkpoint_numbers, goals_in}
+use Rattle.expected_references.proofs.put_goals.Given as goal
+
+abbrev pub invariant-loop-from : goal.invariant-loop-from
+invariant-loop-from l = (length l.out ≡ length l.initial.out) × (l.count ≤ l.from) × (l.from ≤ length l.rndf + 1) × (length l.rndf ≤ most) × (put (pen l.out l.to) (listing (ascii "may stand here: a checkpoint of the RNDF: ") (ascii "may stand here: nothing, for the RNDF has no checkpoint") l.count (map decimal (checkpoint_numbers (lines_of (drop l.from l.rndf))))) ≡ put (pen l.initial.out l.at) (told (goals (goals_in l.rndf))))
+
+abbrev pub decreases-loop-from : goal.decreases-loop-from
+decreases-loop-from l = length l.rndf + 1 - l.from
