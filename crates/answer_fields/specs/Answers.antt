@@ -1,5 +1,6 @@
 -- WHAT A READER MUST BELIEVE. What the library for C and Rust answers, field by field, and what the lent tables and the lent output then hold. Assumes nothing.
-use Rattle.terms.specs.Words.{◌≡◌, List, none, ℕ, Bytes}
+use Rattle.std.specs.Prelude.{◌≡◌}
+use Rattle.terms.specs.Words.{List, none, ℕ, Bytes}
 use Rattle.line.specs.Line.{Field}
 use Rattle.law.specs.Network.{Network}
 use Rattle.edition.specs.declared.Edition.{Edition}

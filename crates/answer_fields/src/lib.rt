@@ -6,7 +6,6 @@
 // Rests on `writings`, `unpackings`, `packed_tables`, `mend_law`, `pair_checks`, `reach_checks`, `look_up` and what they rest on.
 #![tactic(auto)]
 
-
 // A name: its start and length in the lent text, or in the lent packed bytes. A missing name is 0, 0.
 #[repr(C)]
 #[derive(Clone, Copy)]

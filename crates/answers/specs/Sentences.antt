@@ -1,5 +1,6 @@
 -- WHAT A READER MUST BELIEVE. What a planner is told of a refusal: one sentence, with the file's name and the line; and how a caller gets it. Assumes nothing.
-use Rattle.terms.specs.Words.{◌≡◌, [], ◌++◌, ℕ, ◌-◌, length, drop, eqb, Bytes, ascii, pick}
+use Rattle.std.specs.Prelude.{◌≡◌, ◌++◌, ◌-◌}
+use Rattle.terms.specs.Words.{[], ℕ, length, drop, eqb, Bytes, ascii, pick}
 use Rattle.number.specs.Decimal.{decimal}
 use Rattle.output.specs.Output.{zero_bytes, Fits, padded}
 use Rattle.shown.specs.Shown.{picture, line_in, byte_words}

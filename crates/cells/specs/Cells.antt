@@ -1,6 +1,6 @@
 -- What a cell of the table of places by statements says of every spelling. Document 01: "Which statement may stand at which place is one table of places by statements, and the grammar's agreement with it is proved over the whole table." Assumes nothing.
-use Rattle.std.specs.Prelude.{get_or}
-use Rattle.terms.specs.Words.{◌≡◌, List, [], ◌∷◌, ◌++◌, ℕ, ◌<◌, ◌≤◌, Each}
+use Rattle.std.specs.Prelude.{get_or, ◌≡◌, ◌∷◌, ◌++◌, ◌<◌, ◌≤◌}
+use Rattle.terms.specs.Words.{List, [], ℕ, Each}
 use Rattle.grammar.specs.Language.{Lang, S}
 use Rattle.grammar.specs.Machine.{Machine, Stand, over, inside, next, Place, at, run}
 use Rattle.grammar.specs.Network.{Under}

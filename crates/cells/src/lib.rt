@@ -5,4 +5,3 @@
 //
 // Rests on `grammar` and what it rests on.
 #![tactic(auto)]
-

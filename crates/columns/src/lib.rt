@@ -5,4 +5,3 @@
 //
 // Rests on `judge`, `mission_judge`, `made_out`, `place`, `mission_place`, `law_columns`, `refusal` and what they rest on.
 #![tactic(auto)]
-

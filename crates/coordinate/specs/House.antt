@@ -1,6 +1,6 @@
 -- WHAT A READER MUST BELIEVE. The house spelling of coordinates: how the writer spells them. Assumes nothing.
-use Rattle.terms.specs.Words.{◌++◌, ℕ, suc, ◌/◌, ◌%◌, ℤ, pos, Bytes, ascii}
-use Rattle.std.specs.Prelude.{negsuc}
+use Rattle.terms.specs.Words.{ℕ, suc, ℤ, pos, Bytes, ascii}
+use Rattle.std.specs.Prelude.{negsuc, ◌++◌, ◌/◌, ◌%◌}
 use Rattle.number.specs.Decimal.{decimal, padded}
 
 -- so many millionths of a degree: whole degrees, a point and six digits

@@ -1,5 +1,6 @@
 -- WHAT A READER MUST BELIEVE. Which fields spell which coordinates. Assumes nothing.
-use Rattle.terms.specs.Words.{◌≡◌, [], ◌++◌, Bool, ℕ, ◌+◌, ◌*◌, ◌≤◌, ℤ, pos, neg_ℤ, Bytes, ascii, pick}
+use Rattle.std.specs.Prelude.{◌≡◌, ◌++◌, ◌+◌, ◌*◌, ◌≤◌}
+use Rattle.terms.specs.Words.{[], Bool, ℕ, ℤ, pos, neg_ℤ, Bytes, ascii, pick}
 use Rattle.number.specs.Decimal.{decimal, padded}
 
 -- 01: "**Coordinate**: optional `-`, 1 to 3 digits with no leading zero but a single `0`, a point, exactly six digits."

@@ -2,7 +2,6 @@
 // There is no code here. Rests on nothing.
 #![tactic(auto)]
 
-
 // Of an RNDF.
 #[derive(Clone, Copy)]
 pub struct Counts {

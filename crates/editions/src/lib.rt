@@ -4,4 +4,3 @@
 //
 // Rests on `law_columns`, `text`, `grammar` and what they rest on.
 #![tactic(auto)]
-

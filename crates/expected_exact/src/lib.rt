@@ -6,4 +6,3 @@
 //
 // Rests on `expected_law`, `law_columns`, `law_faults`, `law` and what they rest on.
 #![tactic(auto)]
-

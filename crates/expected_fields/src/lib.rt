@@ -6,4 +6,3 @@
 //
 // Rests on `expected_exact`, `expected_law`, `editions`, `law_columns`, `law_faults`, `law` and what they rest on.
 #![tactic(auto)]
-

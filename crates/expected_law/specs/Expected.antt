@@ -1,5 +1,6 @@
 -- WHAT A READER MUST BELIEVE. What may stand where a line is refused: from the grammar alone (5 to 10 and 25), or from the network (12 to 18); never from what the broken line may have meant. Assumes nothing.
-use Rattle.terms.specs.Words.{◌≡◌, List, [], ◌∷◌, ◌++◌, map, ℕ, suc, ◌≤◌, ◌<◌, length, ℤ, nat_abs, Bytes, Each, Among, Between}
+use Rattle.std.specs.Prelude.{◌≡◌, ◌∷◌, ◌++◌, ◌≤◌, ◌<◌}
+use Rattle.terms.specs.Words.{List, [], map, ℕ, suc, length, ℤ, nat_abs, Bytes, Each, Among, Between}
 use Rattle.line.specs.Line.{Field}
 use Rattle.number.specs.Decimal.{decimal}
 use Rattle.coordinate.specs.Spelling.{SpellsCoordinate}

@@ -1,5 +1,6 @@
 -- Short names for parts of Expected's definitions, for the proofs. Assumes nothing.
-use Rattle.terms.specs.Words.{◌≡◌, List, [], ◌∷◌, map, ℕ, Bytes, Among}
+use Rattle.std.specs.Prelude.{◌≡◌, ◌∷◌}
+use Rattle.terms.specs.Words.{List, [], map, ℕ, Bytes, Among}
 use Rattle.line.specs.Line.{Field}
 use Rattle.law.specs.Network.{Rules, Said, Line, SpellsField, SpellFields}
 use Rattle.law.specs.Network as Law

@@ -1,5 +1,6 @@
 -- WHAT A READER MUST BELIEVE. The words in which planners are told what may stand where a line is refused. Small letters, digits and points are typed as they stand; capitals stand for a field. Assumes nothing.
-use Rattle.terms.specs.Words.{List, [], ◌∷◌, ◌++◌, map, Bool, true, ◌&&◌, ℕ, zero, suc, ◌-◌, length, eqb, Bytes, ascii, pick, take}
+use Rattle.std.specs.Prelude.{◌∷◌, ◌++◌, ◌&&◌, ◌-◌}
+use Rattle.terms.specs.Words.{List, [], map, Bool, true, ℕ, zero, suc, length, eqb, Bytes, ascii, pick, take}
 use Rattle.number.specs.Decimal.{decimal}
 use Rattle.law.specs.Network.{PointId, boundary_word_of, dotted}
 use Rattle.expected_law.specs.Expected.{Item, this, a_name, numbers, ceiling, degrees, one_of, Form, Expectation, lines, fields, field, entries, new_number, the_name, goals, ids, missing}

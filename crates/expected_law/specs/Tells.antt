@@ -1,5 +1,6 @@
 -- WHAT A READER MUST BELIEVE. What is answered where a caller asks what may stand where a text was refused: the words of Telling, of what Expected says, or nothing. Assumes nothing.
-use Rattle.terms.specs.Words.{◌≡◌, List, [], ◌∷◌, ℕ, ◌≤◌, length, Bytes, Among}
+use Rattle.std.specs.Prelude.{◌≡◌, ◌∷◌, ◌≤◌}
+use Rattle.terms.specs.Words.{List, [], ℕ, length, Bytes, Among}
 use Rattle.line.specs.Line.{Ended, Field, Content}
 use Rattle.law.specs.Network.{Network, Mission, Rules, Line, SpellsNetwork, SpellsMission, SpellsText}
 use Rattle.law.specs.Faults.{BadLine, Unended, FirstFault, RndfFault, MdfFault}

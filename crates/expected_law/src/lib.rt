@@ -5,7 +5,6 @@
 // Rests on `law_columns`, `law`, `edition` and what they rest on.
 #![tactic(auto)]
 
-
 // What a caller is answered: accepted is 1, and how many bytes were put, 0 where nothing is told; or 0, and number is 19. All else is 0.
 #[repr(C)]
 #[derive(Clone, Copy)]

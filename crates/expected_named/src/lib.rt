@@ -6,4 +6,3 @@
 //
 // Rests on `expected_references`, `expected_law`, `law`, `find_line` and what they rest on.
 #![tactic(auto)]
-

@@ -5,4 +5,3 @@
 //
 // Rests on `expected_law`, `law_faults`, `law_spelling`, `text`, `grammar`, `law`, `line` and `terms`.
 #![tactic(auto)]
-

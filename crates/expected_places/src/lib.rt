@@ -5,4 +5,3 @@
 //
 // Rests on `expected_forms`, `expected_exact`, `expected_owed`, `judge`, `mission_judge` and what they rest on.
 #![tactic(auto)]
-

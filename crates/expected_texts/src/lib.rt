@@ -5,4 +5,3 @@
 //
 // Rests on `expected_places`, `expected_fields`, `expected_lines`, `column`, `mission_column` and what they rest on.
 #![tactic(auto)]
-

@@ -9,4 +9,3 @@
 //
 // Rests on `find_line`, `walk`, `fill`, `form_faults` (where a line starts), `text` and what they rest on.
 #![tactic(auto)]
-

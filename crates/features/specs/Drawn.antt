@@ -1,6 +1,6 @@
 -- Executable: what is put of any tables, whatever they hold, in the order in which the program goes; every contract cites this. That it is the map of the network whose rows they hold is `map_tables`. Assumes nothing.
-use Rattle.terms.specs.Words.{List, [], ◌++◌, ℕ, zero, suc, ◌+◌, ◌-◌, eqb, ltb, leb, ℤ, Bytes, ascii, pick}
-use Rattle.std.specs.Prelude.{min}
+use Rattle.terms.specs.Words.{List, [], ℕ, zero, suc, eqb, ltb, leb, ℤ, Bytes, ascii, pick}
+use Rattle.std.specs.Prelude.{min, ◌++◌, ◌+◌, ◌-◌}
 use Rattle.number.specs.House.{house_integer, house_pair, house_triple}
 use Rattle.output.specs.Pen.{Pen, put}
 use Rattle.rows.specs.declared.Stretch.{Stretch}

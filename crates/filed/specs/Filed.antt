@@ -1,6 +1,6 @@
 -- WHAT A READER MUST BELIEVE. Same writing, same yard: what is promised of house writings, over the contracts of the writers. Document 02, L14. Assumes nothing.
-use Rattle.std.specs.Prelude.{◌↔◌}
-use Rattle.terms.specs.Words.{◌≡◌, ℕ, length, take, Bytes}
+use Rattle.std.specs.Prelude.{◌↔◌, ◌≡◌}
+use Rattle.terms.specs.Words.{ℕ, length, take, Bytes}
 use Rattle.line.specs.Line.{Field}
 use Rattle.law.specs.Network.{Network, Mission, Rules, SpellsNetwork, SpellsMission, SpellsText}
 use Rattle.law.specs.Tables.{Lent, MissionLent}

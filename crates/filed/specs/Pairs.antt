@@ -1,5 +1,6 @@
 -- WHAT A READER MUST BELIEVE. Texts in pairs: two that differ in everything but what they mean, two that differ in one option, two in the order of stops. Document 02, L14. Assumes nothing.
-use Rattle.terms.specs.Words.{◌≡◌, List, [], ◌∷◌, ◌++◌, ℕ, String, Bytes, ascii}
+use Rattle.std.specs.Prelude.{◌≡◌, ◌∷◌, ◌++◌}
+use Rattle.terms.specs.Words.{List, [], ℕ, String, Bytes, ascii}
 use Rattle.edition.specs.declared.Edition.{Edition}
 use Rattle.edition.specs.Editions.{rules_of}
 use Rattle.filed.specs.Filed.{Filed}

@@ -5,4 +5,3 @@
 //
 // Rests on `return_trip` (what was written), `writings`, `house_text`, `same`, `promises`, `compared` and what they rest on.
 #![tactic(auto)]
-

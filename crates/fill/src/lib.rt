@@ -11,4 +11,3 @@
 //
 // Rests on `terms`, `law` and `grammar`.
 #![tactic(auto)]
-

@@ -1,5 +1,6 @@
 -- What a reading gives from a row on. Assumes nothing.
-use Rattle.terms.specs.Words.{◌≡◌, List, [], ◌∷◌, ℕ, suc}
+use Rattle.std.specs.Prelude.{◌≡◌, ◌∷◌}
+use Rattle.terms.specs.Words.{List, [], ℕ, suc}
 
 -- from row i on these are read
 abbrev pub From : {R : Type 0} → (read : ℕ → R) → ℕ → List R → Type 0

@@ -5,4 +5,3 @@
 //
 // Rests on `rows`, `terms` and what they rest on.
 #![tactic(auto)]
-

@@ -5,4 +5,3 @@
 //
 // Rests on `terms`, `scan`, `line`, `number`, `coordinate`, `word`, `grammar` and `text`.
 #![tactic(auto)]
-

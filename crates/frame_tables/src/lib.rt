@@ -4,4 +4,3 @@
 //
 // Rests on `packed_tables`, `packed_frame` and what they rest on.
 #![tactic(auto)]
-

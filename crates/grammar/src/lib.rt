@@ -9,4 +9,3 @@
 //
 // Rests on `law` and `terms`.
 #![tactic(auto)]
-

@@ -10,4 +10,3 @@
 //
 // Rests on `house_lines` (the order of lines), `house_text` (what the house writing is), `text`, `line`, `grammar`, and on what these rest on.
 #![tactic(auto)]
-

@@ -1,5 +1,6 @@
 -- WHAT A READER MUST BELIEVE. The house writing of a network and of a mission. Document 01, "House writing"; document 02, L12. Assumes nothing.
-use Rattle.terms.specs.Words.{◌≡◌, List, ◌++◌, map, none, Bytes, ascii}
+use Rattle.std.specs.Prelude.{◌≡◌, ◌++◌}
+use Rattle.terms.specs.Words.{List, map, none, Bytes, ascii}
 use Rattle.line.specs.Line.{Field}
 use Rattle.coordinate.specs.House.{house_coordinate}
 use Rattle.law.specs.Network.{Network, Mission, Said, word, name, numbers, coordinate, boundary, Line, boundary_word_of, dotted, SpellsNetwork, SpellsMission}

@@ -11,4 +11,3 @@
 //
 // Rests on `grammar` (the house order), `text` and `line` (lines, and what a text spells), `number`, `coordinate` and `word` (fields), and `table_words` (names told in another way).
 #![tactic(auto)]
-

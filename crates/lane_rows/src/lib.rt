@@ -4,4 +4,3 @@
 //
 // Rests on `network` and what it rests on.
 #![tactic(auto)]
-

@@ -1,5 +1,6 @@
 -- What each part of a list gives, told the first row that is its own: short for what law/specs/Tables says with `placed`, as the proofs have it; nothing more to believe. Assumes nothing.
-use Rattle.terms.specs.Words.{List, [], ◌∷◌, ℕ, ◌+◌, length}
+use Rattle.std.specs.Prelude.{◌∷◌, ◌+◌}
+use Rattle.terms.specs.Words.{List, [], ℕ, length}
 use Rattle.line.specs.Line.{Field}
 use Rattle.law.specs.Network.{Spot, Zone}
 use Rattle.law.specs.Tables.{gather, placed, zone_size, the_zone_row_of}

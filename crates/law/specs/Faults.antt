@@ -1,5 +1,6 @@
 -- WHAT A READER MUST BELIEVE. What is wrong with a text: one definition for each number 2 to 10, 12 to 18 and 25. Document 01, "Refusal numbers". Assumes nothing.
-use Rattle.terms.specs.Words.{◌≡◌, List, [], ◌∷◌, ◌++◌, map, ℕ, suc, ◌+◌, ◌<◌, code, length, Bytes, ascii, Each, Among, perhaps, Between}
+use Rattle.std.specs.Prelude.{◌≡◌, ◌∷◌, ◌++◌, ◌+◌, ◌<◌}
+use Rattle.terms.specs.Words.{List, [], map, ℕ, suc, code, length, Bytes, ascii, Each, Among, perhaps, Between}
 use Rattle.line.specs.Line.{Cut, Ended, Field, Content, FormFault}
 use Rattle.law.specs.Network.{Edition, PointId, Checkpoint, Exit, Lane, Segment, Zone, Limit, Network, Mission, Rules, lenient, Said, Line, word, name, numbers, coordinate, boundary, SpellsField, SpellFields, checkpoint_line_of, exit_line, goal_line_of, limit_line, SayLines, SpellsText}
 use Rattle.law.specs.Network as Law

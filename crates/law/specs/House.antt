@@ -1,5 +1,6 @@
 -- WHAT A READER MUST BELIEVE. The rules of the house writing: the order of options, and what stands between fields. Document 01, "House writing". Assumes nothing.
-use Rattle.terms.specs.Words.{◌≡◌, List, [], ◌∷◌, ◌++◌, Bytes, ascii}
+use Rattle.std.specs.Prelude.{◌≡◌, ◌∷◌, ◌++◌}
+use Rattle.terms.specs.Words.{List, [], Bytes, ascii}
 use Rattle.scan.specs.Allowed.{tab}
 use Rattle.law.specs.Network.{Rules, march_2007}
 

@@ -1,5 +1,6 @@
 -- WHAT A READER MUST BELIEVE. What an RNDF and an MDF say, which values are permitted, and how they are spelled: the lines of each part, and what a text spells. Document 01, "Lines, comments, fields", "The order of an RNDF", "The order of an MDF"; document 02, L10: the editions. Assumes nothing.
-use Rattle.terms.specs.Words.{◌≡◌, List, [], ◌∷◌, ◌++◌, map, Option, Bool, ℕ, suc, ◌+◌, ◌≤◌, ◌<◌, String, length, ℤ, nat_abs, Bytes, ascii, Each, Among, perhaps, Between, InTurn}
+use Rattle.std.specs.Prelude.{◌≡◌, ◌∷◌, ◌++◌, ◌+◌, ◌≤◌, ◌<◌}
+use Rattle.terms.specs.Words.{List, [], map, Option, Bool, ℕ, suc, String, length, ℤ, nat_abs, Bytes, ascii, Each, Among, perhaps, Between, InTurn}
 use Rattle.scan.specs.Allowed.{separates}
 use Rattle.line.specs.Line.{Cut, Ended, Field, Content}
 use Rattle.number.specs.Decimal.{decimal}

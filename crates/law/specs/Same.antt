@@ -1,5 +1,6 @@
 -- WHAT A READER MUST BELIEVE. When two networks are the same. Document 01, "Tables": "A network or mission is its tables with each name's bytes in place of start and length." Assumes nothing.
-use Rattle.terms.specs.Words.{◌≡◌, map, Option, none, some, Bytes}
+use Rattle.std.specs.Prelude.{◌≡◌}
+use Rattle.terms.specs.Words.{map, Option, none, some, Bytes}
 use Rattle.line.specs.Line.{Field}
 use Rattle.law.specs.Network.{Segment, Zone, Network}
 

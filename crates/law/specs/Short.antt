@@ -1,5 +1,6 @@
 -- Short names for what law/specs/Network says; nothing more to believe. Assumes nothing.
-use Rattle.terms.specs.Words.{[], ◌∷◌, ℕ, String, Bytes}
+use Rattle.std.specs.Prelude.{◌∷◌}
+use Rattle.terms.specs.Words.{[], ℕ, String, Bytes}
 use Rattle.line.specs.Line.{Field}
 use Rattle.law.specs.Network.{Network, Mission, Line, name, numbers, line, present, SpellsNetwork, SpellsMission, SpellsText}
 

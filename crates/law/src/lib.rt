@@ -4,4 +4,3 @@
 // specs/: Network (what an RNDF and an MDF say, what is permitted, how it is spelled), Tables, Faults; House, of the writers; Same, of unpacking. Short, Along: short names, nothing to believe.
 // Rests on `line`, `number`, `coordinate`, `scan` and `terms`.
 #![tactic(auto)]
-

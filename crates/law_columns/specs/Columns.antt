@@ -1,5 +1,6 @@
 -- WHAT A READER MUST BELIEVE. Where in its line a fault is: the column of a refusal that has a line. Document 02, L7: "Add a column to the refusal record, counted in bytes from 1." Assumes nothing.
-use Rattle.terms.specs.Words.{◌≡◌, List, [], ◌∷◌, ◌++◌, map, ℕ, suc, length, Bytes, Among}
+use Rattle.std.specs.Prelude.{◌≡◌, ◌∷◌, ◌++◌}
+use Rattle.terms.specs.Words.{List, [], map, ℕ, suc, length, Bytes, Among}
 use Rattle.line.specs.Line.{Ended, Field, Opened, Content, BadByte}
 use Rattle.law.specs.Network.{Rules, Line, SpellFields}
 use Rattle.law.specs.Faults.{kind_of_field, FirstMisspelt, Nth, FollowsLeniently, MayStand}

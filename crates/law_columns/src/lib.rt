@@ -7,4 +7,3 @@
 //
 // Rests on `law_faults`, `law`, `law_spelling`, `form_faults`, `text`, `grammar`, `word`, `coordinate`, `number`, `line`, `scan` and `terms`.
 #![tactic(auto)]
-

@@ -1,5 +1,6 @@
 -- What 25 tells of a text: which lines stand before, and which line it is. Request L8. Assumes nothing.
-use Rattle.terms.specs.Words.{◌≡◌, List, [], ◌∷◌, ◌++◌, ℕ, Each}
+use Rattle.std.specs.Prelude.{◌≡◌, ◌∷◌, ◌++◌}
+use Rattle.terms.specs.Words.{List, [], ℕ, Each}
 use Rattle.law.specs.Network.{Position, Line, numbers, coordinate, line}
 
 -- L8: "a spot whose options give no checkpoint is refused at its first waypoint's line": behind `spot` m.n with no option but its width stands the waypoint m.n.1

@@ -8,4 +8,3 @@
 //
 // Rests on `law`, `law_spelling`, `form_faults`, `text`, `grammar`, `word`, `coordinate`, `number`, `line`, `scan` and `terms`.
 #![tactic(auto)]
-

@@ -6,4 +6,3 @@
 //
 // Rests on `law`, `text`, `grammar`, `word`, `coordinate`, `number`, `line`, `scan` and `terms`.
 #![tactic(auto)]
-

@@ -8,4 +8,3 @@
 //
 // Rests on `fault_lines`, `table_words`, `law_spelling`, `fill`, `room`, `counts`, `law` and what they rest on.
 #![tactic(auto)]
-

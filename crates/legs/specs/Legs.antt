@@ -1,6 +1,6 @@
 -- Executable: the first goal that has no chain of moves. leads: whether one move or more lead from a point to another; point: the goals' points, by their rows. Assumes nothing.
-use Rattle.terms.specs.Words.{List, ℕ, zero, suc, ◌-◌, Bool, true, false, eqb, ltb, pick}
-use Rattle.std.specs.Prelude.{get_or}
+use Rattle.terms.specs.Words.{List, ℕ, zero, suc, Bool, true, false, eqb, ltb, pick}
+use Rattle.std.specs.Prelude.{get_or, ◌-◌}
 
 -- of `left` goals from this row on, behind the one at the point `before`, the first to which nothing leads from the one before; the row behind them if there is none
 unfoldable pub later_stuck_of : (leads : ℕ → ℕ → Bool) → (point : ℕ → ℕ) → (before row left : ℕ) → ℕ

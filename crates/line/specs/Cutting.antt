@@ -1,5 +1,6 @@
 -- WHAT A READER MUST BELIEVE. The lines of a text and the fields of any line, whatever its bytes, as functions: for mending (L9). Of good lines they are Line's (proofs/Cuts, Ends, Spelled). Assumes nothing.
-use Rattle.terms.specs.Words.{List, [], ◌∷◌, Bool, true, false, ℕ, suc, code, eqb, Bytes, pick}
+use Rattle.std.specs.Prelude.{◌∷◌}
+use Rattle.terms.specs.Words.{List, [], Bool, true, false, ℕ, suc, code, eqb, Bytes, pick}
 use Rattle.scan.specs.Allowed.{separates}
 use Rattle.scan.specs.Begins.{two}
 use Rattle.line.specs.Line.{lf, cr, Field, parted}

@@ -1,5 +1,6 @@
 -- WHAT A READER MUST BELIEVE. A text and its lines; a line's content: fields, what separates them, and a comment; and refusals 2, 3 and 4. Document 01, "Lines, comments, fields". Assumes nothing.
-use Rattle.terms.specs.Words.{◌≡◌, List, [], ◌∷◌, ◌++◌, Bool, true, false, ◌⊎◌, ℕ, suc, ◌+◌, ◌≤◌, ◌<◌, code, length, Bytes, ascii}
+use Rattle.std.specs.Prelude.{◌≡◌, ◌∷◌, ◌++◌, ◌⊎◌, ◌+◌, ◌≤◌, ◌<◌}
+use Rattle.terms.specs.Words.{List, [], Bool, true, false, ℕ, suc, code, length, Bytes, ascii}
 use Rattle.scan.specs.Allowed.{field_byte, allowed_outside, inside, all}
 
 abbrev pub lf : ℕ

@@ -4,4 +4,3 @@
 //
 // Rests on `line`, `scan`, `terms`.
 #![tactic(auto)]
-

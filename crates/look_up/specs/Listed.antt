@@ -1,5 +1,6 @@
 -- WHAT A READER MUST BELIEVE. The look-up of a list of checkpoint numbers. Request L4, "Fifty checkpoints at one go". Assumes nothing.
-use Rattle.terms.specs.Words.{◌≡◌, List, [], ◌∷◌, ℕ, length, replicate}
+use Rattle.std.specs.Prelude.{◌≡◌, ◌∷◌}
+use Rattle.terms.specs.Words.{List, [], ℕ, length, replicate}
 use Rattle.look_up.specs.LookUp.{PointOf}
 use Rattle.look_up.specs.declared.ListReply.{ListReply}
 use Rattle.look_up.specs.declared.ListReply.TheVariants as Reply

@@ -1,5 +1,6 @@
 -- WHAT A READER MUST BELIEVE. The answer of the look-up. Assumes nothing.
-use Rattle.terms.specs.Words.{◌≡◌, List, [], ◌∷◌, ◌⊎◌, ℕ, ◌*◌, ◌<◌, take, drop}
+use Rattle.std.specs.Prelude.{◌≡◌, ◌∷◌, ◌⊎◌, ◌*◌, ◌<◌}
+use Rattle.terms.specs.Words.{List, [], ℕ, take, drop}
 
 -- 01: "Checkpoint: number, point.": row i of the table t is these two words. Behind the last whole row there is none
 abbrev pub Row : List ℕ → ℕ → ℕ → ℕ → Type 0

@@ -1,5 +1,6 @@
 -- Executable: JSON's strings and commas, positions and rings, as they are put; every contract cites this. Assumes nothing.
-use Rattle.terms.specs.Words.{List, [], ◌∷◌, ◌++◌, ℕ, zero, suc, ◌+◌, ◌-◌, eqb, ℤ, Bytes, ascii, pick}
+use Rattle.std.specs.Prelude.{◌∷◌, ◌++◌, ◌+◌, ◌-◌}
+use Rattle.terms.specs.Words.{List, [], ℕ, zero, suc, eqb, ℤ, Bytes, ascii, pick}
 use Rattle.coordinate.specs.House.{house_coordinate}
 use Rattle.rows.specs.Read.{point_at_of}
 

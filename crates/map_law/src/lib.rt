@@ -4,4 +4,3 @@
 //
 // Rests on `law` and what it rests on. Settled: a map is a function of the network.
 #![tactic(auto)]
-

@@ -1,5 +1,6 @@
 -- Executable: things one behind the other, the first of them the i-th of its list, each but that list's first with a comma in front. Assumes nothing.
-use Rattle.terms.specs.Words.{List, [], ◌∷◌, ◌++◌, ℕ, suc, Bytes}
+use Rattle.std.specs.Prelude.{◌∷◌, ◌++◌}
+use Rattle.terms.specs.Words.{List, [], ℕ, suc, Bytes}
 use Rattle.features.specs.Drawn.{comma_from}
 
 unfoldable pub marks : ℕ → List Bytes → Bytes

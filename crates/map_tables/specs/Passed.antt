@@ -1,5 +1,6 @@
 -- What it means to walk over checkpoint rows: which are left, which are passed and what is put meanwhile. Assumes nothing.
-use Rattle.terms.specs.Words.{◌≡◌, List, ◌++◌, map, ℕ, ◌+◌, ◌≤◌, length, Bytes, Each}
+use Rattle.std.specs.Prelude.{◌≡◌, ◌++◌, ◌+◌, ◌≤◌}
+use Rattle.terms.specs.Words.{List, map, ℕ, length, Bytes, Each}
 use Rattle.rows.specs.Read.{checkpoint_at_of}
 use Rattle.filled_rows.specs.From.{From}
 use Rattle.grammar.specs.Tables.{CheckpointRow}

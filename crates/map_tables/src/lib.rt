@@ -9,4 +9,3 @@
 //
 // Rests on `replies`, `features`, `filled_rows`, `map_law`, `table_words`, `law_tables` and what they rest on.
 #![tactic(auto)]
-

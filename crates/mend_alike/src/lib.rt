@@ -5,4 +5,3 @@
 //
 // Rests on `network`, `edition_judge`, `progress`, `place`, `judge`, `rows`, `references` (what is read of the tables) and what they rest on.
 #![tactic(auto)]
-

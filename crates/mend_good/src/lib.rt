@@ -5,4 +5,3 @@
 //
 // Rests on `mend_law`, `network_reader`, `reader`, `network` and what they rest on.
 #![tactic(auto)]
-

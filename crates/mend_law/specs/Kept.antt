@@ -1,5 +1,6 @@
 -- WHAT A READER MUST BELIEVE. What is promised of the mending tool beside its contract: of lines that are not listed, and of accepted texts. Request L9. Assumes nothing.
-use Rattle.terms.specs.Words.{◌≡◌, List, ℕ, length, take, replicate, Bytes, Each, Among}
+use Rattle.std.specs.Prelude.{◌≡◌}
+use Rattle.terms.specs.Words.{List, ℕ, length, take, replicate, Bytes, Each, Among}
 use Rattle.law.specs.Network.{Edition, reading}
 use Rattle.law.specs.Tables.{gather}
 use Rattle.output.specs.Output.{Fits, padded}

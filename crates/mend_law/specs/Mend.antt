@@ -1,6 +1,6 @@
 -- WHAT A READER MUST BELIEVE. What the mending tool changes in an RNDF, line by line; what comes out, and what is listed. Request L9, "Mend what can be mended, and say so." Assumes nothing.
-use Rattle.terms.specs.Words.{List, [], ◌∷◌, ◌++◌, map, Bool, false, not, ◌&&◌, ◌||◌, ℕ, suc, ◌+◌, String, length, take, drop, eqb, leb, Bytes, ascii, pick}
-use Rattle.std.specs.Prelude.{get_or}
+use Rattle.terms.specs.Words.{List, [], map, Bool, false, not, ℕ, suc, String, length, take, drop, eqb, leb, Bytes, ascii, pick}
+use Rattle.std.specs.Prelude.{get_or, ◌∷◌, ◌++◌, ◌&&◌, ◌||◌, ◌+◌}
 use Rattle.scan.specs.Allowed.{digit}
 use Rattle.scan.specs.Begins.{begins, same_bytes_of}
 use Rattle.line.specs.Line.{Field}

@@ -1,5 +1,6 @@
 -- WHAT A READER MUST BELIEVE. What the mending tool replies, and what the lent list and the lent output then hold. Request L9. Assumes nothing.
-use Rattle.terms.specs.Words.{◌≡◌, List, ℕ, ◌/◌, ◌≤◌, ◌<◌, length, replicate, Bytes}
+use Rattle.std.specs.Prelude.{◌≡◌, ◌/◌, ◌≤◌, ◌<◌}
+use Rattle.terms.specs.Words.{List, ℕ, length, replicate, Bytes}
 use Rattle.line.specs.Line.{Field}
 use Rattle.line.specs.Cutting.{lines_of}
 use Rattle.law.specs.Network.{Network, Rules}

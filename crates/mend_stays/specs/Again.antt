@@ -1,5 +1,6 @@
 -- WHAT A READER MUST BELIEVE. What was mended once needs no second mending, by the tool's contract, in an edition (L10). Request L9. Assumes nothing.
-use Rattle.terms.specs.Words.{◌≡◌, List, ℕ, length, take, replicate, Bytes}
+use Rattle.std.specs.Prelude.{◌≡◌}
+use Rattle.terms.specs.Words.{List, ℕ, length, take, replicate, Bytes}
 use Rattle.law.specs.Network.{Edition, reading}
 use Rattle.output.specs.Output.{Fits, padded}
 use Rattle.mend_law.specs.Mends.{AcceptedWithRoom, ListRoom, Mends}

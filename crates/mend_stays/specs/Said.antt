@@ -1,5 +1,6 @@
 -- What the three changes of the mending tool hang on, over what lines say in place of their bytes: a line's first field, items up to an end word, the part opened last, options given since, the file's end. Assumes nothing.
-use Rattle.terms.specs.Words.{◌≡◌, List, [], ◌∷◌, Bool, false, not, ◌&&◌, ◌||◌, ℕ, suc, Bytes, ascii, pick}
+use Rattle.std.specs.Prelude.{◌≡◌, ◌∷◌, ◌&&◌, ◌||◌}
+use Rattle.terms.specs.Words.{List, [], Bool, false, not, ℕ, suc, Bytes, ascii, pick}
 use Rattle.scan.specs.Reach.{same_bytes_of}
 use Rattle.law.specs.Network.{Said, Line, word, name, numbers, coordinate, boundary}
 use Rattle.law.specs.Faults.{options}

@@ -6,4 +6,3 @@
 //
 // Rests on `mend_law` and what it rests on.
 #![tactic(auto)]
-

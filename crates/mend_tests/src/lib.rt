@@ -5,4 +5,3 @@
 //
 // Rests on `network`, `find_line`, `references` and what they rest on.
 #![tactic(auto)]
-

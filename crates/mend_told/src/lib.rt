@@ -5,4 +5,3 @@
 //
 // Rests on `mend_pieces`, `mend_lines`, `mend_law` and what they rest on.
 #![tactic(auto)]
-

@@ -1,6 +1,6 @@
 -- WHAT A READER MUST BELIEVE. The lines of the given text that come out of the mending tool, and so which of them a line of the mended text is. Request L9. Assumes nothing.
-use Rattle.terms.specs.Words.{List, [], ◌∷◌, Bool, true, false, ℕ, suc, ◌-◌, ◌&&◌, length, eqb, Bytes, pick}
-use Rattle.std.specs.Prelude.{get_or}
+use Rattle.terms.specs.Words.{List, [], Bool, true, false, ℕ, suc, length, eqb, Bytes, pick}
+use Rattle.std.specs.Prelude.{get_or, ◌∷◌, ◌-◌, ◌&&◌}
 use Rattle.line.specs.Lines.{lines_of}
 use Rattle.law.specs.Tables.{gather}
 use Rattle.mend_law.specs.Mend.{Change, stays, goes, recount, changes}

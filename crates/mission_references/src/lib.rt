@@ -5,4 +5,3 @@
 //
 // Rests on `marks`, `fill`, `rows`, `units`, `terms` and what they rest on.
 #![tactic(auto)]
-

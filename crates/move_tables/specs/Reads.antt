@@ -1,5 +1,6 @@
 -- What the tables of a network read as: its parts and its exits. Assumes nothing.
-use Rattle.terms.specs.Words.{List, map, ℕ, ◌+◌, ◌≤◌, length}
+use Rattle.std.specs.Prelude.{◌+◌, ◌≤◌}
+use Rattle.terms.specs.Words.{List, map, ℕ, length}
 use Rattle.line.specs.Line.{Field}
 use Rattle.law.specs.Network.{Network}
 use Rattle.law.specs.Tables.{exit_rows}

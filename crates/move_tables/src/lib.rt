@@ -6,4 +6,3 @@
 //
 // Rests on `moves`, `filled_rows`, `route_law`, `replies`, `law_tables` and what they rest on.
 #![tactic(auto)]
-

@@ -1,6 +1,6 @@
 -- Executable: the search by halving that contracts cite, over any column and over a table's first words. What it finds where the column is parted is a law (proofs/Halving). Assumes nothing.
-use Rattle.terms.specs.Words.{List, ℕ, zero, suc, ◌+◌, ◌-◌, ◌*◌, ◌/◌, length, ltb, pick}
-use Rattle.std.specs.Prelude.{min, get_or}
+use Rattle.terms.specs.Words.{List, ℕ, zero, suc, length, ltb, pick}
+use Rattle.std.specs.Prelude.{min, get_or, ◌+◌, ◌-◌, ◌*◌, ◌/◌}
 use Rattle.rows.specs.Lay.{rows_of}
 
 -- of `left` rows from row `low` on the first that is not below `least`: the row in the middle says in which half to go on. halvings: so many at most

@@ -1,6 +1,6 @@
 -- Executable: whether a step is a move, read of any tables; every contract cites this. That it is the law's `Move` where the tables are those of a network is `move_tables`. Assumes nothing.
-use Rattle.terms.specs.Words.{List, ℕ, zero, suc, ◌+◌, ◌-◌, ◌*◌, Bool, true, false, eqb, ltb, leb, pick}
-use Rattle.std.specs.Prelude.{get_or}
+use Rattle.terms.specs.Words.{List, ℕ, zero, suc, Bool, true, false, eqb, ltb, leb, pick}
+use Rattle.std.specs.Prelude.{get_or, ◌+◌, ◌-◌, ◌*◌}
 use Rattle.rows.specs.Read.{lane_at_of, zone_at_of}
 use Rattle.rows.specs.Strides.{lane_stride, zone_stride, exit_stride}
 use Rattle.counts.specs.declared.Counts.{Counts}

@@ -8,4 +8,3 @@
 // Rests on `references` and `marks` (what their functions answer over given rows), `walk` (where statements stand), `network` (where the entries of the exits start), `table_words` (the words of the tables), `fill` (the
 // first faults), `text`, `line`, `grammar`, and on what these rest on.
 #![tactic(auto)]
-

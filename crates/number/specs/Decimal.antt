@@ -1,5 +1,6 @@
 -- WHAT A READER MUST BELIEVE. The digits of a number. Assumes nothing.
-use Rattle.terms.specs.Words.{[], ◌∷◌, ◌++◌, ℕ, zero, suc, ◌+◌, ◌/◌, ◌%◌, code, ltb, Bytes, pick}
+use Rattle.std.specs.Prelude.{◌∷◌, ◌++◌, ◌+◌, ◌/◌, ◌%◌}
+use Rattle.terms.specs.Words.{[], ℕ, zero, suc, code, ltb, Bytes, pick}
 
 -- the byte of a number below ten
 abbrev pub digit_of : ℕ → ℕ

@@ -1,5 +1,6 @@
 -- WHAT A READER MUST BELIEVE. Which bytes are an integer, and which one, as a function: for mending (L9). They are those of Decimal (proofs/Integers). Assumes nothing.
-use Rattle.terms.specs.Words.{[], ◌∷◌, Bool, false, ℕ, ◌+◌, ◌-◌, ◌*◌, code, length, eqb, leb, Bytes, pick}
+use Rattle.std.specs.Prelude.{◌∷◌, ◌+◌, ◌-◌, ◌*◌}
+use Rattle.terms.specs.Words.{[], Bool, false, ℕ, code, length, eqb, leb, Bytes, pick}
 use Rattle.scan.specs.Allowed.{digit, all}
 use Rattle.number.specs.declared.Number as DN
 use Rattle.number.specs.declared.Number.TheVariants as N

@@ -1,5 +1,6 @@
 -- WHAT A READER MUST BELIEVE. What a lent output holds once a writing went to it. A writing is a list of bytes. Assumes nothing.
-use Rattle.terms.specs.Words.{◌++◌, ℕ, ◌-◌, ◌≤◌, length, replicate, Bytes}
+use Rattle.std.specs.Prelude.{◌++◌, ◌-◌, ◌≤◌}
+use Rattle.terms.specs.Words.{ℕ, length, replicate, Bytes}
 
 -- so many zeros
 abbrev pub zero_bytes : ℕ → Bytes

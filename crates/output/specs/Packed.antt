@@ -1,5 +1,6 @@
 -- WHAT A READER MUST BELIEVE. Numbers in a packed form: so many bytes, the high one first. Assumes nothing.
-use Rattle.terms.specs.Words.{[], ◌∷◌, ◌++◌, ℕ, zero, suc, ◌/◌, ◌%◌, Bytes}
+use Rattle.std.specs.Prelude.{◌∷◌, ◌++◌, ◌/◌, ◌%◌}
+use Rattle.terms.specs.Words.{[], ℕ, zero, suc, Bytes}
 
 -- the last k bytes of a number: `big_endian 4 258` is 0, 0, 1, 2
 unfoldable pub big_endian : ℕ → ℕ → Bytes

@@ -1,5 +1,6 @@
 -- Executable: whether bytes, behind version and length, are some network's packed form, and where its tables stand. Each pass begins where the one before it ended. Assumes nothing.
-use Rattle.terms.specs.Words.{[], Bool, false, ◌&&◌, ℕ, ◌+◌, ◌*◌, leb, eqb, length, drop, Bytes, pick}
+use Rattle.std.specs.Prelude.{◌&&◌, ◌+◌, ◌*◌}
+use Rattle.terms.specs.Words.{[], Bool, false, ℕ, leb, eqb, length, drop, Bytes, pick}
 use Rattle.counts.specs.declared.Counts.{Counts}
 use Rattle.rows.specs.declared.FileRow.{FileRow}
 use Rattle.room.specs.Room.{fitted}

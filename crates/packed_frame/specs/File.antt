@@ -1,5 +1,6 @@
 -- Executable: the file's record, behind version and length. Assumes nothing.
-use Rattle.terms.specs.Words.{Bool, true, false, ℕ, ◌+◌, eqb, Bytes, pick}
+use Rattle.std.specs.Prelude.{◌+◌}
+use Rattle.terms.specs.Words.{Bool, true, false, ℕ, eqb, Bytes, pick}
 use Rattle.packed_rows.specs.Points.{four_at_of}
 use Rattle.packed_frame.specs.Names.{two_at, no_name, name_size_of}
 use Rattle.rows.specs.declared.Stretch.{Stretch}

@@ -1,5 +1,6 @@
 -- Executable: so many records, each of which begins where the one before it ends; what is known of those passed (a sum, say) goes along. Assumes nothing.
-use Rattle.terms.specs.Words.{Option, none, some, Bool, true, false, ◌&&◌, ℕ, zero, suc, leb, eqb, Bytes, pick}
+use Rattle.std.specs.Prelude.{◌&&◌}
+use Rattle.terms.specs.Words.{Option, none, some, Bool, true, false, ℕ, zero, suc, leb, eqb, Bytes, pick}
 
 -- a row begins at the sum so far, and has not too many
 abbrev pub run_fits : (sum begin size : ℕ) → Bool

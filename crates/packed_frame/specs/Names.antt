@@ -1,6 +1,6 @@
 -- Executable: numbers of two bytes, names, and records that end with a name. Assumes nothing.
-use Rattle.terms.specs.Words.{ℕ, ◌+◌, leb, eqb, length, take, drop, Bytes, pick}
-use Rattle.std.specs.Prelude.{get_or}
+use Rattle.terms.specs.Words.{ℕ, leb, eqb, length, take, drop, Bytes, pick}
+use Rattle.std.specs.Prelude.{get_or, ◌+◌}
 use Rattle.scan.specs.Allowed.{field_byte, all}
 use Rattle.packed_rows.specs.Walk.{two}
 

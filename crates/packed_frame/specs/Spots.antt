@@ -1,5 +1,6 @@
 -- Executable: records of spots, each first point where its zone has it. Assumes nothing.
-use Rattle.terms.specs.Words.{Bool, false, ◌&&◌, ◌||◌, ℕ, ◌+◌, ◌*◌, leb, eqb, drop, Bytes, pick}
+use Rattle.std.specs.Prelude.{◌&&◌, ◌||◌, ◌+◌, ◌*◌}
+use Rattle.terms.specs.Words.{Bool, false, ℕ, leb, eqb, drop, Bytes, pick}
 use Rattle.packed_rows.specs.Fixed.{record_here}
 use Rattle.packed_rows.specs.Points.{four_at_of}
 use Rattle.packed_frame.specs.Names.{two_at, named_end}

@@ -1,5 +1,6 @@
 -- Executable: records of zones, their numbers in range, each first point and first spot the sum so far. Assumes nothing.
-use Rattle.terms.specs.Words.{Option, none, some, Bool, not, ◌&&◌, ◌||◌, ℕ, ◌+◌, leb, eqb, Bytes, pick}
+use Rattle.std.specs.Prelude.{◌&&◌, ◌||◌, ◌+◌}
+use Rattle.terms.specs.Words.{Option, none, some, Bool, not, ℕ, leb, eqb, Bytes, pick}
 use Rattle.packed_rows.specs.Points.{four_at_of}
 use Rattle.packed_frame.specs.Names.{two_at, named_end}
 use Rattle.packed_frame.specs.Named.{run_fits, walk}

@@ -1,7 +1,7 @@
 -- WHAT A READER MUST BELIEVE. The packed form of a network: the rows of its tables as records; where names lie in it; and what 27 and 28 ask. Document 02, L11 and L12; docs/PACKED.md has the same as a table. Assumes nothing.
-use Rattle.terms.specs.Words.{◌≡◌, List, [], ◌∷◌, ◌++◌, map, Option, none, some, ℕ, ◌+◌, ◌-◌, ◌<◌, length, ℤ, pos, Bytes}
+use Rattle.terms.specs.Words.{List, [], map, Option, none, some, ℕ, length, ℤ, pos, Bytes}
 use mathlib.Core.List.{zip_with}
-use Rattle.std.specs.Prelude.{negsuc}
+use Rattle.std.specs.Prelude.{negsuc, ◌≡◌, ◌∷◌, ◌++◌, ◌+◌, ◌-◌, ◌<◌}
 use Rattle.line.specs.Line.{Field}
 use Rattle.output.specs.Packed.{big_endian}
 use Rattle.law.specs.Network.{Network}

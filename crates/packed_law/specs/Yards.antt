@@ -1,5 +1,6 @@
 -- WHAT A READER MUST BELIEVE. Yard A and its packed form, byte for byte, a record to a line (docs/PACKED.md has it in hexadecimal). Document 02, L11 and L12. Assumes nothing.
-use Rattle.terms.specs.Words.{[], ◌∷◌, none, ℕ, pos, neg_ℤ, Bytes, ascii}
+use Rattle.std.specs.Prelude.{◌∷◌}
+use Rattle.terms.specs.Words.{[], none, ℕ, pos, neg_ℤ, Bytes, ascii}
 use Rattle.line.specs.Line.{Field}
 use Rattle.law.specs.Network.{Position, Network}
 

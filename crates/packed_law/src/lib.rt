@@ -5,4 +5,3 @@
 //
 // Rests on `law`, `output` (numbers, the high byte first) and what they rest on. Settled: a packed form is a function of the network.
 #![tactic(auto)]
-

@@ -1,5 +1,6 @@
 -- Executable: records of exits, each with an entry. key: the first point of each spot; n: how many spots; end: the first zone point. Assumes nothing.
-use Rattle.terms.specs.Words.{Bool, true, false, ℕ, zero, suc, ◌+◌, ◌-◌, ◌/◌, leb, ltb, drop, Bytes, pick}
+use Rattle.std.specs.Prelude.{◌+◌, ◌-◌, ◌/◌}
+use Rattle.terms.specs.Words.{Bool, true, false, ℕ, zero, suc, leb, ltb, drop, Bytes, pick}
 use Rattle.packed_rows.specs.Fixed.{record_here}
 use Rattle.packed_rows.specs.Points.{four_at_of}
 

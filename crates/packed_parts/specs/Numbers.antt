@@ -1,5 +1,6 @@
 -- Executable: records of checkpoints, whose numbers are in range and different. Assumes nothing.
-use Rattle.terms.specs.Words.{List, [], ◌∷◌, ◌++◌, Bool, true, false, not, ℕ, zero, suc, ◌+◌, ◌/◌, drop, Bytes, pick}
+use Rattle.std.specs.Prelude.{◌∷◌, ◌++◌, ◌+◌, ◌/◌}
+use Rattle.terms.specs.Words.{List, [], Bool, true, false, not, ℕ, zero, suc, drop, Bytes, pick}
 use Rattle.units.specs.Made.{within}
 use Rattle.fill.specs.FirstFaults.{is_among}
 use Rattle.marks.specs.Marks.{Marks, is_marked_of}

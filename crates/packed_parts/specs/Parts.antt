@@ -1,5 +1,6 @@
 -- Executable: every checkpoint, stop and exit is its part's, part by part in file order. key: what a row of the table at hand says; n: how many rows it has; i: the row next in turn. Assumes nothing.
-use Rattle.terms.specs.Words.{Bool, true, false, ℕ, zero, suc, ◌+◌, ◌-◌, ◌*◌, ◌/◌, leb, ltb, eqb, Bytes, pick}
+use Rattle.std.specs.Prelude.{◌+◌, ◌-◌, ◌*◌, ◌/◌}
+use Rattle.terms.specs.Words.{Bool, true, false, ℕ, zero, suc, leb, ltb, eqb, Bytes, pick}
 use Rattle.packed_rows.specs.Points.{four_at_of}
 use Rattle.packed_parts.specs.declared.Table.{Table}
 

@@ -6,4 +6,3 @@
 //
 // Rests on `row_network`, `unpackings`, `packed_rows` and what they rest on.
 #![tactic(auto)]
-

@@ -1,6 +1,6 @@
 -- WHAT A READER MUST BELIEVE. What a part that judges an accepted pair replies, and what the lent tables then hold. Requests L5 and L13. Assumes nothing.
-use Rattle.terms.specs.Words.{◌≡◌, List, ℕ, Bytes}
-use Rattle.std.specs.Prelude.{min}
+use Rattle.terms.specs.Words.{List, ℕ, Bytes}
+use Rattle.std.specs.Prelude.{min, ◌≡◌}
 use Rattle.line.specs.Line.{Field}
 use Rattle.law.specs.Network.{Network, Mission, Rules}
 use Rattle.law.specs.Tables.{Lent, MissionLent, zeros, mission_zeros}

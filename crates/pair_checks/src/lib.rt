@@ -6,4 +6,3 @@
 //
 // Rests on `replies`, `route_law`, `room` and what they rest on.
 #![tactic(auto)]
-

@@ -6,4 +6,3 @@
 //
 // Rests on `packed_tables`, `row_network`, `packed_parts` and what they rest on.
 #![tactic(auto)]
-

@@ -6,4 +6,3 @@
 //
 // Rests on `plain_parts`, `judge`, `line`, `scan` and what they rest on.
 #![tactic(auto)]
-

@@ -1,5 +1,6 @@
 -- WHAT A READER MUST BELIEVE. What is accepted, and what asking for a name gives. Document 01, "How much a contract has to say", "Tables". Assumes nothing.
-use Rattle.terms.specs.Words.{◌≡◌, [], Option, none, some, length, Bytes, Each}
+use Rattle.std.specs.Prelude.{◌≡◌}
+use Rattle.terms.specs.Words.{[], Option, none, some, length, Bytes, Each}
 use Rattle.line.specs.Line.{Field}
 use Rattle.law.specs.Network.{Network, Mission, Rules}
 use Rattle.law.specs.Tables.{Lent, MissionLent, filled, mission_filled}

@@ -1,5 +1,6 @@
 -- WHAT A READER MUST BELIEVE. The table of yard A's nine cases, and what it is that a text, or a pair, is refused. Document 01, "Yard A"; the columns: document 02, L7; in each edition: L10. Assumes nothing.
-use Rattle.terms.specs.Words.{◌≡◌, List, [], ◌∷◌, ℕ, Bytes, Each}
+use Rattle.std.specs.Prelude.{◌≡◌, ◌∷◌}
+use Rattle.terms.specs.Words.{List, [], ℕ, Bytes, Each}
 use Rattle.edition.specs.declared.Edition.{Edition}
 use Rattle.edition.specs.declared.Edition.TheVariants.{March2007, December2006}
 use Rattle.edition.specs.Editions.{rules_of}

@@ -1,5 +1,6 @@
 -- WHAT A READER MUST BELIEVE. How many rows the lines of a text declare. Document 01, "Tables". Assumes nothing.
-use Rattle.terms.specs.Words.{List, [], ◌∷◌, Bool, false, ℕ, ◌+◌, ◌*◌, String, length, ascii, pick}
+use Rattle.std.specs.Prelude.{◌∷◌, ◌+◌, ◌*◌}
+use Rattle.terms.specs.Words.{List, [], Bool, false, ℕ, String, length, ascii, pick}
 use Rattle.scan.specs.Reach.{same_bytes_of}
 use Rattle.law.specs.Network.{Said, Line, word, name, numbers, coordinate, boundary}
 use Rattle.law.specs.Tables.{gather, total}

@@ -1,5 +1,6 @@
 -- WHAT A READER MUST BELIEVE. What the refusal numbers tell of a text. Document 01, "Refusal numbers"; document 02, L7. Assumes nothing.
-use Rattle.terms.specs.Words.{◌≡◌, List, ◌∷◌, ◌++◌, ◌⊎◌, ℕ, suc, length, Bytes}
+use Rattle.std.specs.Prelude.{◌≡◌, ◌∷◌, ◌++◌, ◌⊎◌}
+use Rattle.terms.specs.Words.{List, ℕ, suc, length, Bytes}
 use Rattle.line.specs.Line.{Cut, Field}
 use Rattle.refusal.specs.Numbers.{OfForm, OfReference}
 use Rattle.law.specs.Network.{Network, Line, Rules, SpellsText}

@@ -7,4 +7,3 @@
 //
 // Rests on `reader` and what it rests on.
 #![tactic(auto)]
-

@@ -1,6 +1,6 @@
 -- WHAT A READER MUST BELIEVE. That both parts agree, as a statement of their contracts. Request L13: "Prove with it that L5 has a good route exactly when this, given the room, accepts." No contract rests on it. Assumes nothing.
-use Rattle.std.specs.Prelude.{◌↔◌}
-use Rattle.terms.specs.Words.{List, ℕ, ◌≤◌, length, Bytes}
+use Rattle.std.specs.Prelude.{◌↔◌, ◌≤◌}
+use Rattle.terms.specs.Words.{List, ℕ, length, Bytes}
 use Rattle.law.specs.Network.{Rules}
 use Rattle.law.specs.Tables.{Lent, MissionLent}
 use Rattle.route_law.specs.Moves.{points_declared}

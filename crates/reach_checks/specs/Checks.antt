@@ -1,5 +1,6 @@
 -- WHAT A READER MUST BELIEVE. What is replied to the question whether a mission can be driven, and what all that was lent then holds. Request L13. Assumes nothing.
-use Rattle.terms.specs.Words.{◌≡◌, List, ℕ, length, replicate, Bytes}
+use Rattle.std.specs.Prelude.{◌≡◌}
+use Rattle.terms.specs.Words.{List, ℕ, length, replicate, Bytes}
 use Rattle.line.specs.Line.{Field}
 use Rattle.law.specs.Network.{Network, Rules}
 use Rattle.law.specs.Tables.{Lent, MissionLent}

@@ -1,5 +1,6 @@
 -- WHAT A READER MUST BELIEVE. When the goals of a mission can be reached one after the other, and what is wrong otherwise. Request L13, "Can the mission be driven at all?". Assumes nothing.
-use Rattle.terms.specs.Words.{◌≡◌, List, [], ◌∷◌, ◌++◌, ℕ, ◌≤◌, ◌<◌, length}
+use Rattle.std.specs.Prelude.{◌≡◌, ◌∷◌, ◌++◌, ◌≤◌, ◌<◌}
+use Rattle.terms.specs.Words.{List, [], ℕ, length}
 
 -- L13: "With the moves of L5". Points are told by their rows in the point table, from 0
 module _ (Move : ℕ → ℕ → Type 0) where

@@ -1,6 +1,6 @@
 -- WHAT A READER MUST BELIEVE. The words of each refusal number: those of docs/REFUSALS.md's table. Assumes nothing.
-use Rattle.std.specs.Prelude.{get_or}
-use Rattle.terms.specs.Words.{List, [], ◌∷◌, ℕ, eqb, Bytes, ascii, pick}
+use Rattle.std.specs.Prelude.{get_or, ◌∷◌}
+use Rattle.terms.specs.Words.{List, [], ℕ, eqb, Bytes, ascii, pick}
 
 -- no reply has such a number
 abbrev pub no_reason : Bytes

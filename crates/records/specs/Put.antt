@@ -1,6 +1,6 @@
 -- Executable: what is put of any tables, whatever they hold, in the order in which the program goes; every contract cites this. That it is the packed form of the network whose rows they hold is `record_tables`. Assumes nothing.
-use Rattle.terms.specs.Words.{List, [], ◌∷◌, ◌++◌, ℕ, ◌+◌, ◌%◌, length, ℤ, Bytes}
-use Rattle.std.specs.Prelude.{min}
+use Rattle.terms.specs.Words.{List, [], ℕ, length, ℤ, Bytes}
+use Rattle.std.specs.Prelude.{min, ◌∷◌, ◌++◌, ◌+◌, ◌%◌}
 use Rattle.output.specs.Packed.{big_endian}
 use Rattle.packed_law.specs.Packed.{unsigned, this_version}
 use Rattle.rows.specs.declared.Stretch.{Stretch}

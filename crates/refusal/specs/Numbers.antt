@@ -1,5 +1,6 @@
 -- Which refusal numbers say what. Document 01, "Refusal numbers". Assumes nothing.
-use Rattle.terms.specs.Words.{◌≡◌, ℕ, Between}
+use Rattle.std.specs.Prelude.{◌≡◌}
+use Rattle.terms.specs.Words.{ℕ, Between}
 
 -- 01: "A line's \"form\" is 2 to 9; size, room and references are apart from it."
 pub data OfForm (number : ℕ) : Type 0 where

@@ -6,7 +6,6 @@
 // Rests on `terms`.
 #![tactic(auto)]
 
-
 // 1: a text over so many bytes.
 pub const LONGEST_TEXT: usize = 16777215;
 

@@ -1,5 +1,6 @@
 -- WHAT A READER MUST BELIEVE. What the entry points reply, and what the lent tables then hold. Document 01, "Refusal numbers", "Tables"; document 02, L7. Assumes nothing.
-use Rattle.terms.specs.Words.{◌≡◌, List, Option, none, some, ℕ, ◌≤◌, ◌<◌, length, Bytes}
+use Rattle.std.specs.Prelude.{◌≡◌, ◌≤◌, ◌<◌}
+use Rattle.terms.specs.Words.{List, Option, none, some, ℕ, length, Bytes}
 use Rattle.line.specs.Line.{Field}
 use Rattle.law.specs.Network.{Network, Mission, Line, Rules, SpellsNetwork, SpellsMission, SpellsText}
 use Rattle.law.specs.Tables.{Lent, MissionLent, segment_rows, lane_rows_of, zone_rows, spot_rows, point_rows, checkpoint_rows, stop_rows, exit_rows, HasRoom, MissionHasRoom, filled, mission_filled, zeros, mission_zeros}

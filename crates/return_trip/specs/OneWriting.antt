@@ -1,5 +1,6 @@
 -- WHAT A READER MUST BELIEVE. One house writing: networks, and missions, that are the same apart from their dates have equal writings. Document 01, "House writing"; document 02, L12. Assumes nothing.
-use Rattle.terms.specs.Words.{◌≡◌, Bytes}
+use Rattle.std.specs.Prelude.{◌≡◌}
+use Rattle.terms.specs.Words.{Bytes}
 use Rattle.line.specs.Line.{Field}
 use Rattle.law.specs.Network.{Network, Mission}
 use Rattle.same.specs.Same.{SameNetwork, SameMission}

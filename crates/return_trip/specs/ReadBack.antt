@@ -1,5 +1,6 @@
 -- WHAT A READER MUST BELIEVE. The return trip over the contracts: what was written is read again as the same network, or mission, with as many rows. Document 01, "House writing"; "A network or mission is its tables with each name's bytes in place of start and length." Assumes nothing.
-use Rattle.terms.specs.Words.{◌≡◌, ◌≤◌, ◌/◌, none, length, Bytes}
+use Rattle.std.specs.Prelude.{◌≡◌, ◌≤◌, ◌/◌}
+use Rattle.terms.specs.Words.{none, length, Bytes}
 use Rattle.line.specs.Content.{Field}
 use Rattle.grammar.specs.Network.{Network}
 use Rattle.grammar.specs.Mission.{Mission}

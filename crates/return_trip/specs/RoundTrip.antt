@@ -1,5 +1,6 @@
 -- WHAT A READER MUST BELIEVE. THE RETURN TRIP: what is replied, and left in the lent tables, where what was written of a text is read into the same tables. Document 01, "House writing"; "A network or mission is its tables with each name's bytes in place of start and length." Assumes nothing.
-use Rattle.terms.specs.Words.{◌≡◌, List, ◌∷◌, ◌++◌, none, ℕ, length, replicate, Bytes}
+use Rattle.std.specs.Prelude.{◌≡◌, ◌∷◌, ◌++◌}
+use Rattle.terms.specs.Words.{List, none, ℕ, length, replicate, Bytes}
 use Rattle.law.specs.Network.{Rules}
 use Rattle.law.specs.Tables.{Lent, MissionLent}
 use Rattle.rows.specs.declared.FileRow.{FileRow}

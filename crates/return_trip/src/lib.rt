@@ -8,4 +8,3 @@
 //
 // Rests on `writings` and `replies` (the contracts), `house_text` (the house writing and what it spells), `promises`, `same` (when networks are the same) and what these rest on.
 #![tactic(auto)]
-

@@ -1,6 +1,6 @@
 -- Executable: what a route gets, read of any tables; every contract of a private function cites this. That it is the law's answer where the tables are those of an accepted pair is proofs/Lawful. Assumes nothing.
-use Rattle.terms.specs.Words.{List, ℕ, zero, suc, ◌-◌, Bool, true, false, length, eqb, ltb, pick}
-use Rattle.std.specs.Prelude.{get_or}
+use Rattle.terms.specs.Words.{List, ℕ, zero, suc, Bool, true, false, length, eqb, ltb, pick}
+use Rattle.std.specs.Prelude.{get_or, ◌-◌}
 use Rattle.counts.specs.declared.Counts.{Counts}
 use Rattle.counts.specs.declared.MissionCounts.{MissionCounts}
 use Rattle.room.specs.Room.{fitted}

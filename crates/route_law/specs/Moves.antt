@@ -1,5 +1,6 @@
 -- WHAT A READER MUST BELIEVE. What a move is, and the points of a mission's goals. Request L5, "Is this route drivable?". Points are told by their rows in the point table, from 0: "routes as lists of point indexes". Assumes nothing.
-use Rattle.terms.specs.Words.{◌≡◌, List, [], ◌∷◌, ℕ, suc, ◌+◌, ◌≤◌, ◌<◌, length, Among}
+use Rattle.std.specs.Prelude.{◌≡◌, ◌∷◌, ◌+◌, ◌≤◌, ◌<◌}
+use Rattle.terms.specs.Words.{List, [], ℕ, suc, length, Among}
 use Rattle.line.specs.Line.{Field}
 use Rattle.law.specs.Network.{Network, Mission}
 use Rattle.law.specs.Tables.{gather, lane_size, zone_size, placed_lanes, placed_zones, point_rows, checkpoint_rows, exit_rows}

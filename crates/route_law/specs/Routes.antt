@@ -1,5 +1,6 @@
 -- WHAT A READER MUST BELIEVE. Which routes are good, and what is wrong with the others. Request L5, "Is this route drivable?". Assumes nothing.
-use Rattle.terms.specs.Words.{◌≡◌, List, [], ◌∷◌, ◌++◌, ℕ, zero, suc, ◌≤◌, ◌<◌, length}
+use Rattle.std.specs.Prelude.{◌≡◌, ◌∷◌, ◌++◌, ◌≤◌, ◌<◌}
+use Rattle.terms.specs.Words.{List, [], ℕ, zero, suc, length}
 use Rattle.look_up.specs.Listed.{Paired}
 
 -- this point stands at this place of the route, places from 0

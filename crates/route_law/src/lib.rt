@@ -6,4 +6,3 @@
 //
 // Rests on `law`, `look_up` (one for one: `Paired`) and what they rest on.
 #![tactic(auto)]
-

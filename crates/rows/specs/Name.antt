@@ -1,5 +1,6 @@
 -- WHAT A READER MUST BELIEVE. The bytes of a name. Assumes nothing.
-use Rattle.terms.specs.Words.{[], ◌+◌, length, take, drop, leb, pick, Bytes}
+use Rattle.std.specs.Prelude.{◌+◌}
+use Rattle.terms.specs.Words.{[], length, take, drop, leb, pick, Bytes}
 use Rattle.rows.specs.declared.Stretch.{Stretch}
 
 -- 01: "Asking for a name returns that stretch of the caller's own text, or an empty part where start and length don't fit in it."

@@ -1,5 +1,5 @@
 -- WHAT A READER MUST BELIEVE. When two networks (from the law) and two missions are the same; the theorems of the return trip speak of both. Assumes nothing.
-use Rattle.terms.specs.Words.{◌≡◌}
+use Rattle.std.specs.Prelude.{◌≡◌}
 use Rattle.line.specs.Line.{Field}
 use Rattle.law.specs.Network.{Mission}
 use Rattle.grammar.specs.Names.{mission_named}

@@ -4,4 +4,3 @@
 //
 // Rests on `grammar` (names told in another way), `text` (a name as its bytes) and what they rest on.
 #![tactic(auto)]
-

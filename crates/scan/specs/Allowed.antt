@@ -1,5 +1,6 @@
 -- WHAT A READER MUST BELIEVE. Which bytes separate fields, which are allowed outside and inside comments. Assumes nothing.
-use Rattle.terms.specs.Words.{[], ◌∷◌, Bool, true, not, ◌&&◌, ◌||◌, ℕ, code, eqb, leb, Bytes}
+use Rattle.std.specs.Prelude.{◌∷◌, ◌&&◌, ◌||◌}
+use Rattle.terms.specs.Words.{[], Bool, true, not, ℕ, code, eqb, leb, Bytes}
 
 -- the numbers from m to n
 abbrev pub within : ℕ → ℕ → ℕ → Bool

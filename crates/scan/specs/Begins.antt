@@ -1,5 +1,6 @@
 -- WHAT A READER MUST BELIEVE. How bytes begin, and whether they are the same; for mending (L9), which goes by lines that no reader takes. Assumes nothing.
-use Rattle.terms.specs.Words.{[], ◌∷◌, Bool, true, false, ◌&&◌, ℕ, eqb, Bytes}
+use Rattle.std.specs.Prelude.{◌∷◌, ◌&&◌}
+use Rattle.terms.specs.Words.{[], Bool, true, false, ℕ, eqb, Bytes}
 
 -- it begins with a byte that passes
 unfoldable pub begins : (ℕ → Bool) → Bytes → Bool

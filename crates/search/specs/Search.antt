@@ -1,7 +1,7 @@
 -- Executable: the search that marks every point to which one move or more lead from a point, a word to each: 0 not reached; 1 reached beside another; else put on a stack when its top was so much less 2 (0: nothing, else a point + 1).
 -- Every store goes to a word that is 0, so that a link once written never changes. Assumes nothing.
-use Rattle.terms.specs.Words.{List, [], ◌∷◌, ◌++◌, Bool, not, ℕ, zero, suc, pred, ◌+◌, ◌-◌, ◌*◌, length, replicate, eqb, ltb, leb, pick}
-use Rattle.std.specs.Prelude.{get_or, set}
+use Rattle.terms.specs.Words.{List, [], Bool, not, ℕ, zero, suc, pred, length, replicate, eqb, ltb, leb, pick}
+use Rattle.std.specs.Prelude.{get_or, set, ◌∷◌, ◌++◌, ◌+◌, ◌-◌, ◌*◌}
 use Rattle.rows.specs.Strides.{exit_stride}
 use Rattle.counts.specs.declared.Counts.{Counts}
 use Rattle.moves.specs.declared.Part.{Part}

@@ -1,6 +1,6 @@
 -- WHAT A READER MUST BELIEVE. A line of a text as planners see it, with a caret under one byte; a byte that is not allowed in words; a text's first word. Assumes nothing.
-use Rattle.std.specs.Prelude.{get_or}
-use Rattle.terms.specs.Words.{List, [], ◌∷◌, ◌++◌, Bool, ◌||◌, ℕ, ◌+◌, ◌-◌, ◌/◌, ◌%◌, length, take, eqb, ltb, Bytes, ascii, pick}
+use Rattle.std.specs.Prelude.{get_or, ◌∷◌, ◌++◌, ◌||◌, ◌+◌, ◌-◌, ◌/◌, ◌%◌}
+use Rattle.terms.specs.Words.{List, [], Bool, ℕ, length, take, eqb, ltb, Bytes, ascii, pick}
 use Rattle.scan.specs.Allowed.{inside}
 use Rattle.scan.specs.Begins.{same_bytes_of}
 use Rattle.line.specs.Line.{Field}

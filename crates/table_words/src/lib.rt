@@ -11,4 +11,3 @@
 //
 // Rests on `rows` and `units` (the typed rows and how they lie), `fill` and `grammar` (the tables), `text`, `line`, `made_out` and `statement` (names and their places).
 #![tactic(auto)]
-

@@ -6,4 +6,3 @@
 //
 // Rests on `terms`, `scan`, `line`, `number`, `coordinate`, `word` and `grammar`.
 #![tactic(auto)]
-

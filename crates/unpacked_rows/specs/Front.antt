@@ -1,5 +1,6 @@
 -- Executable: the tests of 27 and 28. Assumes nothing.
-use Rattle.terms.specs.Words.{[], ◌∷◌, Bool, false, ◌-◌, leb, eqb, length, drop, Bytes, pick}
+use Rattle.std.specs.Prelude.{◌∷◌, ◌-◌}
+use Rattle.terms.specs.Words.{[], Bool, false, leb, eqb, length, drop, Bytes, pick}
 use Rattle.packed_rows.specs.Walk.{walked}
 use Rattle.packed_rows.specs.Points.{four_at_of}
 

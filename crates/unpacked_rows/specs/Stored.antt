@@ -1,5 +1,6 @@
 -- Executable: the rows of records that stand one behind the other, and what tables hold once these are stored. Assumes nothing.
-use Rattle.terms.specs.Words.{List, [], ◌∷◌, ℕ, zero, suc, ℤ, Bytes}
+use Rattle.std.specs.Prelude.{◌∷◌}
+use Rattle.terms.specs.Words.{List, [], ℕ, zero, suc, ℤ, Bytes}
 use Rattle.law.specs.Tables.{Lent}
 use Rattle.rows.specs.Columns.{segment_words_of, lane_words_of, zone_words_of, spot_words_of, point_words_of, checkpoint_words_of, stop_words_of, exit_words_of}
 use Rattle.rows.specs.Strides.{segment_stride, lane_stride, zone_stride, spot_stride, point_stride, checkpoint_stride, stop_stride, exit_stride}

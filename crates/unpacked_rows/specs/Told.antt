@@ -1,6 +1,6 @@
 -- Executable: the row that the record at a place tells, table by table (docs/PACKED.md), and where the next one stands. A number that is not in the bytes is 0. Assumes nothing.
-use Rattle.terms.specs.Words.{ℕ, zero, suc, ◌+◌, ◌-◌, ◌/◌, ◌%◌, leb, ltb, length, ℤ, pos, Bytes, pick}
-use Rattle.std.specs.Prelude.{negsuc}
+use Rattle.terms.specs.Words.{ℕ, zero, suc, leb, ltb, length, ℤ, pos, Bytes, pick}
+use Rattle.std.specs.Prelude.{negsuc, ◌+◌, ◌-◌, ◌/◌, ◌%◌}
 use Rattle.units.specs.Made.{feet, checkpoint_number_of}
 use Rattle.rows.specs.declared.Stretch.{Stretch}
 use Rattle.rows.specs.declared.SegmentRow.{SegmentRow}

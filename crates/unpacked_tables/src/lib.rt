@@ -6,4 +6,3 @@
 //
 // Rests on `packed_tables`, `unpacked_rows`, `law_tables`, `table_words` and what they rest on.
 #![tactic(auto)]
-

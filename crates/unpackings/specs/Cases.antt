@@ -1,5 +1,6 @@
 -- WHAT A READER MUST BELIEVE. Bytes that are refused, and with what number, whatever is lent; yard A's form, where there is room for its rows and where there is not. Document 02, L11 and L12. Assumes nothing.
-use Rattle.terms.specs.Words.{◌≡◌, List, [], ◌∷◌, ◌++◌, ℕ, ◌<◌, length, take, drop, Bytes, Each}
+use Rattle.std.specs.Prelude.{◌≡◌, ◌∷◌, ◌++◌, ◌<◌}
+use Rattle.terms.specs.Words.{List, [], ℕ, length, take, drop, Bytes, Each}
 use Rattle.law.specs.Tables.{Lent, HasRoom, filled, zeros}
 use Rattle.packed_law.specs.Yards.{yard_a, form_a}
 use Rattle.rows.specs.declared.FileRow.{FileRow}

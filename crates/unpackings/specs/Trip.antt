@@ -1,5 +1,6 @@
 -- WHAT A READER MUST BELIEVE. What is promised of packing and unpacking beside their contracts. Document 02, L11 and L12. Assumes nothing.
-use Rattle.terms.specs.Words.{◌≡◌, ℕ, ◌≤◌, length, take, Bytes}
+use Rattle.std.specs.Prelude.{◌≡◌, ◌≤◌}
+use Rattle.terms.specs.Words.{ℕ, length, take, Bytes}
 use Rattle.line.specs.Line.{Field}
 use Rattle.law.specs.Network.{Network, Rules, SpellsNetwork, SpellsText}
 use Rattle.law.specs.Tables.{Lent, HasRoom, filled}

@@ -1,5 +1,6 @@
 -- WHAT A READER MUST BELIEVE. What unpacking replies, and what the lent tables then hold. Document 02, L11 and L12. Assumes nothing.
-use Rattle.terms.specs.Words.{◌≡◌, none, ℕ, ◌≤◌, ◌<◌, length, Bytes}
+use Rattle.std.specs.Prelude.{◌≡◌, ◌≤◌, ◌<◌}
+use Rattle.terms.specs.Words.{none, ℕ, length, Bytes}
 use Rattle.line.specs.Line.{Field}
 use Rattle.law.specs.Network.{Network, present, SpellsNetwork, SpellsText}
 use Rattle.law.specs.Tables.{Lent, HasRoom, filled, zeros}

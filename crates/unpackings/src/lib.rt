@@ -7,4 +7,3 @@
 //
 // Rests on `packed_law`, `writings`, `replies`, `same`, `promises` and what they rest on.
 #![tactic(auto)]
-

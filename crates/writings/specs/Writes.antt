@@ -1,5 +1,6 @@
 -- WHAT A READER MUST BELIEVE. What the writers reply, and what the lent tables and the lent output then hold. Assumes nothing.
-use Rattle.terms.specs.Words.{◌≡◌, ℕ, length, Bytes}
+use Rattle.std.specs.Prelude.{◌≡◌}
+use Rattle.terms.specs.Words.{ℕ, length, Bytes}
 use Rattle.line.specs.Line.{Field}
 use Rattle.law.specs.Network.{Network, Rules}
 use Rattle.law.specs.Tables.{Lent, MissionLent, filled, mission_filled, zeros, mission_zeros}

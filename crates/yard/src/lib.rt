@@ -550,12 +550,7 @@ pub fn kastepuhm_read_packed(
 }
 
 // An RNDF with three kinds of trouble mended, into `out`; a row of `list` for each changed line.
-pub fn kastepuhm_mend(
-    edition: u32,
-    text: &[u8],
-    list: &mut [u32],
-    out: &mut [u8],
-) -> MendAnswer
+pub fn kastepuhm_mend(edition: u32, text: &[u8], list: &mut [u32], out: &mut [u8]) -> MendAnswer
     ensures { AnswersMend (edition_numbered edition) text.now list.old (length out.old) result list.new out.new }
 {
     let by = edition_of(edition);
@@ -571,11 +566,7 @@ pub fn kastepuhm_point_of(checkpoints: &[u32], number: u32) -> u32
 }
 
 // The point of each checkpoint number of a list, in its place.
-pub fn kastepuhm_points_of(
-    checkpoints: &[u32],
-    numbers: &[u32],
-    points: &mut [u32],
-) -> ListAnswer
+pub fn kastepuhm_points_of(checkpoints: &[u32], numbers: &[u32], points: &mut [u32]) -> ListAnswer
     ensures { AnswersList checkpoints.now numbers.now (length points.old) result points.new }
 {
     let reply = points_of(checkpoints, numbers, points);

@@ -35,7 +35,18 @@ pub extern "C" fn kastepuhm_read_rndf(
 ) -> Answer
     ensures { AnswersRndf (edition_numbered edition) text.now (lent segments.old lanes.old zones.old spots.old points.old checkpoints.old stops.old exits.old) result (lent segments.new lanes.new zones.new spots.new points.new checkpoints.new stops.new exits.new) }
 {
-    yard::kastepuhm_read_rndf(edition, text, segments, lanes, zones, spots, points, checkpoints, stops, exits)
+    yard::kastepuhm_read_rndf(
+        edition,
+        text,
+        segments,
+        lanes,
+        zones,
+        spots,
+        points,
+        checkpoints,
+        stops,
+        exits,
+    )
 }
 
 // An RNDF with its MDF.
@@ -57,7 +68,21 @@ pub extern "C" fn kastepuhm_read_pair(
 ) -> Answer
     ensures { AnswersPair (edition_numbered edition) rndf.now mdf.now (lent segments.old lanes.old zones.old spots.old points.old checkpoints.old stops.old exits.old) (mission_lent goals.old limits.old) result (lent segments.new lanes.new zones.new spots.new points.new checkpoints.new stops.new exits.new) (mission_lent goals.new limits.new) }
 {
-    yard::kastepuhm_read_pair(edition, rndf, mdf, segments, lanes, zones, spots, points, checkpoints, stops, exits, goals, limits)
+    yard::kastepuhm_read_pair(
+        edition,
+        rndf,
+        mdf,
+        segments,
+        lanes,
+        zones,
+        spots,
+        points,
+        checkpoints,
+        stops,
+        exits,
+        goals,
+        limits,
+    )
 }
 
 // A route over an RNDF with its MDF, from a start: is it drivable?
@@ -81,7 +106,23 @@ pub extern "C" fn kastepuhm_check_route(
 ) -> Answer
     ensures { AnswersRoute (edition_numbered edition) start route.now rndf.now mdf.now (lent segments.old lanes.old zones.old spots.old points.old checkpoints.old stops.old exits.old) (mission_lent goals.old limits.old) result (lent segments.new lanes.new zones.new spots.new points.new checkpoints.new stops.new exits.new) (mission_lent goals.new limits.new) }
 {
-    yard::kastepuhm_check_route(edition, rndf, mdf, segments, lanes, zones, spots, points, checkpoints, stops, exits, goals, limits, start, route)
+    yard::kastepuhm_check_route(
+        edition,
+        rndf,
+        mdf,
+        segments,
+        lanes,
+        zones,
+        spots,
+        points,
+        checkpoints,
+        stops,
+        exits,
+        goals,
+        limits,
+        start,
+        route,
+    )
 }
 
 // The mission of an RNDF with its MDF, from a start: can it be driven at all?
@@ -105,7 +146,23 @@ pub extern "C" fn kastepuhm_check_mission(
 ) -> Answer
     ensures { AnswersMission (edition_numbered edition) start rndf.now mdf.now (lent segments.old lanes.old zones.old spots.old points.old checkpoints.old stops.old exits.old) (mission_lent goals.old limits.old) work.old result (lent segments.new lanes.new zones.new spots.new points.new checkpoints.new stops.new exits.new) (mission_lent goals.new limits.new) work.new }
 {
-    yard::kastepuhm_check_mission(edition, rndf, mdf, segments, lanes, zones, spots, points, checkpoints, stops, exits, goals, limits, start, work)
+    yard::kastepuhm_check_mission(
+        edition,
+        rndf,
+        mdf,
+        segments,
+        lanes,
+        zones,
+        spots,
+        points,
+        checkpoints,
+        stops,
+        exits,
+        goals,
+        limits,
+        start,
+        work,
+    )
 }
 
 // The house writing of an RNDF, into `out`.
@@ -125,7 +182,19 @@ pub extern "C" fn kastepuhm_write_rndf(
 ) -> WriteAnswer
     ensures { AnswersWrite (edition_numbered edition) HouseRndf text.now (lent segments.old lanes.old zones.old spots.old points.old checkpoints.old stops.old exits.old) (length out.old) result (lent segments.new lanes.new zones.new spots.new points.new checkpoints.new stops.new exits.new) out.new }
 {
-    yard::kastepuhm_write_rndf(edition, text, segments, lanes, zones, spots, points, checkpoints, stops, exits, out)
+    yard::kastepuhm_write_rndf(
+        edition,
+        text,
+        segments,
+        lanes,
+        zones,
+        spots,
+        points,
+        checkpoints,
+        stops,
+        exits,
+        out,
+    )
 }
 
 // The map of an RNDF's network, into `out`.
@@ -145,7 +214,19 @@ pub extern "C" fn kastepuhm_write_map(
 ) -> WriteAnswer
     ensures { AnswersWrite (edition_numbered edition) MapOf text.now (lent segments.old lanes.old zones.old spots.old points.old checkpoints.old stops.old exits.old) (length out.old) result (lent segments.new lanes.new zones.new spots.new points.new checkpoints.new stops.new exits.new) out.new }
 {
-    yard::kastepuhm_write_map(edition, text, segments, lanes, zones, spots, points, checkpoints, stops, exits, out)
+    yard::kastepuhm_write_map(
+        edition,
+        text,
+        segments,
+        lanes,
+        zones,
+        spots,
+        points,
+        checkpoints,
+        stops,
+        exits,
+        out,
+    )
 }
 
 // The packed form of an RNDF's network, into `out`.
@@ -165,7 +246,19 @@ pub extern "C" fn kastepuhm_write_packed(
 ) -> WriteAnswer
     ensures { AnswersWrite (edition_numbered edition) PackedOf text.now (lent segments.old lanes.old zones.old spots.old points.old checkpoints.old stops.old exits.old) (length out.old) result (lent segments.new lanes.new zones.new spots.new points.new checkpoints.new stops.new exits.new) out.new }
 {
-    yard::kastepuhm_write_packed(edition, text, segments, lanes, zones, spots, points, checkpoints, stops, exits, out)
+    yard::kastepuhm_write_packed(
+        edition,
+        text,
+        segments,
+        lanes,
+        zones,
+        spots,
+        points,
+        checkpoints,
+        stops,
+        exits,
+        out,
+    )
 }
 
 // The house writing of the MDF of a pair, into `out`.
@@ -188,7 +281,22 @@ pub extern "C" fn kastepuhm_write_mdf(
 ) -> WriteAnswer
     ensures { AnswersWriteMdf (edition_numbered edition) rndf.now mdf.now (lent segments.old lanes.old zones.old spots.old points.old checkpoints.old stops.old exits.old) (mission_lent goals.old limits.old) (length out.old) result (lent segments.new lanes.new zones.new spots.new points.new checkpoints.new stops.new exits.new) (mission_lent goals.new limits.new) out.new }
 {
-    yard::kastepuhm_write_mdf(edition, rndf, mdf, segments, lanes, zones, spots, points, checkpoints, stops, exits, goals, limits, out)
+    yard::kastepuhm_write_mdf(
+        edition,
+        rndf,
+        mdf,
+        segments,
+        lanes,
+        zones,
+        spots,
+        points,
+        checkpoints,
+        stops,
+        exits,
+        goals,
+        limits,
+        out,
+    )
 }
 
 // A packed network: names have their places in the packed bytes.
@@ -206,7 +314,17 @@ pub extern "C" fn kastepuhm_read_packed(
 ) -> Answer
     ensures { AnswersUnpack bytes.now (lent segments.old lanes.old zones.old spots.old points.old checkpoints.old stops.old exits.old) result (lent segments.new lanes.new zones.new spots.new points.new checkpoints.new stops.new exits.new) }
 {
-    yard::kastepuhm_read_packed(bytes, segments, lanes, zones, spots, points, checkpoints, stops, exits)
+    yard::kastepuhm_read_packed(
+        bytes,
+        segments,
+        lanes,
+        zones,
+        spots,
+        points,
+        checkpoints,
+        stops,
+        exits,
+    )
 }
 
 // An RNDF with three kinds of trouble mended, into `out`; a row of `list` for each changed line.

@@ -79,17 +79,17 @@ further c =
     let h = c.loop-from-test.true in
     let few : length s < 4294967296 = omega (arith, l.invariant.6) in
     elim c.match-line_said.branch [
-      in-Blank w ↦
-        let e = w.in-Blank.e in
-        let says : LineSays made.result s l.from l.place (Line.Blank e) = rw w.in-Blank.is at (c.line_said.ensures h few) in
-        let i = within s l.from e h says.0 in
-        (omega (arith, w.from-is), omega (arith, w.from-is))
-    | in-Filled+in-Is w ↦
-        let filled : Says made.result s l.from l.place w.in-Filled.said = rw w.in-Filled.is at (c.line_said.ensures h few) in
-        let k = w.in-Is in
-        let says : Says made.result s l.from l.place (Said.Is k.s k.q k.e) = rw k.is at filled in
-        let i = within s l.from k.e h says.0 in
-        (omega (arith, w.from-is), omega (arith, w.from-is))
+      | in-Blank w ↦
+          let e = w.in-Blank.e in
+          let says : LineSays made.result s l.from l.place (Line.Blank e) = rw w.in-Blank.is at (c.line_said.ensures h few) in
+          let i = within s l.from e h says.0 in
+          (omega (arith, w.from-is), omega (arith, w.from-is))
+      | in-Filled+in-Is w ↦
+          let filled : Says made.result s l.from l.place w.in-Filled.said = rw w.in-Filled.is at (c.line_said.ensures h few) in
+          let k = w.in-Is in
+          let says : Says made.result s l.from l.place (Said.Is k.s k.q k.e) = rw k.is at filled in
+          let i = within s l.from k.e h says.0 in
+          (omega (arith, w.from-is), omega (arith, w.from-is))
     ]
 
 pub loop-from-smaller : goal.loop-from-smaller
@@ -104,33 +104,33 @@ loop-from-preserved c =
     let few : length s < 4294967296 = omega (arith, l.invariant.6) in
     let on = further (goal.at.loop-from-preserved c).Joined-line_said in
     elim c.match-line_said.branch [
-      in-Blank w ↦
-        let e = w.in-Blank.e in
-        let says : LineSays made.result s l.from l.place (Line.Blank e) = rw w.in-Blank.is at (c.line_said.ensures h few) in (
-          on.1,
-          omega arith,
-          rw w.gained-is (omega (arith, l.invariant.2)),
-          rw (w.goals-is, w.limits-is, w.place-is, w.gained-is, w.from-is) (sym (blank_line_of made.result made.ensures s l.from e h says.0 l.place (memory l.gained l.goals l.limits) l.line says.1) ∙ l.invariant.3),
-          rw w.goals-is l.invariant.4,
-          rw w.limits-is l.invariant.5,
-          l.invariant.6,
-        )
-    | in-Filled+in-Is w ↦
-        let filled : Says made.result s l.from l.place w.in-Filled.said = rw w.in-Filled.is at (c.line_said.ensures h few) in
-        let k = w.in-Is in
-        let says : Says made.result s l.from l.place (Said.Is k.s k.q k.e) = rw k.is at filled in
-        let e = k.e in
-        let g = w.gather-gained in
-        let here = place l.from l.line (stretch s l.from e) in
-        let gathered = g.ensures here in (
-          on.1,
-          omega arith,
-          rw w.gained-is (omega (arith, one_more here k.s l.gained g.result l.goals l.limits g.new.goals g.new.limits gathered, l.invariant.2)),
-          rw (w.goals-is, w.limits-is, w.place-is, w.gained-is, w.from-is) (ap (λ (m : MissionMemory). rest put s k.q m (e + 1) (l.line + 1)) gathered ∙ sym (said-line made.result made.ensures s l.from e h says.0 l.place (memory l.gained l.goals l.limits) l.line k.s k.q says.1) ∙ l.invariant.3),
-          rw w.goals-is (g.auto.goals ∙ l.invariant.4),
-          rw w.limits-is (g.auto.limits ∙ l.invariant.5),
-          l.invariant.6,
-        )
+      | in-Blank w ↦
+          let e = w.in-Blank.e in
+          let says : LineSays made.result s l.from l.place (Line.Blank e) = rw w.in-Blank.is at (c.line_said.ensures h few) in (
+            on.1,
+            omega arith,
+            rw w.gained-is (omega (arith, l.invariant.2)),
+            rw (w.goals-is, w.limits-is, w.place-is, w.gained-is, w.from-is) (sym (blank_line_of made.result made.ensures s l.from e h says.0 l.place (memory l.gained l.goals l.limits) l.line says.1) ∙ l.invariant.3),
+            rw w.goals-is l.invariant.4,
+            rw w.limits-is l.invariant.5,
+            l.invariant.6,
+          )
+      | in-Filled+in-Is w ↦
+          let filled : Says made.result s l.from l.place w.in-Filled.said = rw w.in-Filled.is at (c.line_said.ensures h few) in
+          let k = w.in-Is in
+          let says : Says made.result s l.from l.place (Said.Is k.s k.q k.e) = rw k.is at filled in
+          let e = k.e in
+          let g = w.gather-gained in
+          let here = place l.from l.line (stretch s l.from e) in
+          let gathered = g.ensures here in (
+            on.1,
+            omega arith,
+            rw w.gained-is (omega (arith, one_more here k.s l.gained g.result l.goals l.limits g.new.goals g.new.limits gathered, l.invariant.2)),
+            rw (w.goals-is, w.limits-is, w.place-is, w.gained-is, w.from-is) (ap (λ (m : MissionMemory). rest put s k.q m (e + 1) (l.line + 1)) gathered ∙ sym (said-line made.result made.ensures s l.from e h says.0 l.place (memory l.gained l.goals l.limits) l.line k.s k.q says.1) ∙ l.invariant.3),
+            rw w.goals-is (g.auto.goals ∙ l.invariant.4),
+            rw w.limits-is (g.auto.limits ∙ l.invariant.5),
+            l.invariant.6,
+          )
     ]
 
 pub shape_of-goals-then-is_over : goal.shape_of-goals-then-is_over
