@@ -1,0 +1,30 @@
+-- `column::kind_field` meets its contract. Assumes nothing.
+use mathlib.Core.Path.{◌∙◌}
+use borrow.Author.Tests.{eq-eqb, ne_eqb}
+use Rattle.made_out.proofs.Whole.{needed}
+use Rattle.place_table.proofs.Verdicts.{none-refuses, refused-by}
+use Rattle.columns.specs.Locating.{kind_field_of}
+use Rattle.column.proofs.kind_field.Goals as goal
+
+pub returns-in_default : goal.returns-in_default
+unfolding kind_field_of
+returns-in_default c =
+    let r = refused-by _ _ c.refuses.result c.refuses.ensures c.in_default.is in
+    rw (← c.cell-cell.ensures, ne_eqb _ 0 r.1)
+
+pub wrong-requires : goal.wrong-requires
+wrong-requires c = c.requires.0
+
+pub returns-then-f-fields_needed : goal.returns-then-f-fields_needed
+unfolding kind_field_of
+returns-then-f-fields_needed c =
+    let few = c.fields_needed.ensures ∙ needed c.args.kind c.requires.1 in
+    let stands = none-refuses _ c.refuses.result c.refuses.ensures c.in-Taken.is in
+    rw (← c.cell-cell.ensures, eq-eqb _ 0 stands, ← few, eq-eqb _ _ c.if-f-fields_needed.true) c.wrong.ensures
+
+pub returns-else-f-fields_needed : goal.returns-else-f-fields_needed
+unfolding kind_field_of
+returns-else-f-fields_needed c =
+    let few = c.fields_needed.ensures ∙ needed c.args.kind c.requires.1 in
+    let stands = none-refuses _ c.refuses.result c.refuses.ensures c.in-Taken.is in
+    rw (← c.cell-cell.ensures, eq-eqb _ 0 stands, ← few, ne_eqb _ _ c.if-f-fields_needed.false)
