@@ -87,6 +87,8 @@ misspelt-at ed (s ∷ z ∷ ss) o low w (further {f = f} {g = g} {fs = fs} x k h
     let y = kind-read ed s w.0 (says_of ed s o.0 w.0) f x k h in
     let i = wrong_at (z ∷ ss) (λ u. true) low.1 fs in
     subst (λ (i : ℕ). FieldBehind (f ∷ fs) i g) (sym (ap (λ (o : Option (Val s)). on_read o (λ v. suc (wrong_at (z ∷ ss) (λ u. true) low.1 fs))) y.1)) (later-at f fs i g (misspelt-at ed (z ∷ ss) o.1 low.1 w.1 m))
+misspelt-at ed [] o low w {fs = fs} {g = g} x'' = elim x'' [ ]
+misspelt-at ed (s ∷ []) o low w {g = g} (further {f = f} {fs = fs} x k h m) = elim m [ ]
 
 -- also behind the keyword, where there is one
 pub misspelt-led : (ed : Edition) {L : Lang} (A : Machine L) (X : Lexis L) (ss : List Sort) → Each (SortOf ed) ss → (low w : Vals ss) (o : Option Bytes) {f : Field} {fs : List Field} {g : Field} → ((b : Bytes) → o ≡ some b → f.bytes ≡ b)

@@ -85,6 +85,7 @@ pub record Spelled {A : Type 0} (Spells : ℕ → A → List Line → Type 0) (a
 spelled_at : {A : Type 0} (Spells : ℕ → A → List Line → Type 0) {i k : ℕ} {a : A} {l : List A} {lines : List Line} → InTurn Spells i l lines → Nth k a l → Spelled Spells a
 spelled_at Spells (then {i = i} {u = u} p t) first = record { at = i; lines = u; is = p }
 spelled_at Spells (then p t) (later n) = spelled_at Spells t n
+spelled_at {A = A} Spells {k = k} {a = a} (Rattle.terms.specs.Words.nothing {i = i}) x5 = elim x5 [ ]
 
 -- a lane and a perimeter have at most as many points as a number may be
 module _ (d : Edition) (n : Network Field) (l : List Line) (h : SpellsNetwork (reading d) n l) where

@@ -62,6 +62,7 @@ among_later : (b : Boundary) → Among b (boundaries december_2006) → Among b 
 among_later b (inl e) = inl e
 among_later b (inr (inl e)) = inr (inr (inl e))
 among_later b (inr (inr (inl e))) = inr (inr (inr (inl e)))
+among_later b (inr (inr (inr x3))) = elim x3 [ ]
 
 field-later : (f : Field) (s : Said) → SpellsField december_2006 f s → SpellsField march_2007 f s
 field-later f (word w) h = h
@@ -73,6 +74,8 @@ field-later f (boundary b) h = (h.0, among_later b h.1)
 fields-later : (fs : List Field) (l : Line) → SpellFields december_2006 fs l → SpellFields march_2007 fs l
 fields-later [] [] h = h
 fields-later (f ∷ fs) (s ∷ l) h = (field-later f s h.0, fields-later fs l h.1)
+fields-later [] (s ∷ l) h = elim h [ ]
+fields-later (f ∷ fs) [] h = elim h [ ]
 
 says-later : {start : ℕ} {line : Bytes} {said : Line} → Says (reading december_2006) start line said → Says (reading march_2007) start line said
 says-later {said} s = record { content = s.content; fields = s.fields; ended = s.ended; fielded = s.fielded; spelled = fields-later s.fields said s.spelled }

@@ -9,8 +9,8 @@ use Rattle.terms.specs.Ascii.{Bytes}
 use Rattle.terms.specs.Words.{Each, perhaps}
 use Rattle.terms.proofs.Lists.{each_map, each-any, each_append}
 use Rattle.line.specs.Content.{Field}
-use Rattle.law.specs.Network.{Network, Zone, Spot, Checkpoint, Exit, Position}
-use Rattle.law.specs.Tables.{gather, total, lane_size, zone_size, all_lanes, zone_points, lane_points, first_zone_point}
+use Rattle.law.specs.Network.{Network, Segment, Lane, Zone, Spot, Checkpoint, Exit, Position}
+use Rattle.law.specs.Tables.{feet, side, gather, total, lane_size, zone_size, all_lanes, zone_points, lane_points, first_zone_point}
 use Rattle.law.specs.Along.{along, over_spots}
 use Rattle.grammar.specs.Names.{perhaps_name}
 use Rattle.grammar.proofs.Rows.{along-each, each-of_map}
@@ -77,6 +77,16 @@ pub few-long : (v : Option Field) → Few v → length (bytes_in v) ≤ 128
 few-long none h = omega arith
 few-long (some v) h = h.high
 
+-- the records of a segment, a lane and a spot, as `packed_law`/Told has them
+abbrev pub segment-record : ℕ → Segment Field → List (List Slot)
+segment-record first s = (figure 4 first ∷ figure 2 (length s.lanes) ∷ title s.name ∷ []) ∷ []
+
+abbrev pub lane-record : ℕ → Lane → List (List Slot)
+lane-record first a = (figure 4 first ∷ figure 2 (length a.points) ∷ figure 2 (feet a.width) ∷ figure 1 (side a.left) ∷ figure 1 (side a.right) ∷ []) ∷ []
+
+abbrev pub spot-record : ℕ → Spot → List (List Slot)
+spot-record first s = (figure 4 first ∷ figure 2 (feet s.width) ∷ []) ∷ []
+
 module _ (n : Network Field) (few : FewNames n) where
   short-zones : (p q : ℕ) (zs : List (Zone Field)) → Each (λ z. Few z.name) zs → Each Short (zone-records-from p q zs)
   short-zones p q [] h = tt
@@ -93,13 +103,13 @@ module _ (n : Network Field) (few : FewNames n) where
       let c = few-long n.date few.date in (
         omega arith,
         each_append Short (segment-records n) (lane-records n ++ (zone-records n ++ (spot-records n ++ (point-records n ++ (checkpoint-records n ++ (stop-records n ++ exit-records n))))))
-            (along-each Short (λ s. length s.lanes) _ 0 n.segments (each_map (λ s. Few s.name) _ (λ s h p. ((let k = few-long s.name h in omega arith), tt)) n.segments few.segments))
+            (along-each Short (λ s. length s.lanes) segment-record 0 n.segments (each_map (λ s. Few s.name) (λ s. (p : ℕ) → Each Short (segment-record p s)) (λ s h p. ((let k = few-long s.name h in omega arith), tt)) n.segments few.segments))
             (each_append Short (lane-records n) (zone-records n ++ (spot-records n ++ (point-records n ++ (checkpoint-records n ++ (stop-records n ++ exit-records n)))))
-            (along-each Short lane_size _ 0 (all_lanes n) (each_map (λ a. Unit {0}) _ (λ a u p. (omega arith, tt)) (all_lanes n) (each-any (all_lanes n))))
+            (along-each Short lane_size lane-record 0 (all_lanes n) (each_map (λ a. Unit {0}) (λ a. (p : ℕ) → Each Short (lane-record p a)) (λ a u p. (omega arith, tt)) (all_lanes n) (each-any (all_lanes n))))
             (each_append Short (zone-records n) (spot-records n ++ (point-records n ++ (checkpoint-records n ++ (stop-records n ++ exit-records n))))
             (short-zones (first_zone_point n) 0 n.zones few.zones)
             (each_append Short (spot-records n) (point-records n ++ (checkpoint-records n ++ (stop-records n ++ exit-records n)))
-            (along-each Short zone_size _ (first_zone_point n) n.zones (each_map (λ z. Unit {0}) _ (λ z u p. along-each Short (λ s. 2) _ (p + length z.border.points) z.spots (each_map (λ s. Unit {0}) _ (λ s v q. (omega arith, tt)) z.spots (each-any z.spots))) n.zones (each-any n.zones)))
+            (along-each Short zone_size (over_spots spot-record) (first_zone_point n) n.zones (each_map (λ z. Unit {0}) (λ z. (p : ℕ) → Each Short (over_spots spot-record p z)) (λ z u p. along-each Short (λ s. 2) spot-record (p + length z.border.points) z.spots (each_map (λ s. Unit {0}) (λ s. (q : ℕ) → Each Short (spot-record q s)) (λ s v q. (omega arith, tt)) z.spots (each-any z.spots))) n.zones (each-any n.zones)))
             (each_append Short (point-records n) (checkpoint-records n ++ (stop-records n ++ exit-records n))
             (maps-short (λ p. angle p.latitude ∷ angle p.longitude ∷ []) (λ p. omega arith) (lane_points n ++ gather zone_points n.zones))
             (each_append Short (checkpoint-records n) (stop-records n ++ exit-records n)

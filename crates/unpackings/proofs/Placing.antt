@@ -27,7 +27,7 @@ use Rattle.same.specs.Same.{SameNetwork}
 use Rattle.house_text.specs.House.{undated}
 use Rattle.packed_law.specs.Packed.{Slot, figure, angle, title, slot_bytes, laid, with_length, all_slots, LiesAt, NamesLie}
 use Rattle.packed_law.proofs.Told.{file_record, segment-records, lane-records, zone-records-from, zone-records, spot-records, point-records, checkpoint_record, checkpoint-records, stop-records, exit_record, exit-records, records, all_told}
-use Rattle.unpackings.proofs.Framing.{bytes_in, item-long, item-is-long, laid-long, gather_append}
+use Rattle.unpackings.proofs.Framing.{lane-record, spot-record, bytes_in, item-long, item-is-long, laid-long, gather_append}
 
 -- ## In place, by lengths
 abbrev PlacedBy : (at : ℕ) → List Slot → Type 0
@@ -77,12 +77,12 @@ any-along size f h p [] = tt
 any-along size f h p (a ∷ l) = each_append Plain (f p a) (along size f (p + size a) l) (h p a) (any-along size f h (p + size a) l)
 
 lanes-plain : (n : Network Field) → Each Plain (lane-records n)
-lanes-plain n = any-along lane_size _ (λ p a. ((tt, (tt, (tt, (tt, (tt, tt))))), tt)) 0 (all_lanes n)
+lanes-plain n = any-along lane_size lane-record (λ p a. ((tt, (tt, (tt, (tt, (tt, tt))))), tt)) 0 (all_lanes n)
 
 rest_plain : (n : Network Field) → Each Plain (spot-records n ++ (point-records n ++ (checkpoint-records n ++ (stop-records n ++ exit-records n))))
 rest_plain n =
     each_append Plain (spot-records n) (point-records n ++ (checkpoint-records n ++ (stop-records n ++ exit-records n)))
-    (any-along zone_size _ (λ p z. any-along (λ s. 2) _ (λ q s. ((tt, (tt, tt)), tt)) (p + length z.border.points) z.spots) (first_zone_point n) n.zones)
+    (any-along zone_size (over_spots spot-record) (λ p z. any-along (λ s. 2) spot-record (λ q s. ((tt, (tt, tt)), tt)) (p + length z.border.points) z.spots) (first_zone_point n) n.zones)
     (each_append Plain (point-records n) (checkpoint-records n ++ (stop-records n ++ exit-records n))
     (maps-plain (λ p. angle p.latitude ∷ angle p.longitude ∷ []) (λ p. (tt, (tt, tt))) (lane_points n ++ gather zone_points n.zones))
     (each_append Plain (checkpoint-records n) (stop-records n ++ exit-records n)
