@@ -1,0 +1,16 @@
+-- `expected_lines::item_at` meets its contract. Assumes nothing.
+use borrow.Author.Tests.{ne_eqb}
+use Rattle.expected_lines.specs.Words.{item_at}
+use Rattle.expected_lines.proofs.item_at.Goals as goal
+
+pub returns-in-0 : goal.returns-in-0
+unfolding item_at
+returns-in-0 c = rw c.in-0.is
+
+pub returns-in-1 : goal.returns-in-1
+unfolding item_at
+returns-in-1 c = rw c.in-1.is
+
+pub returns-in_default : goal.returns-in_default
+unfolding item_at
+returns-in_default c = rw (ne_eqb _ 0 c.in_default.in_default-own.rest.0.1, ne_eqb _ 1 c.in_default.in_default-own.rest.1)
