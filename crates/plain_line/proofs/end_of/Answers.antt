@@ -1,0 +1,26 @@
+-- `plain_line::end_of` meets its contract. Assumes nothing.
+use mathlib.Core.Path.{sym, subst}
+use Prim.Native.Nat.{ℕ}
+use Rattle.terms.specs.Ascii.{Bytes}
+use Rattle.plain_parts.specs.Stands.{LineEnds}
+use Rattle.plain_parts.specs.declared.Reached as DR
+use Rattle.plain_parts.specs.declared.Reached.TheVariants as Reached
+use Rattle.plain_parts.proofs.Ended.{line-ends-here}
+use Rattle.plain_line.specs.Plain.{EndsShort, FewBytes, ShortEnd}
+use Rattle.plain_line.proofs.end_of.Goals as goal
+
+short : (s : Bytes) (from stop end : ℕ) (r : DR.Reached) → LineEnds s stop end → FewBytes from end r → ShortEnd s from stop r
+short s from stop end (Reached.At e) h k = subst (EndsShort s from stop) (sym k.0) (record { ends = h; order = k.1; short = k.2 })
+short s from stop end Reached.No h k = tt
+
+-- src/lib.rt:300:13
+pub returns-then-text-stop-eq10 : goal.returns-then-text-stop-eq10
+returns-then-text-stop-eq10 c =
+    let a = c.args in
+    short a.text.now a.from a.stop a.stop c.short_end.result (line-ends-here a.text.now a.stop c.if-stop-text.true c.if-text-stop-eq10.true) c.short_end.ensures
+
+-- src/lib.rt:295:1
+pub returns : goal.returns
+returns c =
+    let a = c.args in
+    short a.text.now a.from a.stop c.in-At.end c.short_end-2.result (rw c.in-At.is at c.end_at.ensures) c.short_end-2.ensures
