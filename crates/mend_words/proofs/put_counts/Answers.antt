@@ -1,0 +1,16 @@
+-- `mend_words::put_counts` meets its contract: a run of puts. Assumes nothing.
+use mathlib.Core.Path.{ap, ◌∙◌}
+use Rattle.terms.specs.Ascii.{ascii}
+use Rattle.number.specs.House.{house_integer}
+use Rattle.output.proofs.Writing.{same, ◌then◌}
+use Rattle.mend_words.specs.Told.{count_told}
+use Rattle.mend_words.proofs.put_counts.Goals as goal
+
+pub shape_of-out : goal.shape_of-out
+shape_of-out c =
+    c.put_bytes.auto.out ∙ c.put_bytes-d.auto.out ∙ c.put_bytes-c.auto.out ∙ c.put_integer-b.auto.out ∙ c.put_bytes-a.auto.out
+
+pub returns : goal.returns
+unfolding ascii count_told
+returns c =
+    c.put_bytes-a.ensures then same (ap house_integer c.in_word.ensures) c.put_integer-b.ensures then c.put_bytes-c.ensures then c.put_bytes-d.ensures then c.put_bytes.ensures
