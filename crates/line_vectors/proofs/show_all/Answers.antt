@@ -1,0 +1,13 @@
+-- A scan ends within the text.
+use Rattle.std.proofs.Common.{◌≤◌, ◌-◌, arith, length}
+use Rattle.scan.specs.Reach.{stops_by}
+use Rattle.scan.specs.declared.Until.TheVariants.{Byte}
+use Rattle.scan.proofs.Reach.{reach_le}
+use Rattle.line_vectors.proofs.show_all.Goals as goal
+
+pub slice_bounds-show-end : goal.slice_bounds-show-end
+slice_bounds-show-end g c =
+    let s = c.args.s.now in
+    let from = c.loop-from.from in
+    omega (arith, c.scan-stop.ensures, reach_le (stops_by (Byte 254)) s from (omega arith))
+

@@ -1,2 +1,0 @@
--- What the casts of signed numbers need.
-mod Signs

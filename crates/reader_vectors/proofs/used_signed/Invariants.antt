@@ -1,0 +1,6 @@
+-- No more are used than were looked at.
+use Rattle.std.proofs.Common.{◌≤◌}
+use Rattle.reader_vectors.proofs.used_signed.Given as goal
+
+abbrev pub invariant-loop-i : goal.invariant-loop-i
+invariant-loop-i l = l.used ≤ l.i
