@@ -1,7 +1,7 @@
 #!/usr/bin/env python3
-"""Do the names of docs/PROMISES.md still exist? tests/promised.py [--list]
+"""Do the names of docs/PROMISES.md, and of the other documents but LANDINGS and PORT, still exist? tests/promised.py [--list]
 
-Looked at are the tables of promises (their columns of definitions and theorems, and of must-fail edits) and every code span. `crate/specs/File.name`, `crate/proofs/File: name, name` and `File.name` have to be declared in
+Looked at are, in the others, each `crate/specs/File.name` and `crate/proofs/File.name` and the code spans `crate::function`, and in PROMISES the tables of promises (their columns of definitions and theorems, and of must-fail edits) and every code span. `crate/specs/File.name`, `crate/proofs/File: name, name` and `File.name` have to be declared in
 that file, `File` alone has to be one of the crate named last; `name` behind such a file in it, or else anywhere in crates/; `-name` and `_name` behind another name end some name there; `crate::function` has to be a
 function of that crate, `crate/edit` a must-fail edit, `tests/x` a file. Prints what is not there; the last line is 'N names, K not there'; the status is 0 if none. --list prints each name with where it was found.
 
@@ -148,7 +148,12 @@ class Check:
         for path in re.findall(r"\b(?:tests|docs|tools)/[\w./]+\w", text):
             self.note(where, path, os.path.exists(os.path.join(ROOT, path)))
 
-    def span(self, where, text):
+    def path(self, where, crate, part, file, names):
+        path = "%s/%s/%s" % (crate, part, file)
+        known = self.tree.files.get(path)
+        self.note(where, path + names, known is not None and all(name in known for name in names.split(".")[1:] if name != "antt"))
+
+    def span(self, where, text, everything=True):
         tree = self.tree
         found = re.fullmatch(r"([a-z_]+)::(\w+)", text)
         if found:
@@ -156,16 +161,16 @@ class Check:
             return
         found = re.fullmatch(r"([a-z_]+)/(specs|proofs)/([A-Z]\w*)((?:\.[\w'-]+)*)", text)
         if found and found.group(1) != "crate":   # (`crate/specs/File.name` says how names are written)
-            path = "%s/%s/%s" % found.groups()[:3]
-            self.note(where, text, path in tree.files and all(name in tree.files[path] for name in found.group(4).split(".")[1:]))
+            self.path(where, *found.groups())
             return
         if re.fullmatch(r"(?:tests|docs|tools|include)/[\w./]+", text):
             self.note(where, text, os.path.exists(os.path.join(ROOT, text)))
             return
-        if re.fullmatch(r"[a-z]+(?:_\w+)+", text):
+        if everything and re.fullmatch(r"[a-z]+(?:_\w+)+", text):
             self.note(where, text, text in tree.crates or text in tree.all or any(text in words for words in tree.functions.values()) or re.search(r"\b%s\b" % text, read(os.path.join(ROOT, "include", "kastepuhm.h"))) is not None or text in KEYWORDS)
 
 
+OTHERS = ["README.md", "CONTRIBUTING.md", "bench/README.md", "tests/README.md"] + ["docs/%s.md" % name for name in ("AMENDED", "ARCHITECTURE", "DECISIONS", "GEOJSON", "PACKED", "PAGE", "PROGRAMS", "REFUSALS")]
 # words of the two formats, which are no names here
 KEYWORDS = {"end_file", "end_segment", "end_lane", "end_zone", "end_spot", "end_perimeter", "solid_yellow", "spot_checkpoint"}
 
@@ -202,6 +207,14 @@ def main():
                 check.cell(where, cell, "promises", "proofs")
         elif head[:1] == ["file"] and cells:
             check.note(where, cells[0], cells[0] in check.tree.files)
+    for document in OTHERS:
+        for number, line in enumerate(read(os.path.join(ROOT, document)).splitlines(), 1):
+            where = "%s:%d" % (document, number)
+            for found in re.finditer(r"([a-z_]+)/(specs|proofs)/([A-Z]\w*)((?:\.[a-zA-Z][\w'-]*)*)", line):
+                if found.group(1) in check.tree.crates:
+                    check.path(where, *found.groups())
+            for text in re.findall(r"`(\w+::\w+)`", line):
+                check.span(where, text, False)
     if "--list" in sys.argv[1:]:
         print("\n".join(check.found))
     for what in check.lost:

@@ -31,13 +31,14 @@ mkdir -p "$lib"
 
 # ---- the kit's own libraries
 
-# kit_library RT TARGET FLAG: has this kit prove the library and compile it for TARGET
+# kit_library RT TARGET FLAG: has this kit prove the library (the crate `yard_c`: the exports, over `yard`) and compile it for TARGET
 kit_library() {
-    rm -f "$root/crates/yard/out/libyard.a"
-    (cd "$root/crates/yard" && "$1" lib "$3") >&2 || stop "the kit did not prove and build yard"
-    [ -s "$root/crates/yard/out/libyard.a" ] || stop "the kit made no static library of yard (crates.txt says 'yard staticlib: ..')"
+    archive=$root/crates/yard_c/out/libyard_c.a
+    rm -f "$archive"
+    (cd "$root/crates/yard_c" && "$1" lib "$3") >&2 || stop "the kit did not prove and build yard_c"
+    [ -s "$archive" ] || stop "the kit made no $archive (crates.txt has the line 'yard_c staticlib: ..')"
     mkdir -p "$lib/$2"
-    cp "$root/crates/yard/out/libyard.a" "$lib/$2/libyard.a"
+    cp "$archive" "$lib/$2/libyard.a"
 }
 
 # The kit with another `clang`, which keeps what it is given. `rt` looks for its kit where its own file lies, so that is a copy.
@@ -54,10 +55,10 @@ for word in "\$@"; do case \$word in *.bc | *.ll) cp "\$word" "$work/kept.bc" ;;
 exec "$bin/clang" "\$@"
 WRAPPER
     chmod +x "$shadow/toolchain/bin/clang"
-    # the crates below by the kit itself, which begins with what other copies of the repository kept; nothing of yard is proved by this
-    (cd "$root/crates/yard" && rt check --only "") >&2 || stop "the kit did not prove and build what yard rests on"
+    # the crates below by the kit itself, which begins with what other copies of the repository kept; nothing of yard_c is proved by this
+    (cd "$root/crates/yard_c" && rt check --only "") >&2 || stop "the kit did not prove and build what yard_c rests on"
     kit_library "$shadow/bin/rt" x86-64 --cpu=x86-64
-    [ -s "$work/kept.bc" ] || stop "the kit's compiler was given no module of yard"
+    [ -s "$work/kept.bc" ] || stop "the kit's compiler was given no module of yard_c"
     cp "$work/kept.bc" "$lib/yard.bc"
     chmod 644 "$lib/yard.bc"
 }
