@@ -111,6 +111,7 @@ def least_stack(install):
 
 class X86:
     """What a line of machine code takes of the stack. A call leaves the return address there."""
+    STEPS = (3072, 4096)    # of that loop: of today's kit, and a page
     CALL, CALLS = 8, r"R_X86_64_P\w+32\s+(.+?)-0x4$"
 
     def __init__(self):
@@ -126,7 +127,7 @@ class X86:
         if step.group(2) == "r11":          # a frame of several pages: the loop that touches them goes down to here
             self.probed = True
             return n
-        return 0 if self.probed and n == 4096 else n
+        return 0 if self.probed and n in self.STEPS else n
 
 
 class Arm:
