@@ -8,7 +8,7 @@
                                            words, or `accepted` (tests/callers.sh)
 
 Every answer is worked out by hand: file, line, number and column, and what may stand there, by crates/expected_law/specs/Telling; the reasons are those of docs/REFUSALS.md's table. The oracle (tests/oracle) is held to the
-same four, and what may stand there to the oracle's judge (expecting.py): what is listed is taken there, and nothing else. Works on x86-64 and on Arm, by way of `run-check`. The last line says how many of the cases passed; the status is 0 if all did.
+same four, and what may stand there to the oracle's judge (expecting.py): what is listed is taken there, and nothing else. Run by way of `run-check`. The last line says how many of the cases passed; the status is 0 if all did.
 
 What is printed of a refusal (request L7), as compilers print it:
 - `FILE:LINE:COLUMN: reason (NUMBER)`; without column where it is 0 (10), without line where that is 0 too (1). Behind the reason of 4 stands the byte in

@@ -4,7 +4,7 @@
     python3 tests/house_cases.py [N]            builds the program, then runs every case, N of them random (default 300)
     python3 tests/house_cases.py --built [N]    runs it as it was last built
 
-The program is run again on what it wrote: that has to come back byte for byte. Works on x86-64 and on Arm, by way of
+The program is run again on what it wrote: that has to come back byte for byte. It goes by way of
 `run-house`. The last line says how many of the cases passed; the status is 0 if all did.
 """
 import argparse

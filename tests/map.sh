@@ -1,7 +1,7 @@
 #!/bin/sh
 # map.sh [--install]    the planners' map (run-map) against a reader that we did not write: GDAL. The page has its own test, tests/wasm.sh.
 #
-# Needs the program `yard_map` as last built (`rt check yard_map`), and Debian's package gdal-bin, which it installs with --install. Prints a line for each thing that holds; the status is 1 with the first
+# Needs the program `yard_map` as last built (`./run-map`, or `rt run` in crates/yard_map), and Debian's package gdal-bin, which it installs with --install. Prints a line for each thing that holds; the status is 1 with the first
 # that does not.
 set -eu
 root=$(cd "$(dirname "$0")/.." && pwd -P)

@@ -4,7 +4,7 @@
     python3 tests/mend_cases.py           builds the program, then runs every case in a folder of its own
     python3 tests/mend_cases.py --built   runs it as it was last built
 
-What comes out and what is said of it is worked out by hand. Works on x86-64 and on Arm, by way of `run-mend`. The last line says how many of the cases passed; the status is 0 if
+What comes out and what is said of it is worked out by hand. Run by way of `run-mend`. The last line says how many of the cases passed; the status is 0 if
 all did.
 
 What is printed: on standard output the mended text and nothing else; on standard error a sentence for each changed line or `FILE: nothing to mend`, status 0; a refusal, of 26 with what

@@ -48,7 +48,7 @@ need() {
 }
 
 # find_compiler: sets `compiler`, a C compiler for the target, `cxx`, one for C++ (perhaps none), `cxx_package`, where that is from, and `emulator`, what runs their programs: nothing on the machine itself,
-# Debian's qemu-user for Arm, for x86-64 the kit's emulator.
+# Debian's qemu-user for the other.
 find_compiler() {
     emulator=
     cxx_package=g++
@@ -63,15 +63,8 @@ find_compiler() {
         cxx_package=g++-aarch64-linux-gnu
         cxx=$(command -v aarch64-linux-gnu-g++ || true)
     else
-        emulator=$(readlink -f "$(command -v rt)" 2>/dev/null || true)
-        emulator=${RATTLE_HOME:-$(dirname "$(dirname "$emulator")")}/on/$(uname -m)/toolchain/bin/qemu-x86_64
-        [ -x "$emulator" ] || emulator=$(command -v qemu-x86_64 || true)
-        if [ -n "$emulator" ]; then
-            need x86_64-linux-gnu-gcc 'gcc-x86-64-linux-gnu libc6-dev-amd64-cross'
-        else
-            need x86_64-linux-gnu-gcc 'gcc-x86-64-linux-gnu libc6-dev-amd64-cross' qemu-x86_64 qemu-user
-            emulator=$(command -v qemu-x86_64)
-        fi
+        need x86_64-linux-gnu-gcc 'gcc-x86-64-linux-gnu libc6-dev-amd64-cross' qemu-x86_64 qemu-user
+        emulator=$(command -v qemu-x86_64)
         compiler=x86_64-linux-gnu-gcc
         cxx_package=g++-x86-64-linux-gnu
         cxx=$(command -v x86_64-linux-gnu-g++ || true)

@@ -4,7 +4,7 @@
     python3 tests/pack_cases.py           builds both programs, then runs every case in a folder of its own
     python3 tests/pack_cases.py --built   runs them as they were last built
 
-Every form is worked out by hand from docs/PACKED.md, record by record. Works on x86-64 and on Arm, by way of `run-pack` and `run-unpack`. The last line says how many of the
+Every form is worked out by hand from docs/PACKED.md, record by record. Run by way of `run-pack` and `run-unpack`. The last line says how many of the
 cases passed; the status is 0 if all did.
 
 What is printed:

@@ -6,7 +6,7 @@
     python3 tests/reach_cases.py --oracle  runs nothing, and holds the oracle to the same answers
 
 Every answer is worked out by hand: that the mission can be driven, or the first goal that can't be reached with its line and column and from where; the row of each start too, for the
-oracle (tests/oracle), which is held to the same. Works on x86-64 and on Arm, by way of `run-reach`. The last line says how many of the cases passed; the status is 0 if all did.
+oracle (tests/oracle), which is held to the same. Run by way of `run-reach`. The last line says how many of the cases passed; the status is 0 if all did.
 
 What is printed:
 - `MDF: can be driven from START`, status 0;

@@ -4,7 +4,7 @@
     python3 tests/same_cases.py           builds the program, then runs every case in a folder of its own
     python3 tests/same_cases.py --built   runs it as it was last built
 
-Every answer is worked out by hand. Works on x86-64 and on Arm, by way of `run-same`. The last line says how many of the cases passed; the status is 0 if all did.
+Every answer is worked out by hand. Run by way of `run-same`. The last line says how many of the cases passed; the status is 0 if all did.
 
 What is printed:
 - `the same yard`, status 0;

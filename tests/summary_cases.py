@@ -5,8 +5,8 @@
     python3 tests/summary_cases.py --built             runs it as it was last built
     python3 tests/summary_cases.py --command PROGRAM   runs another program in the case's folder
 
-The answers are document 01's, written out here; the oracle (tests/oracle) is held to them too. Works on x86-64 and on
-Arm, by way of `run-summary`. The last line says how many of the cases passed; the status is 0 if all did.
+The answers are document 01's, written out here; the oracle (tests/oracle) is held to them too. Run by
+way of `run-summary`. The last line says how many of the cases passed; the status is 0 if all did.
 """
 import argparse
 import os

@@ -5,13 +5,16 @@ The files of definitions (`specs/`) that the contracts of the exported functions
 believe') and README.md ('Proved, and believed') say the same, or this ends with status 1 and says what differs. `--write` writes the figures there. Python's own library, no more.
 
 How it counts.
-- A door is one or more exported functions (DOORS below): the entry points of the crates and, for C and Rust, each `#[no_mangle] pub extern "C"` function of `yard`, none left out.
+- A door is one or more exported functions (DOORS below): the entry points of the crates and, for C and Rust, each function of `yard` that `yard_c` exports (`#[unsafe(no_mangle)] pub extern "C"`), none left out;
+  what `yard_c` exports has the clauses of `yard`'s function of that name.
 - A function's contract is what stands in its clauses (`requires`, `ensures`). It rests on the definitions that these name, by the `ghost use` lines of its file; each definition
   rests on those that it names in turn: of its own file, or by a `use` line of its file. A name that is handed on by `pub use` leads through every file that hands it on.
 - A file of which a door needs one definition is counted for it whole, as people read it: comments, blank lines and `use` lines too. A door's figure is what it needs beyond the doors before it.
 - In all it is counted more strictly, by `use` lines alone: whatever a counted file imports from some `specs/`, needed or not. No file comes in by this that no door needs.
-- Not counted: the logic's own library (mathlib, lib, Prim) and the types that code declares (`specs.declared`: structs and enums of `src/`), which are listed; and what a contract names without resting on it
+- Not counted: the logic's own library (Rattle.std, mathlib, lib, Prim) and the types that code declares (`specs.declared`: structs and enums of `src/`), which are listed; and what a contract names without resting on it
   (LEFT_OUT below, each with its reason).
+
+Trees from before issue 47, in an older Rattle's spelling (`Rattle·c.specs.M`, `_+_`, clauses between ⌜ and ⌝, all of C's functions in `yard`), are counted too: tools/landings.py hands them in.
 
 It fails where
 - PROMISES or README say another figure or list another file;
@@ -51,16 +54,29 @@ MOST = (1750, 2200, 250)
 
 # names in contracts that nobody has to believe, and why
 LEFT_OUT = {
-    'expected/specs/Words.expectedWords': 'the argument `words` of AnswersExpected: it settles what the law leaves open, the order of a list and what is told of a refusal that these texts do not get; its field `right` says what counts, whatever they are',
+    'expected/specs/Words.expected_words_of': 'the argument `words` of AnswersExpected: it settles what the law leaves open, the order of a list and what is told of a refusal that these texts do not get; its field `right` says what counts, whatever they are',
 }
+
+# the same in trees from before issue 47
+LEFT_OUT_BEFORE = {'expected/specs/Words.expectedWords'}
 
 USE = re.compile(r'^\s*(?:ghost )?(?:unfoldable )?(pub )?use ([^\s{;]+?)(?:\.\{([^}]*)\})?(?: as ([^\s;]+))?;?\s*$')
 SIGNATURE = re.compile(r'^(?:abbrev |unfoldable )?(?:pub )?([^\s(){}:]+)(?: \{[^}]*\})* :(?: |$)')
+DECLARED = re.compile(r'^Rattle[.·](\w+?)(?:·specs)?\.specs\.declared\.(\w+)')
+OURS = re.compile(r'^Rattle[.·](\w+?)(?:·specs)?\.(specs\..*)$')
 TYPE = re.compile(r'^(?:pub )?(?:data|record) ([^\s(){}:]+)')
 
 
 def tokens(text):
-    return set(re.split(r'[\s(){};,]+', text))
+    """The words of a text; of a projection, as `f.value`, also what stands before the point."""
+    words = set(re.split(r'[\s(){};,]+', text))
+    return words | {word.split('.')[0] for word in words}
+
+
+def is_named(name, words):
+    """Whether these words have this name: itself, or the signs of an operator (`◌+◌`; `_+_` in an older Rattle, whose other names have no `_`)."""
+    is_operator = '◌' in name or name.startswith('_') or name.endswith('_')
+    return name in words or is_operator and any(part in words for part in re.split('[◌_]', name) if part)
 
 
 def bare(line):
@@ -132,8 +148,8 @@ class Tree:
         """Every file of definitions, bottom up: crates as crates.txt has them, files as `specs/Lib` lists them."""
         self.files = {}
         with open(os.path.join(ROOT, 'crates.txt'), encoding='utf-8') as f:
-            crates = re.findall(r'^(\w+):', f.read(), re.M)
-        for crate in crates:
+            self.crates = re.findall(r'^(\w+)(?: [^:#\n]*)?:', f.read(), re.M)
+        for crate in self.crates:
             lib = os.path.join(CRATES, crate, 'specs', 'Lib.antt')
             if os.path.exists(lib):
                 with open(lib, encoding='utf-8') as f:
@@ -145,8 +161,8 @@ class Tree:
 
     def file_of(self, module):
         """The file of a module; None for the logic's own and for declared types."""
-        found = re.match(r'^Rattle·(\w+?)(?:·specs)?\.(specs\..*)$', module)
-        if not found:
+        found = OURS.match(module)
+        if not found or found.group(1) not in self.crates:
             return None
         path = found.group(1) + '/' + found.group(2).replace('.', '/') + '.antt'
         if path in self.files:
@@ -159,8 +175,8 @@ class Tree:
         types = set()
         for file in files:
             for module, _, _, _ in file.imports:
-                found = re.match(r'^Rattle·(\w+?)(?:·specs)?\.specs\.declared\.(\w+)', module)
-                if found:
+                found = DECLARED.match(module)
+                if found and found.group(1) in self.crates:
                     types.add('%s::%s' % found.groups())
         return sorted(types)
 
@@ -172,7 +188,7 @@ class Tree:
                 continue
             if names is not None:
                 for name, here in names:
-                    if here in words or any(part in words for part in here.split('_') if part and '_' in here):
+                    if is_named(here, words):
                         yield file, name
             if qualifier is not None:
                 for word in words:
@@ -207,13 +223,21 @@ class Tree:
         return seen
 
 
+def clauses_of(source, name):
+    """The clauses of a function, as they stand."""
+    found = re.search(r'^(?:pub )?(?:extern "C" )?fn %s\b.*?^\{' % re.escape(name), source, re.M | re.S)
+    if not found:
+        return []
+    if '⌜' in found.group(0):
+        return re.findall(r'⌜(.*?)⌝', found.group(0), re.S)
+    return [clause.strip() for clause in re.split(r'^\s*(?:requires|ensures)\b[^{]*\{', found.group(0)[:-1], flags=re.M)[1:]]
+
+
 def contract(function):
     """The imports of a function's file, and the words of its clauses."""
     crate, name = function.split('::')
-    with open(os.path.join(CRATES, crate, 'src', 'lib.rt'), encoding='utf-8') as f:
-        source = f.read()
-    found = re.search(r'^(?:pub )?(?:extern "C" )?fn %s\b.*?^\{' % re.escape(name), source, re.M | re.S)
-    clauses = re.findall(r'⌜(.*?)⌝', found.group(0), re.S) if found else []
+    source = source_of(crate)
+    clauses = clauses_of(source, name)
     if not clauses:
         raise SystemExit('believe: %s has no contract' % function)
     imports = []
@@ -225,9 +249,16 @@ def contract(function):
     return imports, tokens(' '.join(clauses))
 
 
+def source_of(crate):
+    with open(os.path.join(CRATES, crate, 'src', 'lib.rt'), encoding='utf-8') as f:
+        return f.read()
+
+
 def exported():
-    with open(os.path.join(CRATES, 'yard', 'src', 'lib.rt'), encoding='utf-8') as f:
-        return re.findall(r'^#\[no_mangle\]\npub extern "C" fn (\w+)', f.read(), re.M)
+    """The functions that C calls, and those of them whose clauses are not those of the function of that name in `yard`."""
+    source, yard = source_of('yard_c'), source_of('yard')
+    names = re.findall(r'^#\[unsafe\(no_mangle\)\]\npub extern "C" fn (\w+)', source, re.M)
+    return names, [name for name in names if clauses_of(source, name) != clauses_of(yard, name)]
 
 
 def number(n):
@@ -249,7 +280,7 @@ def count(tree):
         start = []
         for function in functions.split():
             imports, words = contract(function)
-            start += [(f, name) for f, name in tree.meant(imports, words) if '%s.%s' % (f.name, name) not in LEFT_OUT]
+            start += [(f, name) for f, name in tree.meant(imports, words) if '%s.%s' % (f.name, name) not in {*LEFT_OUT, *LEFT_OUT_BEFORE}]
         seen = tree.needed(start)
         names |= seen
         doors.append((door, functions, {f for f, _ in seen}))
@@ -296,8 +327,11 @@ def main():
     tree = Tree()
     wrong = []
     doors, names = count(tree)
-    listed = {function.split('::')[1] for _, functions, _ in doors for function in functions.split() if function.startswith('yard::')}
-    wrong += ['yard::%s is exported and stands in no door' % name for name in exported() if name not in listed]
+    listed = {function for _, functions, _ in doors for function in functions.split() if function.startswith('yard::')}
+    names_of_c, others = exported()
+    wrong += ['yard_c::%s is exported and stands in no door' % name for name in names_of_c if 'yard::' + name not in listed]
+    wrong += ['%s stands in a door, and yard_c does not export it' % name for name in sorted(listed) if name[len('yard::'):] not in names_of_c]
+    wrong += ['the clauses of yard_c::%s are not those of yard::%s' % (name, name) for name in others]
 
     had = set()
     for i, (door, _, files) in enumerate(doors):

@@ -1,6 +1,9 @@
 #!/usr/bin/env bash
 # tools/gate-times.sh [--file FILE] [--again] COMMIT..
 #
+# For commits of before issue 47, with the kit of their time (rattle-kit-5b) in PATH, whose gate proved everything from nothing. Today's `rt ci` keeps what passed on this machine and proves only what changed since, so that
+# what this script would take of a later commit is no time of a gate; `rt ci --anew` at its top, with nothing else running, is.
+#
 # The gate of each of these commits by itself, one after the other: a clone of its own, `.ci/run` there, and a line in FILE (docs/gate-times.tsv) and on standard output:
 #   commit, passed, failed, seconds on the clock, seconds of processor time (user and system, of everything below it), seconds that everything else took meanwhile, the kind of machine, which one, the kit
 # Run it with nothing else running: it waits until nothing is (ten minutes at most), and what everything else took while the gate ran, other guests of the same host counted in, says whether that stayed so.
