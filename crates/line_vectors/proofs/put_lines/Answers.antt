@@ -10,4 +10,3 @@ slice_bounds-put_line-end g c =
     let s = c.args.text.now in
     let from = c.loop-from.from in
     omega (arith, c.scan-stop.ensures, reach_le (stops_by (Byte 10)) s from (omega arith))
-

@@ -10,4 +10,3 @@ slice_bounds-show-end g c =
     let s = c.args.s.now in
     let from = c.loop-from.from in
     omega (arith, c.scan-stop.ensures, reach_le (stops_by (Byte 254)) s from (omega arith))
-

@@ -44,8 +44,9 @@ loop-from-preserved c =
     let e = c.far_byte_from-e.ensures in
     let o = other-line A.text.now c.loop-from.from c.far_byte_from-e.result c.loop-from-test.true e c.loop-from.place c.loop-from.line A.wanted t.result t.ensures (omega arith) c.if-line-wanted.false c.mission_judge_line-v.result c.mission_judge_line-v.ensures in
     elim c.match-v.branch [
-      in-Blank w ↦ (omega arith, omega arith, rw w.place-is (sym (rw w.in-Blank.is at o) ∙ c.loop-from.invariant.2)) |
-      in-Said w ↦ (omega arith, omega arith, rw w.place-is (sym (rw w.in-Said.is at o) ∙ c.loop-from.invariant.2)) ]
+      | in-Blank w ↦ (omega arith, omega arith, rw w.place-is (sym (rw w.in-Blank.is at o) ∙ c.loop-from.invariant.2))
+      | in-Said w ↦ (omega arith, omega arith, rw w.place-is (sym (rw w.in-Said.is at o) ∙ c.loop-from.invariant.2))
+    ]
 
 pub returns : goal.returns
 returns c =

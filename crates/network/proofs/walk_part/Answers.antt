@@ -162,15 +162,15 @@ loop-from-smaller c =
     let h = c.loop-from-test.true in
     let few = few_bytes (length s) l.invariant.5 in
     elim c.match-line_said.branch [
-      in-Blank w ↦
-        let e = w.in-Blank.e in
-        let says : (e ≡ reach (stops_by (Byte 10)) s l.from) × (judged t (stretch s l.from e) l.from l.place ≡ blank) = rw w.in-Blank.is at (c.line_said.ensures h few) in
-        next-less (length s) l.from e c.match-line_said.from w.from-is (within s l.from e h says.0)
-    | in-Filled+in-Is+in_default-verdict w ↦
-        let filled : Says t s l.from l.place w.in-Filled.said = rw w.in-Filled.is at (c.line_said.ensures h few) in
-        let k = w.in-Is in
-        let says : Says t s l.from l.place (Said.Is k.kind k.s k.e k.last) = rw k.is at filled in
-        next-less (length s) l.from k.e c.match-line_said.from w.from-is (within s l.from k.e h says.0)
+      | in-Blank w ↦
+          let e = w.in-Blank.e in
+          let says : (e ≡ reach (stops_by (Byte 10)) s l.from) × (judged t (stretch s l.from e) l.from l.place ≡ blank) = rw w.in-Blank.is at (c.line_said.ensures h few) in
+          next-less (length s) l.from e c.match-line_said.from w.from-is (within s l.from e h says.0)
+      | in-Filled+in-Is+in_default-verdict w ↦
+          let filled : Says t s l.from l.place w.in-Filled.said = rw w.in-Filled.is at (c.line_said.ensures h few) in
+          let k = w.in-Is in
+          let says : Says t s l.from l.place (Said.Is k.kind k.s k.e k.last) = rw k.is at filled in
+          next-less (length s) l.from k.e c.match-line_said.from w.from-is (within s l.from k.e h says.0)
     ]
 
 pub loop-from-preserved : goal.loop-from-preserved
@@ -182,35 +182,35 @@ loop-from-preserved c =
     let h = c.loop-from-test.true in
     let few = few_bytes (length s) l.invariant.5 in
     elim c.match-line_said.branch [
-      in-Blank w ↦
-        let e = w.in-Blank.e in
-        let says : (e ≡ reach (stops_by (Byte 10)) s l.from) × (judged t (stretch s l.from e) l.from l.place ≡ blank) = rw w.in-Blank.is at (c.line_said.ensures h few) in
-        let inside = within s l.from e h says.0 in
-        let same : (memory c.match-line_said.gained c.match-line_said.segments c.match-line_said.lanes c.match-line_said.zones c.match-line_said.spots c.match-line_said.points c.match-line_said.checkpoints c.match-line_said.stops c.match-line_said.exits) ≡ (memory l.gained l.segments l.lanes l.zones l.spots l.points l.checkpoints l.stops l.exits) = λ i. memory (w.gained-is i) (w.segments-is i) (w.lanes-is i) (w.zones-is i) (w.spots-is i) (w.points-is i) (w.checkpoints-is i) (w.stops-is i) (w.exits-is i) in (
-          l.invariant.0,
-          next-within (length s) l.from e l.line c.match-line_said.from A.first w.from-is inside l.invariant.1,
-          (λ few. rw w.gained-is (no_more (total l.gained) (total A.had) l.from e c.match-line_said.from w.from-is inside.0 (l.invariant.2 few))),
-          ap lengths same ∙ l.invariant.3,
-          λ right few. goes_on (inner A.edition) s c.match-line_said.place l.place (memory c.match-line_said.gained c.match-line_said.segments c.match-line_said.lanes c.match-line_said.zones c.match-line_said.spots c.match-line_said.points c.match-line_said.checkpoints c.match-line_said.stops c.match-line_said.exits) (memory l.gained l.segments l.lanes l.zones l.spots l.points l.checkpoints l.stops l.exits) c.match-line_said.from e l.line w.place-is same w.from-is ∙ sym (blank_line_of (inner A.edition) t right s l.from e h says.0 l.place (memory l.gained l.segments l.lanes l.zones l.spots l.points l.checkpoints l.stops l.exits) l.line says.1) ∙ l.invariant.4 right few,
-          l.invariant.5,
-        )
-    | in-Filled+in-Is+in_default-verdict w ↦
-        let filled : Says t s l.from l.place w.in-Filled.said = rw w.in-Filled.is at (c.line_said.ensures h few) in
-        let k = w.in-Is in
-        let says : Says t s l.from l.place (Said.Is k.kind k.s k.e k.last) = rw k.is at filled in
-        let e = k.e in
-        let st = k.s in
-        let inside = within s l.from e h says.0 in
-        let had = total A.had in
-        let counted : had ≤ 16777216 → w.after-gained.result ≡ after_of st l.gained = λ few. w.after-gained.ensures ∙ counts st l.gained (few-rows (length s) l.from had (total l.gained) l.invariant.5 h few (l.invariant.2 few)) in
-        let same : had ≤ 16777216 → (memory c.match-line_said.gained c.match-line_said.segments c.match-line_said.lanes c.match-line_said.zones c.match-line_said.spots c.match-line_said.points c.match-line_said.checkpoints c.match-line_said.stops c.match-line_said.exits) ≡ put (place l.from l.line (stretch s l.from e)) st (memory l.gained l.segments l.lanes l.zones l.spots l.points l.checkpoints l.stops l.exits) = λ few. (λ i. memory (w.gained-is i) (w.segments-is i) (w.lanes-is i) (w.zones-is i) (w.spots-is i) (w.points-is i) (w.checkpoints-is i) (w.stops-is i) (w.exits-is i)) ∙ stepped st w.row.result (place l.from l.line (stretch s l.from e)) w.after-gained.result (memory l.gained l.segments l.lanes l.zones l.spots l.points l.checkpoints l.stops l.exits) _ w.store.ensures (w.row.ensures ∙ ap (λ (n : ℕ). row_of st n l.gained) says.2) (counted few) in (
-          l.invariant.0,
-          next-within (length s) l.from e l.line c.match-line_said.from A.first w.from-is inside l.invariant.1,
-          (λ few. one-more-row (total l.gained) had l.from e c.match-line_said.from (total c.match-line_said.gained) w.from-is inside.0 (l.invariant.2 few) (grown st l.gained c.match-line_said.gained (total l.gained) (w.gained-is ∙ counted few) (omega arith))),
-          ap lengths (λ i. memory l.gained (w.segments-is i) (w.lanes-is i) (w.zones-is i) (w.spots-is i) (w.points-is i) (w.checkpoints-is i) (w.stops-is i) (w.exits-is i)) ∙ ap lengths w.store.ensures ∙ stored-long w.row.result (memory l.gained l.segments l.lanes l.zones l.spots l.points l.checkpoints l.stops l.exits) ∙ l.invariant.3,
-          λ right few. goes_on (inner A.edition) s c.match-line_said.place w.moved-place.result (memory c.match-line_said.gained c.match-line_said.segments c.match-line_said.lanes c.match-line_said.zones c.match-line_said.spots c.match-line_said.points c.match-line_said.checkpoints c.match-line_said.stops c.match-line_said.exits) (put (place l.from l.line (stretch s l.from e)) st (memory l.gained l.segments l.lanes l.zones l.spots l.points l.checkpoints l.stops l.exits)) c.match-line_said.from e l.line w.place-is (same few) w.from-is ∙ sym (moved-line (inner A.edition) t right s l.from e h says.0 l.place (memory l.gained l.segments l.lanes l.zones l.spots l.points l.checkpoints l.stops l.exits) l.line k.kind w.cell-cell.result w.verdict.result st says.1 w.cell-cell.ensures w.verdict.ensures (taken _ w.in_default-verdict.not-Refused) w.moved-place.result w.moved-place.ensures) ∙ l.invariant.4 right few,
-          l.invariant.5,
-        )
+      | in-Blank w ↦
+          let e = w.in-Blank.e in
+          let says : (e ≡ reach (stops_by (Byte 10)) s l.from) × (judged t (stretch s l.from e) l.from l.place ≡ blank) = rw w.in-Blank.is at (c.line_said.ensures h few) in
+          let inside = within s l.from e h says.0 in
+          let same : (memory c.match-line_said.gained c.match-line_said.segments c.match-line_said.lanes c.match-line_said.zones c.match-line_said.spots c.match-line_said.points c.match-line_said.checkpoints c.match-line_said.stops c.match-line_said.exits) ≡ (memory l.gained l.segments l.lanes l.zones l.spots l.points l.checkpoints l.stops l.exits) = λ i. memory (w.gained-is i) (w.segments-is i) (w.lanes-is i) (w.zones-is i) (w.spots-is i) (w.points-is i) (w.checkpoints-is i) (w.stops-is i) (w.exits-is i) in (
+            l.invariant.0,
+            next-within (length s) l.from e l.line c.match-line_said.from A.first w.from-is inside l.invariant.1,
+            (λ few. rw w.gained-is (no_more (total l.gained) (total A.had) l.from e c.match-line_said.from w.from-is inside.0 (l.invariant.2 few))),
+            ap lengths same ∙ l.invariant.3,
+            λ right few. goes_on (inner A.edition) s c.match-line_said.place l.place (memory c.match-line_said.gained c.match-line_said.segments c.match-line_said.lanes c.match-line_said.zones c.match-line_said.spots c.match-line_said.points c.match-line_said.checkpoints c.match-line_said.stops c.match-line_said.exits) (memory l.gained l.segments l.lanes l.zones l.spots l.points l.checkpoints l.stops l.exits) c.match-line_said.from e l.line w.place-is same w.from-is ∙ sym (blank_line_of (inner A.edition) t right s l.from e h says.0 l.place (memory l.gained l.segments l.lanes l.zones l.spots l.points l.checkpoints l.stops l.exits) l.line says.1) ∙ l.invariant.4 right few,
+            l.invariant.5,
+          )
+      | in-Filled+in-Is+in_default-verdict w ↦
+          let filled : Says t s l.from l.place w.in-Filled.said = rw w.in-Filled.is at (c.line_said.ensures h few) in
+          let k = w.in-Is in
+          let says : Says t s l.from l.place (Said.Is k.kind k.s k.e k.last) = rw k.is at filled in
+          let e = k.e in
+          let st = k.s in
+          let inside = within s l.from e h says.0 in
+          let had = total A.had in
+          let counted : had ≤ 16777216 → w.after-gained.result ≡ after_of st l.gained = λ few. w.after-gained.ensures ∙ counts st l.gained (few-rows (length s) l.from had (total l.gained) l.invariant.5 h few (l.invariant.2 few)) in
+          let same : had ≤ 16777216 → (memory c.match-line_said.gained c.match-line_said.segments c.match-line_said.lanes c.match-line_said.zones c.match-line_said.spots c.match-line_said.points c.match-line_said.checkpoints c.match-line_said.stops c.match-line_said.exits) ≡ put (place l.from l.line (stretch s l.from e)) st (memory l.gained l.segments l.lanes l.zones l.spots l.points l.checkpoints l.stops l.exits) = λ few. (λ i. memory (w.gained-is i) (w.segments-is i) (w.lanes-is i) (w.zones-is i) (w.spots-is i) (w.points-is i) (w.checkpoints-is i) (w.stops-is i) (w.exits-is i)) ∙ stepped st w.row.result (place l.from l.line (stretch s l.from e)) w.after-gained.result (memory l.gained l.segments l.lanes l.zones l.spots l.points l.checkpoints l.stops l.exits) _ w.store.ensures (w.row.ensures ∙ ap (λ (n : ℕ). row_of st n l.gained) says.2) (counted few) in (
+            l.invariant.0,
+            next-within (length s) l.from e l.line c.match-line_said.from A.first w.from-is inside l.invariant.1,
+            (λ few. one-more-row (total l.gained) had l.from e c.match-line_said.from (total c.match-line_said.gained) w.from-is inside.0 (l.invariant.2 few) (grown st l.gained c.match-line_said.gained (total l.gained) (w.gained-is ∙ counted few) (omega arith))),
+            ap lengths (λ i. memory l.gained (w.segments-is i) (w.lanes-is i) (w.zones-is i) (w.spots-is i) (w.points-is i) (w.checkpoints-is i) (w.stops-is i) (w.exits-is i)) ∙ ap lengths w.store.ensures ∙ stored-long w.row.result (memory l.gained l.segments l.lanes l.zones l.spots l.points l.checkpoints l.stops l.exits) ∙ l.invariant.3,
+            λ right few. goes_on (inner A.edition) s c.match-line_said.place w.moved-place.result (memory c.match-line_said.gained c.match-line_said.segments c.match-line_said.lanes c.match-line_said.zones c.match-line_said.spots c.match-line_said.points c.match-line_said.checkpoints c.match-line_said.stops c.match-line_said.exits) (put (place l.from l.line (stretch s l.from e)) st (memory l.gained l.segments l.lanes l.zones l.spots l.points l.checkpoints l.stops l.exits)) c.match-line_said.from e l.line w.place-is (same few) w.from-is ∙ sym (moved-line (inner A.edition) t right s l.from e h says.0 l.place (memory l.gained l.segments l.lanes l.zones l.spots l.points l.checkpoints l.stops l.exits) l.line k.kind w.cell-cell.result w.verdict.result st says.1 w.cell-cell.ensures w.verdict.ensures (taken _ w.in_default-verdict.not-Refused) w.moved-place.result w.moved-place.ensures) ∙ l.invariant.4 right few,
+            l.invariant.5,
+          )
     ]
 
 pub shape_of-segments : goal.shape_of-segments
