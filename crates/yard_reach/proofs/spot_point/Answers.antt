@@ -4,7 +4,7 @@ use borrow.Author.Tests.{lt-ltb, le-ltb, le-leb, lt-leb}
 use Rattle.yard_reach.proofs.spot_point.Goals as goal
 
 pub returns-then-z-le2 : goal.returns-then-z-le2
-returns-then-z-le2 c = rw (lt-ltb 0 c.args.z (omega arith), le-leb c.args.z 2 (omega arith), c.before.ensures)
+returns-then-z-le2 c = rw (lt-ltb 0 c.args.z (omega arith), le-leb c.args.z 2 (omega arith), c.before-then-z-le2.ensures)
 
 pub returns-else-z-le2 : goal.returns-else-z-le2
 returns-else-z-le2 c = rw (lt-ltb 0 c.args.z (omega arith), lt-leb c.args.z 2 (omega arith))
