@@ -31,37 +31,43 @@ mkdir -p "$lib"
 
 # ---- the kit's own libraries
 
-# kit_library RT TARGET FLAG: has this kit prove the library (the crate `yard_c`: the exports, over `yard`) and compile it for TARGET
-kit_library() {
-    archive=$root/crates/yard_c/out/libyard_c.a
-    rm -f "$archive"
-    (cd "$root/crates/yard_c" && "$1" lib "$3") >&2 || stop "the kit did not prove and build yard_c"
-    [ -s "$archive" ] || stop "the kit made no $archive (crates.txt has the line 'yard_c staticlib: ..')"
-    mkdir -p "$lib/$2"
-    cp "$archive" "$lib/$2/libyard.a"
-}
-
-# The kit with another `clang`, which keeps what it is given. `rt` looks for its kit where its own file lies, so that is a copy.
+# make_kit: sets `shadow`, the kit again, by links, but for two things. Its `clang` keeps the module that it is given. And `rt`, which looks for its kit beside its own file, is a copy that works out only once which
+# crates lie below each: the kit's own goes along every way through crates.txt each time it asks, of yard_c for minutes. What other copies of the repository on this machine kept, `rt` finds beside its kit.
 mirror() { mkdir -p "$2" && for entry in "$1"/*; do ln -s "$entry" "$2/"; done; }
-keep_module() {
+make_kit() {
     shadow=$work/kit
+    [ ! -d "$shadow" ] || return 0
     mirror "$kit" "$shadow"
     for part in bin toolchain toolchain/bin; do rm "$shadow/$part" && mirror "$kit/$part" "$shadow/$part"; done
     rm "$shadow/toolchain/bin/clang" "$shadow/bin/rt" "$shadow/bin/rtlib.py"
-    cp "$kit/bin/rt" "$kit/bin/rtlib.py" "$shadow/bin/"
     cat >"$shadow/toolchain/bin/clang" <<WRAPPER
 #!/bin/sh
 for word in "\$@"; do case \$word in *.bc | *.ll) cp "\$word" "$work/kept.bc" ;; esac; done
 exec "$bin/clang" "\$@"
 WRAPPER
     chmod +x "$shadow/toolchain/bin/clang"
-    # the crates below by the kit itself, which begins with what other copies of the repository kept; nothing of yard_c is proved by this
-    (cd "$root/crates/yard_c" && rt check --only "") >&2 || stop "the kit did not prove and build what yard_c rests on"
-    kit_library "$shadow/bin/rt" x86-64 --cpu=x86-64
+    cp "$kit/bin/rt" "$shadow/bin/"
+    sed 's/^    def below(self):$/    @functools.lru_cache(maxsize=None)\n&/' "$kit/bin/rtlib.py" >"$shadow/bin/rtlib.py"
+    ln -s "$(dirname "$kit")/rattle-kept" "$work/rattle-kept"
+}
+
+# kit_library TARGET FLAG: has the kit prove the library (the crate `yard_c`: the exports, over `yard`) and compile it for TARGET
+kit_library() {
+    make_kit
+    archive=$root/crates/yard_c/out/libyard_c.a
+    rm -f "$archive"
+    (cd "$root/crates/yard_c" && "$shadow/bin/rt" lib "$2") >&2 || stop "the kit did not prove and build yard_c"
+    [ -s "$archive" ] || stop "the kit made no $archive (crates.txt has the line 'yard_c staticlib: ..')"
+    mkdir -p "$lib/$1"
+    cp "$archive" "$lib/$1/libyard.a"
+}
+keep_module() {
+    kit_library x86-64 --cpu=x86-64
     [ -s "$work/kept.bc" ] || stop "the kit's compiler was given no module of yard_c"
     cp "$work/kept.bc" "$lib/yard.bc"
     chmod 644 "$lib/yard.bc"
 }
+make_aarch64() { kit_library aarch64 --target=aarch64-unknown-linux-gnu; }
 
 # stamp_of SOURCES FILE..: that sum, and that of what was made of them.
 stamp_of() { echo "$1" && shift && cat "$@" | sha256sum; }
@@ -86,7 +92,6 @@ provide() {
 }
 # The module and the library for x86-64 are kept from one run, so that neither is older than the other.
 of_x86_64() { provide yard keep_module "$lib/yard.bc" "$lib/x86-64/libyard.a"; }
-make_aarch64() { kit_library rt aarch64 --target=aarch64-unknown-linux-gnu; }
 
 # ---- the same module as WebAssembly
 
