@@ -9,7 +9,8 @@ How it counts.
   what `yard_c` exports has the clauses of `yard`'s function of that name.
 - A function's contract is what stands in its clauses (`requires`, `ensures`). It rests on the definitions that these name, by the `ghost use` lines of its file; each definition
   rests on those that it names in turn: of its own file, or by a `use` line of its file. A name that is handed on by `pub use` leads through every file that hands it on.
-- A file of which a door needs one definition is counted for it whole, as people read it: comments, blank lines and `use` lines too. A door's figure is what it needs beyond the doors before it.
+- A file of which a door needs one definition is counted for it whole, as people read it: comments, blank lines and `use` lines too, but for the line
+  that imports the logic's own library (today's `rt ci` asks for it: tools/port-operators.py). A door's figure is what it needs beyond the doors before it.
 - In all it is counted more strictly, by `use` lines alone: whatever a counted file imports from some `specs/`, needed or not. No file comes in by this that no door needs.
 - Not counted: the logic's own library (Rattle.std, mathlib, lib, Prim) and the types that code declares (`specs.declared`: structs and enums of `src/`), which are listed; and what a contract names without resting on it
   (LEFT_OUT below, each with its reason).
@@ -30,6 +31,7 @@ import sys
 ROOT = os.path.join(os.path.dirname(os.path.abspath(__file__)), '..')
 CRATES = os.path.join(ROOT, 'crates')
 LABEL = '-- WHAT A READER MUST BELIEVE'
+LIBRARY = 'use Rattle.std.specs.Prelude.{'
 
 # door, its functions: crate::function. The first seven stood before L9 to L14; the words of refusals and what may stand there, behind the others, are counted apart.
 DOORS = [
@@ -91,7 +93,7 @@ class File:
         self.path = path
         self.name = path[:-len('.antt')]
         with open(os.path.join(CRATES, path), encoding='utf-8') as f:
-            self.lines = f.read().splitlines()
+            self.lines = [line for line in f.read().splitlines() if not line.startswith(LIBRARY)]
         self.labelled = self.lines[0].startswith(LABEL)
         self.imports = []  # (module, [(name, here)] or None, qualifier, handed on)
         self.items = {}  # name -> item; an item is [its names, its words]
