@@ -11,7 +11,7 @@
  *     kastepuhm_tables tables = kastepuhm_tables_in(words, rows);
  *     kastepuhm_answer answer = kastepuhm_read_rndf_into(KASTEPUHM_MARCH_2007, text, length, &tables);
  *
- * The library needs nothing else but memset of the C library, which any C program links anyway (`nm -u target/lib/x86-64/libyard.a` lists what it leaves open);
+ * The library needs nothing else but memset and memcpy of the C library, which any C program links anyway (`nm -u target/lib/x86-64/libyard.a` lists what it leaves open);
  * a program without a C library has to bring its own. tests/callers/caller.c is a whole caller, caller.cpp one in C++, caller.rs one in Rust over the crate in bindings/rust; tests/callers.sh builds and runs them.
  * The header and the library belong together: take both from the same commit, or the same release.
  *

@@ -5,7 +5,7 @@
 //! its names without `KASTEPUHM_`. What is proved is the library's source; that the declarations here fit it is not (tests/header.py holds them to the header, tests/callers.sh runs them).
 //!
 //! Nothing is allocated and nothing kept: all memory is the caller's, and the crate needs neither `std` nor `alloc`. Nothing is asked of what a slice holds or how long it is: a table with too few rows is
-//! refusal 11, an output that is too short refusal 19. Of the C library, `memset` is needed.
+//! refusal 11, an output that is too short refusal 19. Of the C library, `memset` and `memcpy` are needed.
 //!
 //! ```
 //! use kastepuhm::{expected, read_rndf, rows_for, sentence, Edition, Tables};
