@@ -56,6 +56,10 @@ entry-ends = record { x = record { low = omega arith; high = omega arith }; y = 
 pub entry_large : GoodEntry (point_id 1 32769 1) → ⊥
 entry_large h = omega (arith, h.y)
 
+-- a waypoint is counted from 1
+pub entry_none : GoodEntry (point_id 1 0 0) → ⊥
+entry_none h = omega (arith, h.z.low)
+
 -- a speed limit
 abbrev limit : ℕ → ℕ → ℕ → Limit
 limit i a b = record { id = i; minimum = a; maximum = b }

@@ -9,57 +9,57 @@ x = 255
 
 unfoldable pub rndf_table_of : List (List ℕ)
 rndf_table_of =
-    -- 0: name-due
+    -- 0: name_due
     (1 ∷ x ∷ x ∷ x ∷ x ∷ x ∷ x ∷ x ∷ x ∷ x ∷ x ∷ x ∷ x ∷ x ∷ x ∷ x ∷ x ∷ x ∷ x ∷ x ∷ x ∷ x ∷ x ∷ x ∷ x ∷ x ∷ x ∷ x ∷ x ∷ x ∷ []) ∷
-    -- 1: num-segments-due
+    -- 1: num_segments_due
     (x ∷ 2 ∷ x ∷ x ∷ x ∷ x ∷ x ∷ x ∷ x ∷ x ∷ x ∷ x ∷ x ∷ x ∷ x ∷ x ∷ x ∷ x ∷ x ∷ x ∷ x ∷ x ∷ x ∷ x ∷ x ∷ x ∷ x ∷ x ∷ x ∷ x ∷ []) ∷
-    -- 2: num-zones-due
+    -- 2: num_zones_due
     (x ∷ x ∷ 3 ∷ x ∷ x ∷ x ∷ x ∷ x ∷ x ∷ x ∷ x ∷ x ∷ x ∷ x ∷ x ∷ x ∷ x ∷ x ∷ x ∷ x ∷ x ∷ x ∷ x ∷ x ∷ x ∷ x ∷ x ∷ x ∷ x ∷ x ∷ []) ∷
-    -- 3: first-segment-due
+    -- 3: first_segment_due
     (x ∷ x ∷ x ∷ 129 ∷ 130 ∷ 7 ∷ x ∷ x ∷ x ∷ x ∷ x ∷ x ∷ x ∷ x ∷ x ∷ x ∷ x ∷ x ∷ x ∷ x ∷ x ∷ x ∷ x ∷ x ∷ x ∷ x ∷ x ∷ x ∷ x ∷ x ∷ []) ∷
-    -- 4: part-due, segments owed
+    -- 4: part_due, segments owed
     (x ∷ x ∷ x ∷ x ∷ x ∷ 7 ∷ x ∷ x ∷ x ∷ x ∷ x ∷ x ∷ x ∷ x ∷ x ∷ x ∷ x ∷ x ∷ x ∷ x ∷ x ∷ x ∷ x ∷ x ∷ x ∷ x ∷ x ∷ x ∷ x ∷ x ∷ []) ∷
-    -- 5: part-due, zones owed
+    -- 5: part_due, zones owed
     (x ∷ x ∷ x ∷ x ∷ x ∷ x ∷ x ∷ x ∷ x ∷ x ∷ x ∷ x ∷ x ∷ x ∷ x ∷ x ∷ x ∷ x ∷ 15 ∷ x ∷ x ∷ x ∷ x ∷ x ∷ x ∷ x ∷ x ∷ x ∷ x ∷ x ∷ []) ∷
-    -- 6: part-due, nothing owed
+    -- 6: part_due, nothing owed
     (x ∷ x ∷ x ∷ x ∷ x ∷ x ∷ x ∷ x ∷ x ∷ x ∷ x ∷ x ∷ x ∷ x ∷ x ∷ x ∷ x ∷ x ∷ x ∷ x ∷ x ∷ x ∷ x ∷ x ∷ x ∷ x ∷ x ∷ x ∷ 26 ∷ x ∷ []) ∷
-    -- 7: num-lanes-due
+    -- 7: num_lanes_due
     (x ∷ x ∷ x ∷ x ∷ x ∷ x ∷ 8 ∷ x ∷ x ∷ x ∷ x ∷ x ∷ x ∷ x ∷ x ∷ x ∷ x ∷ x ∷ x ∷ x ∷ x ∷ x ∷ x ∷ x ∷ x ∷ x ∷ x ∷ x ∷ x ∷ x ∷ []) ∷
-    -- 8: first-lane-due
+    -- 8: first_lane_due
     (x ∷ x ∷ x ∷ x ∷ x ∷ x ∷ x ∷ 129 ∷ x ∷ 11 ∷ x ∷ x ∷ x ∷ x ∷ x ∷ x ∷ x ∷ x ∷ x ∷ x ∷ x ∷ x ∷ x ∷ x ∷ x ∷ x ∷ x ∷ x ∷ x ∷ x ∷ []) ∷
-    -- 9: lane-due, lanes owed
+    -- 9: lane_due, lanes owed
     (x ∷ x ∷ x ∷ x ∷ x ∷ x ∷ x ∷ x ∷ x ∷ 11 ∷ x ∷ x ∷ x ∷ x ∷ x ∷ x ∷ x ∷ x ∷ x ∷ x ∷ x ∷ x ∷ x ∷ x ∷ x ∷ x ∷ x ∷ x ∷ x ∷ x ∷ []) ∷
-    -- 10: lane-due, nothing owed
+    -- 10: lane_due, nothing owed
     (x ∷ x ∷ x ∷ x ∷ x ∷ x ∷ x ∷ x ∷ 4 ∷ x ∷ x ∷ x ∷ x ∷ x ∷ x ∷ x ∷ x ∷ x ∷ x ∷ x ∷ x ∷ x ∷ x ∷ x ∷ x ∷ x ∷ x ∷ x ∷ x ∷ x ∷ []) ∷
-    -- 11: num-waypoints-due
+    -- 11: num_waypoints_due
     (x ∷ x ∷ x ∷ x ∷ x ∷ x ∷ x ∷ x ∷ x ∷ x ∷ 12 ∷ x ∷ x ∷ x ∷ x ∷ x ∷ x ∷ x ∷ x ∷ x ∷ x ∷ x ∷ x ∷ x ∷ x ∷ x ∷ x ∷ x ∷ x ∷ x ∷ []) ∷
-    -- 12: first-waypoint-due
+    -- 12: first_waypoint_due
     (x ∷ x ∷ x ∷ x ∷ x ∷ x ∷ x ∷ x ∷ x ∷ x ∷ x ∷ 129 ∷ 130 ∷ 131 ∷ 128 ∷ 128 ∷ 128 ∷ x ∷ x ∷ x ∷ x ∷ x ∷ x ∷ x ∷ x ∷ x ∷ x ∷ x ∷ x ∷ 13 ∷ []) ∷
-    -- 13: waypoint-due, waypoints owed
+    -- 13: waypoint_due, waypoints owed
     (x ∷ x ∷ x ∷ x ∷ x ∷ x ∷ x ∷ x ∷ x ∷ x ∷ x ∷ x ∷ x ∷ x ∷ x ∷ x ∷ x ∷ x ∷ x ∷ x ∷ x ∷ x ∷ x ∷ x ∷ x ∷ x ∷ x ∷ x ∷ x ∷ 13 ∷ []) ∷
-    -- 14: waypoint-due, nothing owed
+    -- 14: waypoint_due, nothing owed
     (x ∷ x ∷ x ∷ x ∷ x ∷ x ∷ x ∷ x ∷ x ∷ x ∷ x ∷ x ∷ x ∷ x ∷ x ∷ x ∷ x ∷ 9 ∷ x ∷ x ∷ x ∷ x ∷ x ∷ x ∷ x ∷ x ∷ x ∷ x ∷ x ∷ x ∷ []) ∷
-    -- 15: num-spots-due
+    -- 15: num_spots_due
     (x ∷ x ∷ x ∷ x ∷ x ∷ x ∷ x ∷ x ∷ x ∷ x ∷ x ∷ x ∷ x ∷ x ∷ x ∷ x ∷ x ∷ x ∷ x ∷ 16 ∷ x ∷ x ∷ x ∷ x ∷ x ∷ x ∷ x ∷ x ∷ x ∷ x ∷ []) ∷
-    -- 16: perimeter-due
+    -- 16: perimeter_due
     (x ∷ x ∷ x ∷ x ∷ x ∷ x ∷ x ∷ x ∷ x ∷ x ∷ x ∷ x ∷ x ∷ x ∷ x ∷ x ∷ x ∷ x ∷ x ∷ x ∷ 129 ∷ x ∷ 17 ∷ x ∷ x ∷ x ∷ x ∷ x ∷ x ∷ x ∷ []) ∷
-    -- 17: num-perimeterpoints-due
+    -- 17: num_perimeterpoints_due
     (x ∷ x ∷ x ∷ x ∷ x ∷ x ∷ x ∷ x ∷ x ∷ x ∷ x ∷ x ∷ x ∷ x ∷ x ∷ x ∷ x ∷ x ∷ x ∷ x ∷ x ∷ x ∷ x ∷ 18 ∷ x ∷ x ∷ x ∷ x ∷ x ∷ x ∷ []) ∷
-    -- 18: first-perimeterpoint-due
+    -- 18: first_perimeterpoint_due
     (x ∷ x ∷ x ∷ x ∷ x ∷ x ∷ x ∷ x ∷ x ∷ x ∷ x ∷ x ∷ x ∷ x ∷ x ∷ x ∷ 128 ∷ x ∷ x ∷ x ∷ x ∷ x ∷ x ∷ x ∷ x ∷ x ∷ x ∷ x ∷ x ∷ 19 ∷ []) ∷
-    -- 19: perimeterpoint-due, points owed
+    -- 19: perimeterpoint_due, points owed
     (x ∷ x ∷ x ∷ x ∷ x ∷ x ∷ x ∷ x ∷ x ∷ x ∷ x ∷ x ∷ x ∷ x ∷ x ∷ x ∷ x ∷ x ∷ x ∷ x ∷ x ∷ x ∷ x ∷ x ∷ x ∷ x ∷ x ∷ x ∷ x ∷ 19 ∷ []) ∷
-    -- 20: perimeterpoint-due, nothing owed
+    -- 20: perimeterpoint_due, nothing owed
     (x ∷ x ∷ x ∷ x ∷ x ∷ x ∷ x ∷ x ∷ x ∷ x ∷ x ∷ x ∷ x ∷ x ∷ x ∷ x ∷ x ∷ x ∷ x ∷ x ∷ x ∷ x ∷ x ∷ x ∷ 21 ∷ x ∷ x ∷ x ∷ x ∷ x ∷ []) ∷
-    -- 21: spot-due, spots owed
+    -- 21: spot_due, spots owed
     (x ∷ x ∷ x ∷ x ∷ x ∷ x ∷ x ∷ x ∷ x ∷ x ∷ x ∷ x ∷ x ∷ x ∷ x ∷ x ∷ x ∷ x ∷ x ∷ x ∷ x ∷ x ∷ x ∷ x ∷ x ∷ 23 ∷ x ∷ x ∷ x ∷ x ∷ []) ∷
-    -- 22: spot-due, nothing owed
+    -- 22: spot_due, nothing owed
     (x ∷ x ∷ x ∷ x ∷ x ∷ x ∷ x ∷ x ∷ x ∷ x ∷ x ∷ x ∷ x ∷ x ∷ x ∷ x ∷ x ∷ x ∷ x ∷ x ∷ x ∷ 4 ∷ x ∷ x ∷ x ∷ x ∷ x ∷ x ∷ x ∷ x ∷ []) ∷
-    -- 23: first-of-spot-due
+    -- 23: first_of_spot_due
     (x ∷ x ∷ x ∷ x ∷ x ∷ x ∷ x ∷ x ∷ x ∷ x ∷ x ∷ x ∷ x ∷ x ∷ 130 ∷ x ∷ x ∷ x ∷ x ∷ x ∷ x ∷ x ∷ x ∷ x ∷ x ∷ x ∷ 129 ∷ x ∷ x ∷ 24 ∷ []) ∷
-    -- 24: second-of-spot-due
+    -- 24: second_of_spot_due
     (x ∷ x ∷ x ∷ x ∷ x ∷ x ∷ x ∷ x ∷ x ∷ x ∷ x ∷ x ∷ x ∷ x ∷ x ∷ x ∷ x ∷ x ∷ x ∷ x ∷ x ∷ x ∷ x ∷ x ∷ x ∷ x ∷ x ∷ x ∷ x ∷ 25 ∷ []) ∷
-    -- 25: end-spot-due
+    -- 25: end_spot_due
     (x ∷ x ∷ x ∷ x ∷ x ∷ x ∷ x ∷ x ∷ x ∷ x ∷ x ∷ x ∷ x ∷ x ∷ x ∷ x ∷ x ∷ x ∷ x ∷ x ∷ x ∷ x ∷ x ∷ x ∷ x ∷ x ∷ x ∷ 21 ∷ x ∷ x ∷ []) ∷
     -- 26: over
     (x ∷ x ∷ x ∷ x ∷ x ∷ x ∷ x ∷ x ∷ x ∷ x ∷ x ∷ x ∷ x ∷ x ∷ x ∷ x ∷ x ∷ x ∷ x ∷ x ∷ x ∷ x ∷ x ∷ x ∷ x ∷ x ∷ x ∷ x ∷ x ∷ x ∷ []) ∷
@@ -67,27 +67,27 @@ rndf_table_of =
 
 unfoldable pub mdf_table_of : List (List ℕ)
 mdf_table_of =
-    -- 0: name-due
+    -- 0: name_due
     (1 ∷ x ∷ x ∷ x ∷ x ∷ x ∷ x ∷ x ∷ x ∷ x ∷ x ∷ x ∷ x ∷ []) ∷
-    -- 1: RNDF-due
+    -- 1: RNDF_due
     (x ∷ 2 ∷ x ∷ x ∷ x ∷ x ∷ x ∷ x ∷ x ∷ x ∷ x ∷ x ∷ x ∷ []) ∷
-    -- 2: checkpoints-due
+    -- 2: checkpoints_due
     (x ∷ x ∷ 129 ∷ 130 ∷ 3 ∷ x ∷ x ∷ x ∷ x ∷ x ∷ x ∷ x ∷ x ∷ []) ∷
-    -- 3: num-checkpoints-due
+    -- 3: num_checkpoints_due
     (x ∷ x ∷ x ∷ x ∷ x ∷ 4 ∷ x ∷ x ∷ x ∷ x ∷ x ∷ x ∷ x ∷ []) ∷
-    -- 4: goal-due, goals owed
+    -- 4: goal_due, goals owed
     (x ∷ x ∷ x ∷ x ∷ x ∷ x ∷ x ∷ x ∷ x ∷ x ∷ x ∷ 4 ∷ x ∷ []) ∷
-    -- 5: goal-due, nothing owed
+    -- 5: goal_due, nothing owed
     (x ∷ x ∷ x ∷ x ∷ x ∷ x ∷ 6 ∷ x ∷ x ∷ x ∷ x ∷ x ∷ x ∷ []) ∷
-    -- 6: speed-limits-due
+    -- 6: speed_limits_due
     (x ∷ x ∷ x ∷ x ∷ x ∷ x ∷ x ∷ 7 ∷ x ∷ x ∷ x ∷ x ∷ x ∷ []) ∷
-    -- 7: num-speed-limits-due
+    -- 7: num_speed_limits_due
     (x ∷ x ∷ x ∷ x ∷ x ∷ x ∷ x ∷ x ∷ 8 ∷ x ∷ x ∷ x ∷ x ∷ []) ∷
-    -- 8: limit-due, limits owed
+    -- 8: limit_due, limits owed
     (x ∷ x ∷ x ∷ x ∷ x ∷ x ∷ x ∷ x ∷ x ∷ x ∷ x ∷ x ∷ 8 ∷ []) ∷
-    -- 9: limit-due, nothing owed
+    -- 9: limit_due, nothing owed
     (x ∷ x ∷ x ∷ x ∷ x ∷ x ∷ x ∷ x ∷ x ∷ 10 ∷ x ∷ x ∷ x ∷ []) ∷
-    -- 10: end-file-due
+    -- 10: end_file_due
     (x ∷ x ∷ x ∷ x ∷ x ∷ x ∷ x ∷ x ∷ x ∷ x ∷ 11 ∷ x ∷ x ∷ []) ∷
     -- 11: over
     (x ∷ x ∷ x ∷ x ∷ x ∷ x ∷ x ∷ x ∷ x ∷ x ∷ x ∷ x ∷ x ∷ []) ∷

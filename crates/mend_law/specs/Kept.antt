@@ -9,7 +9,7 @@ use Rattle.mend_law.specs.Mends.{AcceptedWithRoom, ListRoom, Mends}
 use Rattle.mend_law.specs.declared.MendReply.{MendReply}
 use Rattle.mend_law.specs.declared.MendReply.TheVariants.{Mended}
 
--- "Lines not listed come out byte for byte and in order.": the lines are the text, and one is listed exactly if another thing comes out in its place. What comes out is the pieces in this order (Mend.mended-text); gather (take 1): the numbers listed
+-- "Lines not listed come out byte for byte and in order.": the lines are the text, and one is listed exactly if another thing comes out in its place. What comes out is the pieces in this order (Mend.mended_text); gather (take 1): the numbers listed
 pub record LinesKept (text : Bytes) : Type 0 where
   pub whole : gather (λ c. c.whole) (changes text) ≡ text
   pub kept : Each (λ c. (Among c.line (gather (take 1) (listed_rows text)) → ⊥) → piece c.change c.whole ≡ c.whole) (changes text)

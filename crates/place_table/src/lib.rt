@@ -145,27 +145,27 @@ pub fn mdf_table() -> [[u8; 13]; 12]
 const X: u8 = REFUSED;
 
 const MDF: [[u8; 13]; 12] = [
-    // 0: name-due
+    // 0: name_due
     [1, X, X, X, X, X, X, X, X, X, X, X, X],
-    // 1: RNDF-due
+    // 1: RNDF_due
     [X, 2, X, X, X, X, X, X, X, X, X, X, X],
-    // 2: checkpoints-due
+    // 2: checkpoints_due
     [X, X, 129, 130, 3, X, X, X, X, X, X, X, X],
-    // 3: num-checkpoints-due
+    // 3: num_checkpoints_due
     [X, X, X, X, X, 4, X, X, X, X, X, X, X],
-    // 4: goal-due, goals owed
+    // 4: goal_due, goals owed
     [X, X, X, X, X, X, X, X, X, X, X, 4, X],
-    // 5: goal-due, nothing owed
+    // 5: goal_due, nothing owed
     [X, X, X, X, X, X, 6, X, X, X, X, X, X],
-    // 6: speed-limits-due
+    // 6: speed_limits_due
     [X, X, X, X, X, X, X, 7, X, X, X, X, X],
-    // 7: num-speed-limits-due
+    // 7: num_speed_limits_due
     [X, X, X, X, X, X, X, X, 8, X, X, X, X],
-    // 8: limit-due, limits owed
+    // 8: limit_due, limits owed
     [X, X, X, X, X, X, X, X, X, X, X, X, 8],
-    // 9: limit-due, nothing owed
+    // 9: limit_due, nothing owed
     [X, X, X, X, X, X, X, X, X, 10, X, X, X],
-    // 10: end-file-due
+    // 10: end_file_due
     [X, X, X, X, X, X, X, X, X, X, 11, X, X],
     // 11: over
     [X, X, X, X, X, X, X, X, X, X, X, X, X],

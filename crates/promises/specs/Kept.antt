@@ -11,7 +11,7 @@ use Rattle.replies.specs.declared.RndfReply.TheVariants as Reply
 use Rattle.replies.specs.declared.PairReply.TheVariants as Pair
 use Rattle.replies.specs.Replies.{ReadsRndf, ReadsPair}
 
--- L3: "every text accepted before gives the same tables": the same reply, and the same left in the lent tables; likewise a pair. L10: "what the older edition accepts, the present one accepts with the same tables": Kept (reading december-2006) (reading march-2007)
+-- L3: "every text accepted before gives the same tables": the same reply, and the same left in the lent tables; likewise a pair. L10: "what the older edition accepts, the present one accepts with the same tables": Kept (reading december_2006) (reading march_2007)
 pub record Kept (earlier later : Rules) : Type 0 where
   pub rndf : (text : Bytes) (t left : Lent) (c : Counts) (file : FileRow) → ReadsRndf earlier text t (Reply.Accepted c file) left → ReadsRndf later text t (Reply.Accepted c file) left
   pub pair : (rndf mdf : Bytes) (t left : Lent) (u mission_left : MissionLent) (c : Counts) (file : FileRow) (d : MissionCounts) (own : MissionFileRow)
