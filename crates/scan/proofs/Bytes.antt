@@ -1,5 +1,5 @@
 -- Laws of the byte classes: what every definition above needs to know of them, so that nothing else opens `separates`. Assumes nothing.
-use mathlib.Core.Path.{◌≡◌, refl, sym, ap}
+use mathlib.Core.Path.{◌≡◌, refl, ap}
 use mathlib.Core.List.{[], ◌∷◌, ◌++◌}
 use mathlib.Core.Bool.{Bool, true, false, not, ◌&&◌, ◌||◌, and_assoc}
 use Prim.Native.Nat.{ℕ, ◌≤◌}
@@ -7,7 +7,7 @@ use native.Mathlib.Omega.{arith}
 use borrow.Author.Tests.{eqb-true, eqb-false, ne_eqb, le-leb, lt-leb, leb-true, leb-false}
 use lib.Dec.{eqb, leb}
 use Rattle.terms.specs.Ascii.{Bytes}
-use Rattle.terms.proofs.Tests.{clash, both, and, or_right}
+use Rattle.terms.proofs.Tests.{both, and, or_right}
 use Rattle.scan.specs.Allowed.{within, tab, separates, field_byte, outside, inside, all}
 use Rattle.scan.specs.Reach.{plain}
 

@@ -1,7 +1,7 @@
 -- Several bytes tested at once: what it says of them together, and that a scan passes over them. Assumes nothing.
 use mathlib.Core.Path.{◌≡◌, refl, sym, ap, ◌∙◌}
 use mathlib.Core.List.{[], ◌∷◌}
-use mathlib.Core.Bool.{Bool, true, false, not, ◌&&◌, and-true, and_assoc}
+use mathlib.Core.Bool.{Bool, true, false, not, ◌&&◌, and_assoc}
 use Prim.Native.Nat.{ℕ, zero, suc, ◌+◌, ◌-◌, ◌≤◌}
 use native.Mathlib.Numerals.{add-one}
 use native.Mathlib.Nat.{add-zero, zero-add, suc-add}
@@ -13,17 +13,12 @@ use Rattle.terms.specs.Ascii.{Bytes}
 use Rattle.terms.proofs.Tests.{clash, both}
 use Rattle.scan.specs.Allowed.{all}
 use Rattle.scan.specs.Reach.{reach, fails, first, two, other, stops_by}
-use Rattle.scan.specs.declared.Until.TheVariants.{Byte, Two}
+use Rattle.scan.specs.declared.Until.TheVariants.{Two}
 use Rattle.scan.proofs.Reach.{reach-go}
 
 module _ (t : ℕ → Bool) where
-  pub all_two : (s : Bytes) (i : ℕ) → i + 2 ≤ length s → (t (get_or s i 0) && t (get_or s (i + 1) 0)) ≡ all t (take 2 (drop i s))
-  unfolding all
-  all_two s i h =
-      rw (drop-cons s i 0 (omega arith), add-one, drop-cons s (suc i) 0 (omega arith))
-      (ap (λ x. t (get_or s i 0) && x) (sym (and-true (t (get_or s (suc i) 0)))))
-
-  joined : (m n : ℕ) (l : Bytes) → (all t (take m l) && all t (take n (drop m l))) ≡ all t (take (m + n) l)
+  -- the first m bytes, and n behind them
+  pub joined : (m n : ℕ) (l : Bytes) → (all t (take m l) && all t (take n (drop m l))) ≡ all t (take (m + n) l)
   unfolding all
   joined zero n l = rw (zero-add n)
   joined (suc m) n [] = rw (suc-add m n, take-nil {A = ℕ} n)
@@ -61,16 +56,7 @@ module _ (t : ℕ → Bool) where
   unfolding fails
   fails-none b l e = rw e
 
--- and one for x, where no byte is x
-pub byte-none : (x b : ℕ) (l : Bytes) → other x b ≡ true → stops_by (Byte x) (b ∷ l) ≡ false
-unfolding stops_by first
-byte-none x b l e = go (eqb b x) e
-  where
-    go : (y : Bool) → not y ≡ true → y ≡ false
-    go true e = sym e
-    go false e = refl
-
--- and one for x and y, where no byte is x
+-- and one for x and y goes over bytes of which none is x
 pub two_none : (x y b : ℕ) (l : Bytes) → other x b ≡ true → stops_by (Two x y) (b ∷ l) ≡ false
 unfolding stops_by two
 two_none x y b l e = go (eqb b x) e

@@ -3,3 +3,4 @@ pub mod Reach
 pub mod Bytes
 pub mod Equal
 pub mod Eights
+pub mod Passing

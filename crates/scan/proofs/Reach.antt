@@ -14,7 +14,7 @@ use Rattle.terms.specs.Ascii.{Bytes}
 use Rattle.terms.specs.Words.{pick}
 use Rattle.scan.specs.Allowed.{separates, outside, inside, digit, all}
 use Rattle.scan.specs.Reach.{up_to, reach, begins, fails, first, two, stops_by}
-use Rattle.scan.specs.declared.Until.TheVariants.{Byte, Two, Separator, NotSeparator, NotOutside, NotInside, NotDigit}
+use Rattle.scan.specs.declared.Until.TheVariants.{Byte, Two, NotSeparator, NotOutside, NotInside, NotDigit}
 use Rattle.terms.proofs.Tests.{clash, both, and}
 
 -- what comes next, at a place of the whole
@@ -172,10 +172,6 @@ not_digit l = refl
 pub first-at : (x : ℕ) (s : Bytes) (i : ℕ) → i < length s → stops_by (Byte x) (drop i s) ≡ eqb (get_or s i 0) x
 unfolding stops_by first
 first-at x s i h = rw (drop-cons s i 0 h)
-
-pub separator-at : (s : Bytes) (i : ℕ) → i < length s → stops_by Separator (drop i s) ≡ separates (get_or s i 0)
-unfolding stops_by begins
-separator-at s i h = rw (drop-cons s i 0 h)
 
 pub not-passing : (test : Bytes → Bool) (t : ℕ → Bool) → ((l : Bytes) → test l ≡ fails t l) → (s : Bytes) (i : ℕ) → i < length s → test (drop i s) ≡ not (t (get_or s i 0))
 unfolding fails

@@ -2,3 +2,4 @@
 pub mod Allowed
 pub mod Begins
 pub mod Reach
+pub mod Passing

@@ -1,11 +1,13 @@
 // Which bytes are what, and the loops over bytes: how far it is to the next byte, or pair of bytes, of some kind. No other crate loops over bytes to find one, but for the end of a name (`plain_parts`) and of a number (`references`).
-// Every scan is `reach` of a test (specs/Reach). proofs/Reach: its laws; proofs/Eights: a scan goes over eight bytes at once.
+// Every scan is `reach` of a test (specs/Reach), and a loop takes the test as a closure (specs/Passing). proofs/Reach: the laws of `reach`; proofs/Eights: a scan goes over eight bytes at
+// once; proofs/Passing: what the loops go by.
 // Rests on `terms`.
 #![tactic(auto)]
 
-ghost use Rattle.std.specs.Prelude.{◌≡◌, ℕ, ◌<◌, ◌≤◌, ◌+◌, min, length, take, drop};
+ghost use Rattle.std.specs.Prelude.{◌≡◌, ℕ, Bool, ◌<◌, length, drop};
 ghost use Rattle.scan.specs.Allowed.{separates, outside, inside, digit, all};
-ghost use Rattle.scan.specs.Reach.{reach, two, fails, stops_by, other, plain, same_bytes_of};
+ghost use Rattle.scan.specs.Reach.{reach, two, fails, stops_by, plain, same_bytes_of};
+ghost use Rattle.scan.specs.Passing.{Answers, GoesOver};
 
 // What a scan stops at.
 #[derive(Clone, Copy)]
@@ -30,19 +32,7 @@ pub fn is_separator(b: u8) -> bool
 fn is_outside(b: u8) -> bool
     ensures { result ≡ outside b }
 {
-    if is_separator(b) {
-        return true;
-    }
-    if b < 33 {
-        return false;
-    }
-    if 126 < b {
-        return false;
-    }
-    if b == b'\\' {
-        return false;
-    }
-    b != b'*'
+    is_separator(b) | ((33 <= b) & (b <= 126) & (b != b'\\') & (b != b'*'))
 }
 
 // Allowed inside comments: a tab, or 32 to 126.
@@ -55,10 +45,7 @@ pub fn is_inside(b: u8) -> bool
 pub fn is_digit(b: u8) -> bool
     ensures { result ≡ digit b }
 {
-    if b < b'0' {
-        return false;
-    }
-    b <= b'9'
+    b.is_ascii_digit()
 }
 
 // The bytes a and b stand at i.
@@ -66,284 +53,147 @@ fn two_at(s: &[u8], i: usize, a: u8, b: u8) -> bool
     requires { i < length s.now }
     ensures { result ≡ two a b (drop i s.now) }
 {
-    let k = i + 1;
-    if k < s.len() {
-        if s[i] == a { s[k] == b } else { false }
-    } else {
-        false
-    }
-}
-
-// ## Eight bytes at a time
-// Most bytes of a text stop no scan. What is asked of eight bytes at once, with `&` and no branch for each, the compiler asks by one instruction.
-
-// None of the two bytes from i on is x.
-fn two_without(s: &[u8], i: usize, x: u8) -> bool
-    requires { i + 2 ≤ length s.now }
-    ensures { result ≡ all (other x) (take 2 (drop i s.now)) }
-{
-    (s[i] != x) & (s[i + 1] != x)
-}
-
-// Nor of the four.
-fn four_without(s: &[u8], i: usize, x: u8) -> bool
-    requires { i + 4 ≤ length s.now }
-    ensures { result ≡ all (other x) (take 4 (drop i s.now)) }
-{
-    two_without(s, i, x) & two_without(s, i + 2, x)
-}
-
-// Nor of the eight.
-fn eight_without(s: &[u8], i: usize, x: u8) -> bool
-    requires { i + 8 ≤ length s.now }
-    ensures { result ≡ all (other x) (take 8 (drop i s.now)) }
-{
-    four_without(s, i, x) & four_without(s, i + 4, x)
-}
-
-// A place from `from` on, before which there is no x: a scan for x, or for x and any y, goes over it.
-fn eights_without(s: &[u8], from: usize, x: u8) -> usize
-    ensures { (reach (stops_by (Until.Byte x)) s.now result ≡ reach (stops_by (Until.Byte x)) s.now from) × ((y : ℕ) → reach (stops_by (Until.Two x y)) s.now result ≡ reach (stops_by (Until.Two x y)) s.now from) }
-{
-    let mut i = from;
-    if 8 <= s.len() {
-        let last = s.len() - 8;
-        while i <= last {
-            if eight_without(s, i, x) {
-                i += 8;
-            } else {
-                return i;
-            }
-        }
-    }
-    i
+    i + 1 < s.len() && s[i] == a && s[i + 1] == b
 }
 
 // A byte of a field, or a separator, that opens no comment: a space is the one byte of 32 to 126 that is no field's.
+// Kept as it is: tried, and slower: `is_outside(b) & (b != b'/')` takes a fifth more time over a long run of such bytes, since it asks for the space too.
 fn is_plain(b: u8) -> bool
     ensures { result ≡ plain b }
 {
     (b == b'\t') | ((32 <= b) & (b <= 126) & (b != b'\\') & (b != b'*') & (b != b'/'))
 }
 
-// The two bytes from i on are plain.
-fn two_plain(s: &[u8], i: usize) -> bool
-    requires { i + 2 ≤ length s.now }
-    ensures { result ≡ all plain (take 2 (drop i s.now)) }
-{
-    is_plain(s[i]) & is_plain(s[i + 1])
-}
+// ## Eight bytes at a time
+// Most bytes of a text stop no scan. What is asked of eight bytes at once, with `&` and no branch for each, the compiler asks by one instruction.
 
-// The four.
-fn four_plain(s: &[u8], i: usize) -> bool
-    requires { i + 4 ≤ length s.now }
-    ensures { result ≡ all plain (take 4 (drop i s.now)) }
+// Each of the bytes passes. It has two callers, and is too small to be called.
+#[inline(always)]
+fn all_pass<F: Fn(u8) -> bool>(bytes: &[u8], test: F) -> bool
+    requires { F.IsAlwaysCallable test }
+    ensures { (t : ℕ → Bool) → Answers (F.post test) t → result ≡ all t bytes.now }
 {
-    two_plain(s, i) & two_plain(s, i + 2)
-}
-
-// The eight.
-fn eight_plain(s: &[u8], i: usize) -> bool
-    requires { i + 8 ≤ length s.now }
-    ensures { result ≡ all plain (take 8 (drop i s.now)) }
-{
-    four_plain(s, i) & four_plain(s, i + 4)
-}
-
-fn lesser(a: usize, b: usize) -> usize
-    ensures { result ≡ min a b }
-{
-    if a <= b { a } else { b }
-}
-
-// A place from `from` on, before which every byte is plain. The last eight bytes may have been tested in part before.
-fn plain_eights(s: &[u8], from: usize) -> usize
-    ensures { reach (fails plain) s.now result ≡ reach (fails plain) s.now from }
-{
-    let mut i = from;
-    if 8 <= s.len() {
-        let last = s.len() - 8;
-        while i < s.len() {
-            let k = lesser(i, last);
-            if eight_plain(s, k) {
-                i = k + 8;
-            } else {
-                return i;
-            }
-        }
+    let mut pass = true;
+    for b in bytes {
+        pass &= test(*b);
     }
-    i
+    pass
 }
 
-// The two bytes from i on are allowed inside comments.
-fn two_inside(s: &[u8], i: usize) -> bool
-    requires { i + 2 ≤ length s.now }
-    ensures { result ≡ all inside (take 2 (drop i s.now)) }
-{
-    is_inside(s[i]) & is_inside(s[i + 1])
-}
-
-// The four.
-fn four_inside(s: &[u8], i: usize) -> bool
-    requires { i + 4 ≤ length s.now }
-    ensures { result ≡ all inside (take 4 (drop i s.now)) }
-{
-    two_inside(s, i) & two_inside(s, i + 2)
-}
-
-// The eight.
-fn eight_inside(s: &[u8], i: usize) -> bool
-    requires { i + 8 ≤ length s.now }
-    ensures { result ≡ all inside (take 8 (drop i s.now)) }
-{
-    four_inside(s, i) & four_inside(s, i + 4)
-}
-
-// A place from `from` on, before which every byte is allowed inside comments.
-fn inside_eights(s: &[u8], from: usize) -> usize
-    ensures { reach (stops_by Until.NotInside) s.now result ≡ reach (stops_by Until.NotInside) s.now from }
+// A place from `from` on, before which every byte passes: any scan that stops at no such byte goes over it. The last eight bytes may have been tested in part before.
+fn eights_passed<F: Fn(u8) -> bool + Copy>(s: &[u8], from: usize, test: F) -> usize
+    requires { F.IsAlwaysCallable test }
+    ensures { (t : ℕ → Bool) → Answers (F.post test) t → GoesOver t s.now from result }
 {
     let mut i = from;
     if 8 <= s.len() {
         let last = s.len() - 8;
-        while i < s.len() {
-            let k = lesser(i, last);
-            if eight_inside(s, k) {
-                i = k + 8;
-            } else {
+        // Kept as it is: the new form is no plainer: behind a `for` over `step_by(8)`, i, which is the answer, would have to be counted again.
+        while i <= last {
+            if !all_pass(&s[i..i + 8], test) {
                 return i;
             }
+            i += 8;
+        }
+        if i < s.len() && all_pass(&s[last..], test) {
+            return s.len();
         }
     }
     i
 }
 
 // ## The loops
-// A loop for each kind of stop, so that the kind is not asked again at every byte. Each answers the first place from `from` on at which it stops;
-// the end where there is none.
+// Each answers the first place from `from` on at which it stops; the end where there is none. The test is a type parameter, so that each kind of stop has its own loop,
+// and the kind is not asked again at every byte.
+
+// A byte that fails the test.
+fn failing_from<F: Fn(u8) -> bool>(s: &[u8], from: usize, test: F) -> usize
+    requires { F.IsAlwaysCallable test }
+    ensures { (t : ℕ → Bool) → Answers (F.post test) t → result ≡ reach (fails t) s.now from }
+{
+    for i in from..s.len() {
+        if !test(s[i]) {
+            return i;
+        }
+    }
+    from.max(s.len())
+}
+
+// The same, where it may be far.
+fn far_failing_from<F: Fn(u8) -> bool + Copy>(s: &[u8], from: usize, test: F) -> usize
+    requires { F.IsAlwaysCallable test }
+    ensures { (t : ℕ → Bool) → Answers (F.post test) t → result ≡ reach (fails t) s.now from }
+{
+    failing_from(s, eights_passed(s, from, test), test)
+}
 
 // The byte x, where it is near.
 pub fn byte_from(s: &[u8], from: usize, x: u8) -> usize
     ensures { result ≡ reach (stops_by (Until.Byte x)) s.now from }
 {
-    let mut i = from;
-    while i < s.len() {
-        if s[i] == x {
-            return i;
-        }
-        i += 1;
-    }
-    i
+    failing_from(s, from, |b| b != x)
 }
 
 // The byte x, where it may be far, as a line's end.
 pub fn far_byte_from(s: &[u8], from: usize, x: u8) -> usize
     ensures { result ≡ reach (stops_by (Until.Byte x)) s.now from }
 {
-    byte_from(s, eights_without(s, from, x), x)
+    far_failing_from(s, from, |b| b != x)
 }
 
 // The bytes x and y.
 pub fn two_from(s: &[u8], from: usize, x: u8, y: u8) -> usize
     ensures { result ≡ reach (stops_by (Until.Two x y)) s.now from }
 {
-    let mut i = eights_without(s, from, x);
-    while i < s.len() {
+    let near = eights_passed(s, from, |b| b != x);
+    for i in near..s.len() {
         if two_at(s, i, x, y) {
             return i;
         }
-        i += 1;
     }
-    i
+    near.max(s.len())
 }
 
 // A separator.
 pub fn separator_from(s: &[u8], from: usize) -> usize
     ensures { result ≡ reach (stops_by Until.Separator) s.now from }
 {
-    let mut i = from;
-    while i < s.len() {
-        if is_separator(s[i]) {
-            return i;
-        }
-        i += 1;
-    }
-    i
+    failing_from(s, from, |b| !is_separator(b))
 }
 
 // A byte that is no separator.
 pub fn not_separator_from(s: &[u8], from: usize) -> usize
     ensures { result ≡ reach (stops_by Until.NotSeparator) s.now from }
 {
-    let mut i = from;
-    while i < s.len() {
-        if is_separator(s[i]) {
-            i += 1;
-        } else {
-            return i;
-        }
-    }
-    i
+    failing_from(s, from, is_separator)
 }
 
 // A byte that is not allowed outside comments.
 pub fn not_outside_from(s: &[u8], from: usize) -> usize
     ensures { result ≡ reach (stops_by Until.NotOutside) s.now from }
 {
-    let mut i = from;
-    while i < s.len() {
-        if is_outside(s[i]) {
-            i += 1;
-        } else {
-            return i;
-        }
-    }
-    i
+    failing_from(s, from, is_outside)
 }
 
 // A byte that is not allowed inside comments.
 pub fn not_inside_from(s: &[u8], from: usize) -> usize
     ensures { result ≡ reach (stops_by Until.NotInside) s.now from }
 {
-    let mut i = inside_eights(s, from);
-    while i < s.len() {
-        if is_inside(s[i]) {
-            i += 1;
-        } else {
-            return i;
-        }
-    }
-    i
+    far_failing_from(s, from, is_inside)
 }
 
 // A byte that is no digit.
 pub fn not_digit_from(s: &[u8], from: usize) -> usize
     ensures { result ≡ reach (stops_by Until.NotDigit) s.now from }
 {
-    let mut i = from;
-    while i < s.len() {
-        if is_digit(s[i]) {
-            i += 1;
-        } else {
-            return i;
-        }
-    }
-    i
+    failing_from(s, from, is_digit)
 }
 
 // A byte that is not plain.
 pub fn plain_from(s: &[u8], from: usize) -> usize
     ensures { result ≡ reach (fails plain) s.now from }
 {
-    let mut i = plain_eights(s, from);
-    while i < s.len() {
-        if is_plain(s[i]) {
-            i += 1;
-        } else {
-            return i;
-        }
-    }
-    i
+    far_failing_from(s, from, is_plain)
 }
 
 // Any of these, by its kind.
@@ -365,15 +215,5 @@ pub fn scan(s: &[u8], from: usize, until: Until) -> usize
 pub fn same(a: &[u8], b: &[u8]) -> bool
     ensures { result ≡ same_bytes_of a.now b.now }
 {
-    if a.len() != b.len() {
-        return false;
-    }
-    let mut i: usize = 0;
-    while i < a.len() {
-        if a[i] != b[i] {
-            return false;
-        }
-        i += 1;
-    }
-    true
+    a == b
 }

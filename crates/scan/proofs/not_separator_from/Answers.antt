@@ -1,24 +1,10 @@
--- `scan::not_separator_from` meets its contract: the scan from i reaches where the scan from `from` does. Assumes nothing.
-use mathlib.Core.Path.{◌∙◌, sym, ap}
-use mathlib.Core.Bool.{not}
-use native.Mathlib.Omega.{arith}
+-- `scan::not_separator_from` meets its contract. Assumes nothing.
+use mathlib.Core.Path.{◌∙◌}
 use Rattle.scan.specs.Allowed.{separates}
-use Rattle.scan.specs.Reach.{stops_by}
 use Rattle.scan.specs.declared.Until.TheVariants.{NotSeparator}
-use Rattle.scan.proofs.Reach.{reach-stop, reach-go, reach-end, not-passing, not-separator}
+use Rattle.scan.proofs.Reach.{not-separator}
+use Rattle.scan.proofs.Passing.{stops_so}
 use Rattle.scan.proofs.not_separator_from.Goals as goal
 
-pub returns-else-is_separator : goal.returns-else-is_separator
-returns-else-is_separator c =
-    let a = c.args in
-    sym (reach-stop (stops_by NotSeparator) a.s.now c.loop-i.i (not-passing (stops_by NotSeparator) separates not-separator a.s.now c.loop-i.i (omega arith) ∙ ap not (sym c.is_separator.ensures ∙ c.if-is_separator.false))) ∙ c.loop-i.invariant
-
-pub loop-i-preserved : goal.loop-i-preserved
-loop-i-preserved c =
-    let a = c.args in
-    reach-go (stops_by NotSeparator) a.s.now c.loop-i.i (omega arith) (not-passing (stops_by NotSeparator) separates not-separator a.s.now c.loop-i.i (omega arith) ∙ ap not (sym c.is_separator.ensures ∙ c.if-is_separator.true)) ∙ c.loop-i.invariant
-
 pub returns : goal.returns
-returns c =
-    let a = c.args in
-    sym (reach-end (stops_by NotSeparator) a.s.now c.loop-i.i (omega arith)) ∙ c.loop-i.invariant
+returns c = c.failing_from.ensures separates (λ b h r p. p) ∙ stops_so NotSeparator separates not-separator c.args.s.now c.args.from
