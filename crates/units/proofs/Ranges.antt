@@ -1,5 +1,6 @@
 -- A constructor accepts exactly the numbers of its kind, and keeps them. One law over the lowest number, and each kind's two sentences. Assumes nothing.
-use mathlib.Core.Path.{◌≡◌, refl, sym, ap}
+use Rattle.std.specs.Prelude.{Option, Some, None, MatchOption, IsSomeAnd}
+use mathlib.Core.Path.{◌≡◌, refl, sym, ap, ◌∙◌}
 use mathlib.Core.Bool.{Bool, true, false}
 use Prim.Native.Nat.{ℕ, ◌≤◌, ◌<◌}
 use native.Mathlib.Omega.{arith}
@@ -8,15 +9,11 @@ use borrow.Author.Tests.{le-leb, lt-leb, leb-true}
 use Rattle.terms.specs.Words.{pick, Between}
 use Rattle.terms.proofs.Tests.{clash}
 use Rattle.units.specs.Range.{largest, missing, Width, Speed, Numbered, Identified}
-use Rattle.units.specs.Made.{within, feet, mph, checkpoint_number_of, segment_id_of, feet_of, mph_of, the_checkpoint_number_of, the_segment_id_of}
+use Rattle.units.specs.Made.{within, in_range_of, feet, mph, checkpoint_number_of, segment_id_of, feet_of, mph_of, the_checkpoint_number_of, the_segment_id_of}
 use Rattle.units.specs.declared.Feet.{Feet}
 use Rattle.units.specs.declared.Mph.{Mph}
 use Rattle.units.specs.declared.CheckpointNumber.{CheckpointNumber}
 use Rattle.units.specs.declared.SegmentId.{SegmentId}
-use Rattle.units.specs.declared.FeetRead.TheVariants as F
-use Rattle.units.specs.declared.MphRead.TheVariants as M
-use Rattle.units.specs.declared.CheckpointNumberRead.TheVariants as C
-use Rattle.units.specs.declared.SegmentIdRead.TheVariants as S
 
 -- the test says yes inside the range, and no below it and above it
 pub inside : {low n : ℕ} → Between low largest n → within low n ≡ true
@@ -45,19 +42,33 @@ picked : {A K : Type 0} (is : K → A) (refused : A) (k v : K) → ((u : K) → 
 picked is refused k v apart same true e = (refl, sym (same k v e))
 picked is refused k v apart same false e = absurd (apart v e)
 
+-- what `Option::map` makes of a number in the range, by a kind's own constructor
+pub mapped : {K : Type 0} (is : ℕ → K) (number : K → ℕ) → ((v : K) → v ≡ is (number v)) → (low n : ℕ) (r : Option K)
+    → MatchOption (in_range_of low largest n) (r ≡ None) (λ x. IsSomeAnd r (λ v. number v ≡ x)) → r ≡ pick (within low n) (Some (is n)) None
+unfolding in_range_of
+mapped {K} is number whole low n r m = go (within low n) m
+  where
+    made : (o : Option K) → IsSomeAnd o (λ v. number v ≡ n) → o ≡ Some (is n)
+    made None e = elim e [ ]
+    made (Some v) e = ap Some (whole v ∙ ap is e)
+
+    go : (t : Bool) → MatchOption (pick t (Some n) None) (r ≡ None) (λ x. IsSomeAnd r (λ v. number v ≡ x)) → r ≡ pick t (Some (is n)) None
+    go true e = made r e
+    go false e = e
+
 -- 01: "`lane_width` ≥ 0 (feet)", at most 32,768
-pub feet-is : {n : ℕ} → Width n → feet_of n ≡ F.Is (feet n)
+pub feet-is : {n : ℕ} → Width n → feet_of n ≡ Some (feet n)
 unfolding feet_of
 feet-is b = rw (inside b)
 
-pub feet-only : (n : ℕ) (v : Feet) → feet_of n ≡ F.Is v → Width n × (v ≡ feet n)
+pub feet-only : (n : ℕ) (v : Feet) → feet_of n ≡ Some v → Width n × (v ≡ feet n)
 unfolding feet_of
 feet-only n v e =
-    let p = picked F.Is F.Refused (feet n) v (λ u q. let z : ◌≡◌ {A = ℕ} 0 1 = cc in omega arith) (λ u w q. cc) (within 0 n) e in
+    let p = picked Some None (feet n) v (λ u q. let z : ◌≡◌ {A = ℕ} 0 1 = cc in omega arith) (λ u w q. cc) (within 0 n) e in
     (only-inside 0 n p.0, p.1)
 
 -- no width that the constructor makes is the missing width
-pub never-missing : (n : ℕ) → feet_of n ≡ F.Is (feet missing) → ⊥
+pub never-missing : (n : ℕ) → feet_of n ≡ Some (feet missing) → ⊥
 never-missing n e =
     let p = feet-only n (feet missing) e in
     let w : n ≤ largest = p.0.high in
@@ -65,34 +76,34 @@ never-missing n e =
     omega arith
 
 -- 01: "A speed of 0 means undefined and is kept as 0."
-pub mph-is : {n : ℕ} → Speed n → mph_of n ≡ M.Is (mph n)
+pub mph-is : {n : ℕ} → Speed n → mph_of n ≡ Some (mph n)
 unfolding mph_of
 mph-is b = rw (inside b)
 
-pub mph-only : (n : ℕ) (v : Mph) → mph_of n ≡ M.Is v → Speed n × (v ≡ mph n)
+pub mph-only : (n : ℕ) (v : Mph) → mph_of n ≡ Some v → Speed n × (v ≡ mph n)
 unfolding mph_of
 mph-only n v e =
-    let p = picked M.Is M.Refused (mph n) v (λ u q. let z : ◌≡◌ {A = ℕ} 0 1 = cc in omega arith) (λ u w q. cc) (within 0 n) e in
+    let p = picked Some None (mph n) v (λ u q. let z : ◌≡◌ {A = ℕ} 0 1 = cc in omega arith) (λ u w q. cc) (within 0 n) e in
     (only-inside 0 n p.0, p.1)
 
 -- 01: "Checkpoint numbers are > 0"
-pub checkpoint-number-is : {n : ℕ} → Numbered n → the_checkpoint_number_of n ≡ C.Is (checkpoint_number_of n)
+pub checkpoint-number-is : {n : ℕ} → Numbered n → the_checkpoint_number_of n ≡ Some (checkpoint_number_of n)
 unfolding the_checkpoint_number_of
 checkpoint-number-is b = rw (inside b)
 
-pub checkpoint-number-only : (n : ℕ) (v : CheckpointNumber) → the_checkpoint_number_of n ≡ C.Is v → Numbered n × (v ≡ checkpoint_number_of n)
+pub checkpoint-number-only : (n : ℕ) (v : CheckpointNumber) → the_checkpoint_number_of n ≡ Some v → Numbered n × (v ≡ checkpoint_number_of n)
 unfolding the_checkpoint_number_of
 checkpoint-number-only n v e =
-    let p = picked C.Is C.Refused (checkpoint_number_of n) v (λ u q. let z : ◌≡◌ {A = ℕ} 0 1 = cc in omega arith) (λ u w q. cc) (within 1 n) e in
+    let p = picked Some None (checkpoint_number_of n) v (λ u q. let z : ◌≡◌ {A = ℕ} 0 1 = cc in omega arith) (λ u w q. cc) (within 1 n) e in
     (only-inside 1 n p.0, p.1)
 
 -- 01: "segments 1 to M; zones M+1 to M+N"
-pub segment-id-is : {n : ℕ} → Identified n → the_segment_id_of n ≡ S.Is (segment_id_of n)
+pub segment-id-is : {n : ℕ} → Identified n → the_segment_id_of n ≡ Some (segment_id_of n)
 unfolding the_segment_id_of
 segment-id-is b = rw (inside b)
 
-pub segment-id-only : (n : ℕ) (v : SegmentId) → the_segment_id_of n ≡ S.Is v → Identified n × (v ≡ segment_id_of n)
+pub segment-id-only : (n : ℕ) (v : SegmentId) → the_segment_id_of n ≡ Some v → Identified n × (v ≡ segment_id_of n)
 unfolding the_segment_id_of
 segment-id-only n v e =
-    let p = picked S.Is S.Refused (segment_id_of n) v (λ u q. let z : ◌≡◌ {A = ℕ} 0 1 = cc in omega arith) (λ u w q. cc) (within 1 n) e in
+    let p = picked Some None (segment_id_of n) v (λ u q. let z : ◌≡◌ {A = ℕ} 0 1 = cc in omega arith) (λ u w q. cc) (within 1 n) e in
     (only-inside 1 n p.0, p.1)

@@ -6,7 +6,7 @@
 #![tactic(auto)]
 
 ghost use Rattle.std.specs.Prelude.{◌≡◌};
-ghost use Rattle.units.specs.Made.{feet_of, mph_of, the_checkpoint_number_of, the_segment_id_of, missing_feet};
+ghost use Rattle.units.specs.Made.{in_range_of, feet_of, mph_of, the_checkpoint_number_of, the_segment_id_of, missing_feet};
 
 // 01: "Integer: .. at most 32,768." A count of items and the number of a lane, spot or point are of no kind: this is all that limits them.
 pub const LARGEST_INTEGER: u32 = 32768;
@@ -20,15 +20,20 @@ pub const LEAST_LONGITUDE: i32 = -180000000;
 
 pub const LARGEST_LONGITUDE: i32 = 180000000;
 
+// The number itself, where a kind has it: from its least number to its largest. Each kind's `new` is this.
+fn in_range(n: u32, least: u32, largest: u16) -> Option<u16>
+    ensures { result ≡ in_range_of least largest n }
+{
+    if least <= n && n <= largest as u32 {
+        Some(n as u16)
+    } else {
+        None
+    }
+}
+
 // A width in feet; 0 is a width.
 #[derive(Clone, Copy)]
 pub struct Feet(pub u16);
-
-#[derive(Clone, Copy)]
-pub enum FeetRead {
-    Is(Feet),
-    Refused,
-}
 
 impl Feet {
     pub const LARGEST: u16 = 32768;
@@ -36,14 +41,10 @@ impl Feet {
     // What stands for a width that was not given, since 0 is a width. No width that `new` makes.
     pub const MISSING: Feet = Feet(65535);
 
-    pub fn new(feet: u32) -> FeetRead
+    pub fn new(feet: u32) -> Option<Feet>
         ensures { result ≡ feet_of feet }
     {
-        if feet <= Feet::LARGEST as u32 {
-            FeetRead::Is(Feet(feet as u16))
-        } else {
-            FeetRead::Refused
-        }
+        in_range(feet, 0, Feet::LARGEST).map(Feet)
     }
 
     pub fn missing() -> Feet
@@ -57,23 +58,13 @@ impl Feet {
 #[derive(Clone, Copy)]
 pub struct Mph(pub u16);
 
-#[derive(Clone, Copy)]
-pub enum MphRead {
-    Is(Mph),
-    Refused,
-}
-
 impl Mph {
     pub const LARGEST: u16 = 32768;
 
-    pub fn new(mph: u32) -> MphRead
+    pub fn new(mph: u32) -> Option<Mph>
         ensures { result ≡ mph_of mph }
     {
-        if mph <= Mph::LARGEST as u32 {
-            MphRead::Is(Mph(mph as u16))
-        } else {
-            MphRead::Refused
-        }
+        in_range(mph, 0, Mph::LARGEST).map(Mph)
     }
 }
 
@@ -81,26 +72,13 @@ impl Mph {
 #[derive(Clone, Copy)]
 pub struct CheckpointNumber(pub u16);
 
-#[derive(Clone, Copy)]
-pub enum CheckpointNumberRead {
-    Is(CheckpointNumber),
-    Refused,
-}
-
 impl CheckpointNumber {
     pub const LARGEST: u16 = 32768;
 
-    pub fn new(number: u32) -> CheckpointNumberRead
+    pub fn new(number: u32) -> Option<CheckpointNumber>
         ensures { result ≡ the_checkpoint_number_of number }
     {
-        if number < 1 {
-            return CheckpointNumberRead::Refused;
-        }
-        if number <= CheckpointNumber::LARGEST as u32 {
-            CheckpointNumberRead::Is(CheckpointNumber(number as u16))
-        } else {
-            CheckpointNumberRead::Refused
-        }
+        in_range(number, 1, CheckpointNumber::LARGEST).map(CheckpointNumber)
     }
 }
 
@@ -108,25 +86,12 @@ impl CheckpointNumber {
 #[derive(Clone, Copy)]
 pub struct SegmentId(pub u16);
 
-#[derive(Clone, Copy)]
-pub enum SegmentIdRead {
-    Is(SegmentId),
-    Refused,
-}
-
 impl SegmentId {
     pub const LARGEST: u16 = 32768;
 
-    pub fn new(id: u32) -> SegmentIdRead
+    pub fn new(id: u32) -> Option<SegmentId>
         ensures { result ≡ the_segment_id_of id }
     {
-        if id < 1 {
-            return SegmentIdRead::Refused;
-        }
-        if id <= SegmentId::LARGEST as u32 {
-            SegmentIdRead::Is(SegmentId(id as u16))
-        } else {
-            SegmentIdRead::Refused
-        }
+        in_range(id, 1, SegmentId::LARGEST).map(SegmentId)
     }
 }

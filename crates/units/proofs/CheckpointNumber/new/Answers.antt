@@ -1,17 +1,9 @@
 -- `units::CheckpointNumber::new` meets its contract. Assumes nothing.
-use native.Mathlib.Omega.{arith}
-use Rattle.units.specs.Made.{the_checkpoint_number_of}
-use Rattle.units.proofs.Ranges.{inside, below, above}
+use mathlib.Core.Path.{refl}
+use Rattle.units.specs.Made.{checkpoint_number_of, the_checkpoint_number_of}
+use Rattle.units.proofs.Ranges.{mapped}
 use Rattle.units.proofs.CheckpointNumber.new.Goals as goal
 
-pub returns-then-number-lt1 : goal.returns-then-number-lt1
+pub returns : goal.returns
 unfolding the_checkpoint_number_of
-returns-then-number-lt1 c = rw (below 1 c.args.number (omega arith))
-
-pub returns-then-number : goal.returns-then-number
-unfolding the_checkpoint_number_of
-returns-then-number c = rw (inside {low = 1} {n = c.args.number} (record { low = omega arith; high = omega arith }))
-
-pub returns-else-number : goal.returns-else-number
-unfolding the_checkpoint_number_of
-returns-else-number c = rw (above 1 c.args.number (omega arith))
+returns c = mapped checkpoint_number_of (λ v. v.0) (λ v. refl) 1 c.args.number c.map.result (rw c.in_range.ensures at c.map.ensures.cases)
