@@ -6,7 +6,7 @@
 // part that it returns; which stretch of the text these are, where they stand there twice, the logic does not say.
 #![tactic(auto)]
 
-ghost use Rattle.std.specs.Prelude.{◌≡◌, length, replicate, pos};
+ghost use Rattle.std.specs.Prelude.{◌≡◌, List, length, replicate, pos};
 ghost use Rattle.rows.specs.Lay.{rows_of, put_row_of};
 ghost use Rattle.rows.specs.Columns.{segment_words_of, lane_words_of, zone_words_of, spot_words_of, point_words_of, checkpoint_words_of, stop_words_of, exit_words_of, goal_words_of, limit_words_of};
 ghost use Rattle.rows.specs.Strides.{segment_stride, lane_stride, zone_stride, spot_stride, point_stride, checkpoint_stride, stop_stride, exit_stride, goal_stride, limit_stride};
@@ -133,131 +133,198 @@ pub fn rows_of(len: usize, stride: usize) -> usize
     if stride == 0 { 0 } else { len / stride }
 }
 
+// A row of a table whose words are of type `T`: its columns in document 01's order, as many as the stride says.
+pub trait Row<T, const STRIDE: usize>: Copy {
+    ghost words_of: { Self → List T };
+
+    fn words(self) -> [T; STRIDE]
+        ensures { result ≡ words_of self };
+}
+
+impl Row<u32, SEGMENT_STRIDE> for SegmentRow {
+    ghost words_of = { segment_words_of };
+
+    fn words(self) -> [u32; SEGMENT_STRIDE] {
+        [
+            self.first_lane,
+            self.lanes,
+            self.name.start,
+            self.name.length,
+        ]
+    }
+}
+
+impl Row<u32, LANE_STRIDE> for LaneRow {
+    ghost words_of = { lane_words_of };
+
+    fn words(self) -> [u32; LANE_STRIDE] {
+        [
+            self.first_point,
+            self.points,
+            self.width.0 as u32,
+            self.left as u32,
+            self.right as u32,
+        ]
+    }
+}
+
+impl Row<u32, ZONE_STRIDE> for ZoneRow {
+    ghost words_of = { zone_words_of };
+
+    fn words(self) -> [u32; ZONE_STRIDE] {
+        [
+            self.first_point,
+            self.points,
+            self.first_spot,
+            self.spots,
+            self.name.start,
+            self.name.length,
+        ]
+    }
+}
+
+impl Row<u32, SPOT_STRIDE> for SpotRow {
+    ghost words_of = { spot_words_of };
+
+    fn words(self) -> [u32; SPOT_STRIDE] {
+        [self.first_point, self.width.0 as u32]
+    }
+}
+
+impl Row<i32, POINT_STRIDE> for PointRow {
+    ghost words_of = { point_words_of };
+
+    fn words(self) -> [i32; POINT_STRIDE] {
+        [self.latitude, self.longitude]
+    }
+}
+
+impl Row<u32, CHECKPOINT_STRIDE> for CheckpointRow {
+    ghost words_of = { checkpoint_words_of };
+
+    fn words(self) -> [u32; CHECKPOINT_STRIDE] {
+        [self.number.0 as u32, self.point]
+    }
+}
+
+impl Row<u32, STOP_STRIDE> for StopRow {
+    ghost words_of = { stop_words_of };
+
+    fn words(self) -> [u32; STOP_STRIDE] {
+        [self.point]
+    }
+}
+
+impl Row<u32, EXIT_STRIDE> for ExitRow {
+    ghost words_of = { exit_words_of };
+
+    fn words(self) -> [u32; EXIT_STRIDE] {
+        [self.point, self.entry]
+    }
+}
+
+impl Row<u32, GOAL_STRIDE> for GoalRow {
+    ghost words_of = { goal_words_of };
+
+    fn words(self) -> [u32; GOAL_STRIDE] {
+        [self.number.0 as u32]
+    }
+}
+
+impl Row<u32, LIMIT_STRIDE> for LimitRow {
+    ghost words_of = { limit_words_of };
+
+    fn words(self) -> [u32; LIMIT_STRIDE] {
+        [
+            self.id.0 as u32,
+            self.minimum.0 as u32,
+            self.maximum.0 as u32,
+        ]
+    }
+}
+
 // The words of one row, stored where there is such a row.
-fn put_row(t: &mut [u32], row: usize, words: &[u32])
-    ensures { t.new ≡ put_row_of (length words.now) t.old row words.now }
+fn store<T: Copy, R: Row<T, STRIDE>, const STRIDE: usize>(t: &mut [T], row: usize, value: R)
+    ensures { t.new ≡ put_row_of STRIDE t.old row (R.words_of value) }
 {
-    if row < rows_of(t.len(), words.len()) {
-        let at = row * words.len();
-        for j in 0..words.len() {
-            t[at + j] = words[j];
-        }
+    if row < rows_of(t.len(), STRIDE) {
+        let at = row * STRIDE;
+        t[at..at + STRIDE].copy_from_slice(&value.words());
     }
 }
 
 pub fn store_segment(t: &mut [u32], row: usize, segment: SegmentRow)
     ensures { t.new ≡ put_row_of segment_stride t.old row (segment_words_of segment) }
 {
-    let words: [u32; SEGMENT_STRIDE] = [
-        segment.first_lane,
-        segment.lanes,
-        segment.name.start,
-        segment.name.length,
-    ];
-    put_row(t, row, &words);
+    store(t, row, segment);
 }
 
 pub fn store_lane(t: &mut [u32], row: usize, lane: LaneRow)
     ensures { t.new ≡ put_row_of lane_stride t.old row (lane_words_of lane) }
 {
-    let words: [u32; LANE_STRIDE] = [
-        lane.first_point,
-        lane.points,
-        lane.width.0 as u32,
-        lane.left as u32,
-        lane.right as u32,
-    ];
-    put_row(t, row, &words);
+    store(t, row, lane);
 }
 
 pub fn store_zone(t: &mut [u32], row: usize, zone: ZoneRow)
     ensures { t.new ≡ put_row_of zone_stride t.old row (zone_words_of zone) }
 {
-    let words: [u32; ZONE_STRIDE] = [
-        zone.first_point,
-        zone.points,
-        zone.first_spot,
-        zone.spots,
-        zone.name.start,
-        zone.name.length,
-    ];
-    put_row(t, row, &words);
+    store(t, row, zone);
 }
 
 pub fn store_spot(t: &mut [u32], row: usize, spot: SpotRow)
     ensures { t.new ≡ put_row_of spot_stride t.old row (spot_words_of spot) }
 {
-    let words: [u32; SPOT_STRIDE] = [spot.first_point, spot.width.0 as u32];
-    put_row(t, row, &words);
-}
-
-pub fn store_checkpoint(t: &mut [u32], row: usize, checkpoint: CheckpointRow)
-    ensures { t.new ≡ put_row_of checkpoint_stride t.old row (checkpoint_words_of checkpoint) }
-{
-    let words: [u32; CHECKPOINT_STRIDE] = [checkpoint.number.0 as u32, checkpoint.point];
-    put_row(t, row, &words);
-}
-
-pub fn store_stop(t: &mut [u32], row: usize, stop: StopRow)
-    ensures { t.new ≡ put_row_of stop_stride t.old row (stop_words_of stop) }
-{
-    let words: [u32; STOP_STRIDE] = [stop.point];
-    put_row(t, row, &words);
-}
-
-pub fn store_exit(t: &mut [u32], row: usize, value: ExitRow)
-    ensures { t.new ≡ put_row_of exit_stride t.old row (exit_words_of value) }
-{
-    let words: [u32; EXIT_STRIDE] = [value.point, value.entry];
-    put_row(t, row, &words);
-}
-
-pub fn store_goal(t: &mut [u32], row: usize, goal: GoalRow)
-    ensures { t.new ≡ put_row_of goal_stride t.old row (goal_words_of goal) }
-{
-    let words: [u32; GOAL_STRIDE] = [goal.number.0 as u32];
-    put_row(t, row, &words);
-}
-
-pub fn store_limit(t: &mut [u32], row: usize, limit: LimitRow)
-    ensures { t.new ≡ put_row_of limit_stride t.old row (limit_words_of limit) }
-{
-    let words: [u32; LIMIT_STRIDE] = [
-        limit.id.0 as u32,
-        limit.minimum.0 as u32,
-        limit.maximum.0 as u32,
-    ];
-    put_row(t, row, &words);
+    store(t, row, spot);
 }
 
 pub fn store_point(t: &mut [i32], row: usize, point: PointRow)
     ensures { t.new ≡ put_row_of point_stride t.old row (point_words_of point) }
 {
-    if row < rows_of(t.len(), POINT_STRIDE) {
-        let at = row * POINT_STRIDE;
-        let latitude = point.latitude;
-        let longitude = point.longitude;
-        t[at] = latitude;
-        t[at + 1] = longitude;
-    }
+    store(t, row, point);
+}
+
+pub fn store_checkpoint(t: &mut [u32], row: usize, checkpoint: CheckpointRow)
+    ensures { t.new ≡ put_row_of checkpoint_stride t.old row (checkpoint_words_of checkpoint) }
+{
+    store(t, row, checkpoint);
+}
+
+pub fn store_stop(t: &mut [u32], row: usize, stop: StopRow)
+    ensures { t.new ≡ put_row_of stop_stride t.old row (stop_words_of stop) }
+{
+    store(t, row, stop);
+}
+
+pub fn store_exit(t: &mut [u32], row: usize, value: ExitRow)
+    ensures { t.new ≡ put_row_of exit_stride t.old row (exit_words_of value) }
+{
+    store(t, row, value);
+}
+
+pub fn store_goal(t: &mut [u32], row: usize, goal: GoalRow)
+    ensures { t.new ≡ put_row_of goal_stride t.old row (goal_words_of goal) }
+{
+    store(t, row, goal);
+}
+
+pub fn store_limit(t: &mut [u32], row: usize, limit: LimitRow)
+    ensures { t.new ≡ put_row_of limit_stride t.old row (limit_words_of limit) }
+{
+    store(t, row, limit);
 }
 
 // Every number of a lent table is 0, also behind its last whole row.
 pub fn clear(t: &mut [u32])
     ensures { t.new ≡ replicate (length t.old) 0 }
 {
-    for i in 0..t.len() {
-        t[i] = 0;
-    }
+    t.fill(0);
 }
 
 // The same for the one table of signed numbers, the points.
 pub fn clear_signed(points: &mut [i32])
     ensures { points.new ≡ replicate (length points.old) (pos 0) }
 {
-    for i in 0..points.len() {
-        points[i] = 0;
-    }
+    points.fill(0);
 }
 
 // The bytes of a name: a part of the caller's own text, empty where start and length do not fit in it.
