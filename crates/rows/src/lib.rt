@@ -244,7 +244,7 @@ impl Row<u32, LIMIT_STRIDE> for LimitRow {
 }
 
 // The words of one row, stored where there is such a row.
-fn store<T: Copy, R: Row<T, STRIDE>, const STRIDE: usize>(t: &mut [T], row: usize, value: R)
+pub fn store<T: Copy, R: Row<T, STRIDE>, const STRIDE: usize>(t: &mut [T], row: usize, value: R)
     ensures { t.new ≡ put_row_of STRIDE t.old row (R.words_of value) }
 {
     if row < rows_of(t.len(), STRIDE) {
