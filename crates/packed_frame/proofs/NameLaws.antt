@@ -13,7 +13,7 @@ use Rattle.terms.specs.Ascii.{Bytes}
 use Rattle.terms.specs.Words.{pick}
 use Rattle.scan.specs.Allowed.{field_byte, all}
 use Rattle.packed_rows.specs.Walk.{two}
-use Rattle.packed_rows.proofs.Laws.{drop_all}
+use Rattle.std.proofs.lemmas.List.{drop_all}
 use Rattle.packed_frame.specs.Names.{two_at, name_size_of, with_name_of, named_end}
 
 -- ## A number of two bytes

@@ -1,8 +1,7 @@
 -- The laws of records that all have the same size. Assumes nothing.
 use mathlib.Core.Path.{◌≡◌, refl, sym, ap, ◌∙◌}
 use mathlib.Core.Bool.{Bool, true, false, ◌&&◌}
-use mathlib.Core.List.{[], ◌∷◌}
-use Prim.Native.Nat.{ℕ, zero, suc, ◌+◌, ◌-◌, ◌≤◌, ◌<◌}
+use Prim.Native.Nat.{ℕ, suc, ◌+◌, ◌-◌, ◌≤◌, ◌<◌}
 use native.Mathlib.Omega.{arith}
 use borrow.Author.Tests.{leb-true, le-leb, lt-leb}
 use lib.ListN.{length, length-drop, get_or, drop}
@@ -13,7 +12,7 @@ use Rattle.terms.specs.Words.{pick}
 use Rattle.terms.proofs.Tests.{clash}
 use Rattle.packed_rows.specs.Walk.{two}
 use Rattle.packed_rows.specs.Fixed.{record_here, records_here}
-use Rattle.packed_rows.proofs.Laws.{two-on}
+use Rattle.packed_rows.proofs.Laws.{one_done, two-on}
 
 -- ## One
 pub here-short : (b : Bytes) (at size : ℕ) → length b - at < 2 + size → false ≡ record_here size (drop at b)
@@ -46,24 +45,19 @@ more_of : (k size : ℕ) (b : Bytes) → records_here (suc k) size b ≡ pick (r
 unfolding records_here
 more_of k size b = refl
 
-pub again : (b : Bytes) (at size left : ℕ) → 0 < left → record_here size (drop at b) ≡ true → records_here (left - 1) size (drop (at + 2 + size) b) ≡ records_here left size (drop at b)
-again b at size zero h e = absurd (omega arith)
-again b at size (suc k) h e = go (suc k - 1) (omega arith)
-  where
-    more : records_here (suc k) size (drop at b) ≡ pick (record_here size (drop at b)) (records_here k size (drop (2 + size) (drop at b))) false
-    more = more_of k size (drop at b)
+module _ (b : Bytes) (at size n k : ℕ) where
+  next-of : k < n → records_here (n - k) size (drop at b) ≡ pick (record_here size (drop at b)) (records_here (n - (k + 1)) size (drop (2 + size) (drop at b))) false
+  next-of h = one_done (λ (i : ℕ). records_here i size (drop at b)) n k h ∙ more_of (n - (k + 1)) size (drop at b)
 
-    go : (j : ℕ) → j ≡ k → records_here j size (drop (at + 2 + size) b) ≡ records_here (suc k) size (drop at b)
-    go j q =
-        let s : at + 2 + size ≡ at + (2 + size) = omega arith in
-        ap (λ (i : ℕ). records_here i size (drop (at + 2 + size) b)) q ∙ ap (λ (i : ℕ). records_here k size (drop i b)) s ∙ ap (records_here k size) (sym (drop-drop (2 + size) at b))
-        ∙ sym (ap (λ (t : Bool). pick t (records_here k size (drop (2 + size) (drop at b))) false) e) ∙ sym more
+  pub again : k < n → record_here size (drop at b) ≡ true → records_here (n - (k + 1)) size (drop (at + 2 + size) b) ≡ records_here (n - k) size (drop at b)
+  again h e =
+      let s : at + 2 + size ≡ at + (2 + size) = omega arith in
+      ap (λ (i : ℕ). records_here (n - (k + 1)) size (drop i b)) s ∙ ap (records_here (n - (k + 1)) size) (sym (drop-drop (2 + size) at b))
+      ∙ sym (next-of h ∙ ap (λ (t : Bool). pick t (records_here (n - (k + 1)) size (drop (2 + size) (drop at b))) false) e)
 
-pub stopped : (b : Bytes) (at size left : ℕ) → 0 < left → record_here size (drop at b) ≡ false → false ≡ records_here left size (drop at b)
-stopped b at size zero h e = absurd (omega arith)
-stopped b at size (suc k) h e = sym (more_of k size (drop at b) ∙ ap (λ (t : Bool). pick t (records_here k size (drop (2 + size) (drop at b))) false) e)
+  pub stopped : k < n → record_here size (drop at b) ≡ false → false ≡ records_here (n - k) size (drop at b)
+  stopped h e = sym (next-of h ∙ ap (λ (t : Bool). pick t (records_here (n - (k + 1)) size (drop (2 + size) (drop at b))) false) e)
 
-pub ended-all : (b : Bytes) (at size left : ℕ) → left ≤ 0 → true ≡ records_here left size (drop at b)
-unfolding records_here
-ended-all b at size zero h = refl
-ended-all b at size (suc k) h = absurd (omega arith)
+  pub ended-all : n ≤ k → true ≡ records_here (n - k) size (drop at b)
+  unfolding records_here
+  ended-all h = let e : n - k ≡ 0 = omega arith in sym (ap (λ (i : ℕ). records_here i size (drop at b)) e)

@@ -1,9 +1,9 @@
 -- The laws of records of lanes. Assumes nothing.
 use mathlib.Core.Path.{◌≡◌, refl, sym, ap, ◌∙◌}
 use mathlib.Core.Bool.{Bool, true, false}
-use Prim.Native.Nat.{ℕ, zero, suc, ◌+◌, ◌-◌, ◌/◌, ◌%◌, ◌≤◌, ◌<◌}
+use Prim.Native.Nat.{ℕ, suc, ◌+◌, ◌-◌, ◌/◌, ◌%◌, ◌≤◌, ◌<◌}
 use native.Mathlib.Omega.{arith}
-use borrow.Author.Tests.{le-leb, lt-leb, eq-eqb, ne_eqb, eqb-true}
+use borrow.Author.Tests.{le-leb, lt-leb, eq-eqb, ne_eqb}
 use lib.ListN.{length, drop}
 use lib.Dec.{leb, eqb}
 use Rattle.terms.specs.Ascii.{Bytes}
@@ -12,6 +12,7 @@ use Rattle.terms.proofs.Tests.{clash}
 use Rattle.packed_rows.specs.Fixed.{record_here}
 use Rattle.packed_rows.specs.Points.{four_at_of}
 use Rattle.packed_rows.specs.Lanes.{width_right, lane_right, the_lane_at_of, lanes_right}
+use Rattle.packed_rows.proofs.Laws.{one_done}
 use Rattle.packed_rows.proofs.FixedLaws.{here-inside}
 
 pub width-given : (w : ℕ) → w ≤ 32768 → true ≡ width_right w
@@ -95,15 +96,20 @@ more-lanes : (k : ℕ) (b : Bytes) (at sum : ℕ) → lanes_right (suc k) b at s
 unfolding lanes_right
 more-lanes k b at sum = refl
 
-pub again-lane : (b : Bytes) (at sum left n : ℕ) → 0 < left → the_lane_at_of b at sum ≡ true → n ≡ four_at_of b (at + 6) → lanes_right (left - 1) b (at + 12) (sum + n / 65536) ≡ lanes_right left b at sum
-again-lane b at sum zero n h e q = absurd (omega arith)
-again-lane b at sum (suc k) n h e q = let d : suc k - 1 ≡ k = omega arith in (λ i. lanes_right (d i) b (at + 12) (sum + q i / 65536)) ∙ sym (more-lanes k b at sum ∙ ap (λ (t : Bool). pick t (lanes_right k b (at + 12) (sum + four_at_of b (at + 6) / 65536)) false) e)
+module _ (b : Bytes) (at sum n k : ℕ) (h : k < n) where
+  abbrev rest-of : ℕ → Bool
+  rest-of s = lanes_right (n - (k + 1)) b (at + 12) s
 
-pub stopped-lane : (b : Bytes) (at sum left : ℕ) → 0 < left → the_lane_at_of b at sum ≡ false → false ≡ lanes_right left b at sum
-stopped-lane b at sum zero h e = absurd (omega arith)
-stopped-lane b at sum (suc k) h e = sym (more-lanes k b at sum ∙ ap (λ (t : Bool). pick t (lanes_right k b (at + 12) (sum + four_at_of b (at + 6) / 65536)) false) e)
+  next-lane : lanes_right (n - k) b at sum ≡ pick (the_lane_at_of b at sum) (rest-of (sum + four_at_of b (at + 6) / 65536)) false
+  next-lane = one_done (λ (j : ℕ). lanes_right j b at sum) n k h ∙ more-lanes (n - (k + 1)) b at sum
 
-pub ended-lanes : (b : Bytes) (at sum left : ℕ) → left ≤ 0 → true ≡ lanes_right left b at sum
+  -- counts: what was read there
+  pub again-lane : (counts : ℕ) → the_lane_at_of b at sum ≡ true → counts ≡ four_at_of b (at + 6) → rest-of (sum + counts / 65536) ≡ lanes_right (n - k) b at sum
+  again-lane counts e q = ap (λ (c : ℕ). rest-of (sum + c / 65536)) q ∙ sym (next-lane ∙ ap (λ (t : Bool). pick t (rest-of (sum + four_at_of b (at + 6) / 65536)) false) e)
+
+  pub stopped-lane : the_lane_at_of b at sum ≡ false → false ≡ lanes_right (n - k) b at sum
+  stopped-lane e = sym (next-lane ∙ ap (λ (t : Bool). pick t (rest-of (sum + four_at_of b (at + 6) / 65536)) false) e)
+
+pub ended-lanes : (b : Bytes) (at sum n k : ℕ) → n ≤ k → true ≡ lanes_right (n - k) b at sum
 unfolding lanes_right
-ended-lanes b at sum zero h = refl
-ended-lanes b at sum (suc k) h = absurd (omega arith)
+ended-lanes b at sum n k h = let e : n - k ≡ 0 = omega arith in sym (ap (λ (j : ℕ). lanes_right j b at sum) e)

@@ -27,18 +27,14 @@ pub fn pair(a: u8, b: u8) -> usize
 pub fn are_records(bytes: &[u8], from: usize) -> bool
     ensures { result ≡ walked (drop from bytes.now) }
 {
-    let mut at = from;
-    while at < bytes.len() {
-        if bytes.len() - at < 2 {
+    let mut left = bytes.get(from..).unwrap_or(&[]);
+    while let [high, low, behind @ ..] = left {
+        let Some(next) = behind.get(pair(*high, *low)..) else {
             return false;
-        }
-        let size = pair(bytes[at], bytes[at + 1]);
-        if bytes.len() - at - 2 < size {
-            return false;
-        }
-        at = at + 2 + size;
+        };
+        left = next;
     }
-    true
+    left.is_empty()
 }
 
 // A record of this size stands at this place.
@@ -62,14 +58,11 @@ pub fn are_records_of(bytes: &[u8], from: usize, size: u16, count: u32) -> bool
     ensures { result ≡ records_here count size (drop from bytes.now) }
 {
     let mut at = from;
-    let mut left = count;
-    while left > 0 {
-        if is_record(bytes, at, size) {
-            at = at + 2 + size as usize;
-            left = left - 1;
-        } else {
+    for _ in 0..count {
+        if !is_record(bytes, at, size) {
             return false;
         }
+        at = at + 2 + size as usize;
     }
     true
 }
@@ -122,14 +115,11 @@ pub fn are_points(bytes: &[u8], from: usize, count: u32) -> bool
     ensures { result ≡ points_right count bytes.now from }
 {
     let mut at = from;
-    let mut left = count;
-    while left > 0 {
-        if is_point(bytes, at) {
-            at = at + 10;
-            left = left - 1;
-        } else {
+    for _ in 0..count {
+        if !is_point(bytes, at) {
             return false;
         }
+        at = at + 10;
     }
     true
 }
@@ -182,17 +172,13 @@ pub fn are_lanes(bytes: &[u8], from: usize, count: u32) -> bool
     ensures { result ≡ lanes_right count bytes.now from 0 }
 {
     let mut at = from;
-    let mut left = count;
     let mut sum: u64 = 0;
-    while left > 0 {
-        if is_lane(bytes, at, sum) {
-            let counts = four_at(bytes, at + 6);
-            at = at + 12;
-            sum = sum + (counts / 65536) as u64;
-            left = left - 1;
-        } else {
+    for _ in 0..count {
+        if !is_lane(bytes, at, sum) {
             return false;
         }
+        sum = sum + (four_at(bytes, at + 6) / 65536) as u64;
+        at = at + 12;
     }
     true
 }

@@ -1,21 +1,19 @@
 -- `packed_rows::are_records` meets its contract. Assumes nothing.
-use mathlib.Core.Path.{◌∙◌}
 use native.Mathlib.Omega.{arith}
-use borrow.Author.Rules.{rules}
-use Rattle.packed_rows.proofs.Laws.{ended, cut_off, past-end_as, next_record_as}
+use Prim.Native.Nat.{ℕ}
+use Rattle.std.proofs.lemmas.Grind.{common_steps}
+use Rattle.std.proofs.lemmas.List.{drop_all, take_all}
+use Rattle.packed_rows.proofs.Laws.{past_end, next_record, ended}
 use Rattle.packed_rows.proofs.are_records.Goals as goal
 
-pub returns-then-bytes-at-lt2 : goal.returns-then-bytes-at-lt2
-returns-then-bytes-at-lt2 c = cut_off _ _ c.loop-at-test.true c.if-bytes-at-lt2.true ∙ c.loop-at.invariant
+pub loop-left-init : goal.loop-left-init
+loop-left-init c = grind (arith, common_steps, drop_all, take_all {A = ℕ})
 
-pub returns-then-bytes-at : goal.returns-then-bytes-at
-returns-then-bytes-at c = past-end_as c.args.bytes.now c.loop-at.at c.pair-size.result (omega arith) c.pair-size.ensures.0 c.if-bytes-at.true ∙ c.loop-at.invariant
+pub returns-in_default-get : goal.returns-in_default-get
+returns-in_default-get c = grind (arith, common_steps, past_end)
 
-pub overflow_add-at-in-loop-at-2 : goal.overflow_add-at-in-loop-at-2
-overflow_add-at-in-loop-at-2 c = search (rules, c.pair-size.ensures.1)
-
-pub loop-at-preserved : goal.loop-at-preserved
-loop-at-preserved c = next_record_as c.args.bytes.now c.loop-at.at c.pair-size.result (omega arith) c.pair-size.ensures.0 c.if-bytes-at.false ∙ c.loop-at.invariant
+pub loop-left-preserved : goal.loop-left-preserved
+loop-left-preserved c = grind (arith, common_steps, next_record, take_all {A = ℕ})
 
 pub returns : goal.returns
-returns c = ended _ _ c.loop-at-test.false ∙ c.loop-at.invariant
+returns c = grind (arith, ended)

@@ -1,11 +1,10 @@
 use mathlib.Core.Path.{◌≡◌}
-use Prim.Native.Nat.{◌-◌}
 use lib.ListN.{length, drop}
 use Rattle.packed_rows.specs.Walk.{walked}
 use Rattle.packed_rows.proofs.are_records.Given as goal
 
-abbrev pub invariant-loop-at : goal.invariant-loop-at
-invariant-loop-at l = walked (drop l.at l.bytes) ≡ walked (drop l.from l.bytes)
+abbrev pub invariant-loop-left : goal.invariant-loop-left
+invariant-loop-left l = walked l.left ≡ walked (drop l.fn.from l.fn.bytes)
 
-abbrev pub decreases-loop-at : goal.decreases-loop-at
-decreases-loop-at l = length l.bytes - l.at
+abbrev pub decreases-loop-left : goal.decreases-loop-left
+decreases-loop-left l = length l.left
