@@ -1,19 +1,15 @@
 -- The laws of numbers of two bytes, of names, and of records that end with a name. Assumes nothing.
 use mathlib.Core.Path.{◌≡◌, refl, sym, ap, ◌∙◌}
-use mathlib.Core.Bool.{Bool, true, false, ◌&&◌}
-use mathlib.Core.List.{[], ◌∷◌}
-use Prim.Native.Nat.{ℕ, zero, suc, ◌+◌, ◌-◌, ◌≤◌, ◌<◌}
-use native.Mathlib.Numerals.{add-one}
+use mathlib.Core.Bool.{Bool, true, false}
+use Prim.Native.Nat.{ℕ, ◌+◌, ◌-◌, ◌≤◌, ◌<◌}
 use native.Mathlib.Omega.{arith}
 use borrow.Author.Tests.{leb-true, le-leb, lt-leb, eqb-true, eqb-false, eq-eqb, ne_eqb}
 use lib.ListN.{length, take, drop, get_or}
-use lib.Seq.{drop-cons}
 use lib.Dec.{leb, eqb}
 use Rattle.terms.specs.Ascii.{Bytes}
 use Rattle.terms.specs.Words.{pick}
 use Rattle.scan.specs.Allowed.{field_byte, all}
 use Rattle.packed_rows.specs.Walk.{two}
-use Rattle.std.proofs.lemmas.List.{drop_all}
 use Rattle.packed_frame.specs.Names.{two_at, name_size_of, with_name_of, named_end}
 
 -- ## A number of two bytes
@@ -24,38 +20,6 @@ two_none b at h = sym (ap (λ (t : Bool). pick t (two (get_or b at 0) (get_or b 
 pub two-read : (b : Bytes) (at x : ℕ) → at + 2 ≤ length b → x ≡ two (get_or b at 0) (get_or b (at + 1) 0) → x ≡ two_at b at
 unfolding two_at
 two-read b at x h e = e ∙ sym (ap (λ (t : Bool). pick t (two (get_or b at 0) (get_or b (at + 1) 0)) 0) (le-leb (at + 2) (length b) h))
-
--- ## Bytes of a field
-field-more : (b : Bytes) (at k : ℕ) → at < length b → all field_byte (take (suc k) (drop at b)) ≡ (field_byte (get_or b at 0) && all field_byte (take k (drop (at + 1) b)))
-unfolding all
-field-more b at k h = ap (λ (l : Bytes). all field_byte (take (suc k) l)) (drop-cons b at 0 h) ∙ ap (λ (j : ℕ). field_byte (get_or b at 0) && all field_byte (take k (drop j b))) (sym (add-one at))
-
-pub field-again : (b : Bytes) (at left : ℕ) → 0 < left → at < length b → field_byte (get_or b at 0) ≡ true → all field_byte (take (left - 1) (drop (at + 1) b)) ≡ all field_byte (take left (drop at b))
-field-again b at zero h i e = absurd (omega arith)
-field-again b at (suc k) h i e =
-    let d : suc k - 1 ≡ k = omega arith in
-    ap (λ (j : ℕ). all field_byte (take j (drop (at + 1) b))) d ∙ sym (field-more b at k i ∙ ap (λ (t : Bool). t && all field_byte (take k (drop (at + 1) b))) e)
-
-pub field-stopped : (b : Bytes) (at left : ℕ) → 0 < left → at < length b → field_byte (get_or b at 0) ≡ false → false ≡ all field_byte (take left (drop at b))
-field-stopped b at zero h i e = absurd (omega arith)
-field-stopped b at (suc k) h i e = sym (field-more b at k i ∙ ap (λ (t : Bool). t && all field_byte (take k (drop (at + 1) b))) e)
-
-take_none : (k : ℕ) → take {A = ℕ} k [] ≡ []
-take_none zero = refl
-take_none (suc k) = refl
-
-pub field_out : (b : Bytes) (at left : ℕ) → length b ≤ at → true ≡ all field_byte (take left (drop at b))
-unfolding all
-field_out b at left h = sym (ap (λ (l : Bytes). all field_byte (take left l)) (drop_all at b h) ∙ ap (all field_byte) (take_none left))
-
-pub field-ended : (b : Bytes) (at left : ℕ) → left ≤ 0 → true ≡ all field_byte (take left (drop at b))
-unfolding all
-field-ended b at zero h = nothing (drop at b)
-  where
-    nothing : (l : Bytes) → true ≡ all field_byte (take 0 l)
-    nothing [] = refl
-    nothing (x ∷ l) = refl
-field-ended b at (suc k) h = absurd (omega arith)
 
 -- ## A name
 module _ (b : Bytes) (at : ℕ) where
@@ -91,6 +55,10 @@ module _ (b : Bytes) (at : ℕ) where
 
     pub name-read : n ≤ 128 → at + 2 + n ≤ length b → (x : Bool) → x ≡ right n → pick x n 129 ≡ name_size_of b at
     name-read g l x e = sym (λ i. chain (le-leb (at + 2) (length b) h i) (le-leb n 128 g i) (le-leb (at + 2 + n) (length b) l i) (sym e i) n) ∙ as-told n told
+
+    -- as the slice of it was tested
+    pub name-tested : n ≤ 128 → at + 2 + n ≤ length b → (x : Bool) → x ≡ all field_byte (take (at + 2 + n - (at + 2)) (drop (at + 2) b)) → pick x n 129 ≡ name_size_of b at
+    name-tested g l x e = let d : at + 2 + n - (at + 2) ≡ n = omega arith in name-read g l x (e ∙ ap right d)
 
   -- what a name's size says
   pub record Name : Type 0 where

@@ -1,7 +1,7 @@
 -- The laws of the records of segments, zones and spots. Assumes nothing.
 use mathlib.Core.Path.{◌≡◌, refl, sym, ap, ◌∙◌}
 use mathlib.Core.Bool.{Bool, true, false, ◌&&◌}
-use Prim.Native.Nat.{ℕ, zero, suc, ◌+◌, ◌*◌, ◌≤◌}
+use Prim.Native.Nat.{ℕ, zero, suc, ◌+◌, ◌*◌, ◌≤◌, max}
 use native.Mathlib.Omega.{arith}
 use borrow.Author.Tests.{eqb-true, eqb-false, eq-eqb, ne_eqb}
 use lib.ListN.{length, drop}
@@ -101,14 +101,14 @@ module _ (b : Bytes) (at point : ℕ) where
   pub spot-inside : spot-at b at point ≡ true → at + 8 ≤ length b
   spot-inside e = let k = here-inside b at 6 (spot_told_of e).0 in omega arith
 
--- however far from the start: w is not passed
-pub spots_inside : (k : ℕ) (b : Bytes) (at point w : ℕ) → spots_right k b at point ≡ true → at ≤ w → length b ≤ w → at + 8 * k ≤ w
-spots_inside zero b at point w e h l = omega arith
-spots_inside (suc k) b at point w e h l = go (spot-at b at point) refl (sym (every_more spot_here spot_next k b (at, point)) ∙ e) (λ d j. spots_inside k b (at + 8) (point + 2) w d j l)
+-- however far from the start
+pub spots_inside : (k : ℕ) (b : Bytes) (at point : ℕ) → spots_right k b at point ≡ true → at + 8 * k ≤ max at (length b)
+spots_inside zero b at point e = omega arith
+spots_inside (suc k) b at point e = go (spot-at b at point) refl (sym (every_more spot_here spot_next k b (at, point)) ∙ e) (λ d. spots_inside k b (at + 8) (point + 2) d)
   where
-    go : (x : Bool) → spot-at b at point ≡ x → pick x (spots_right k b (at + 8) (point + 2)) false ≡ true → (spots_right k b (at + 8) (point + 2) ≡ true → at + 8 ≤ w → at + 8 + 8 * k ≤ w) → at + 8 * suc k ≤ w
+    go : (x : Bool) → spot-at b at point ≡ x → pick x (spots_right k b (at + 8) (point + 2)) false ≡ true → (spots_right k b (at + 8) (point + 2) ≡ true → at + 8 + 8 * k ≤ max (at + 8) (length b)) → at + 8 * suc k ≤ max at (length b)
     go false d h more = clash (sym h)
-    go true d h more = let i = spot-inside b at point d in let m = more h (omega arith) in omega arith
+    go true d h more = let i = spot-inside b at point d in let m = more h in omega arith
 
 module _ (b : Bytes) (zone at : ℕ) where
   abbrev spots-of-zone : Bool
@@ -133,6 +133,5 @@ module _ (b : Bytes) (zone at : ℕ) where
   pub zone-spots-inside : zone_spots b zone at ≡ true → zone + 16 ≤ length b
   zone-spots-inside e = let k = named-inside 12 b zone (zone-spots-told e).0 in omega arith
 
-  -- m: how many spots there are
-  pub spots-behind : (m w : ℕ) → m ≡ two_at b (zone + 12) → zone_spots b zone at ≡ true → at ≤ w → length b ≤ w → at + 8 * m ≤ w
-  spots-behind m w q e h l = let k = spots_inside (two_at b (zone + 12)) b at (four_at_of b (zone + 2) + two_at b (zone + 6)) w (zone-spots-told e).1 h l in omega arith
+  pub spots-behind : zone_spots b zone at ≡ true → at + 8 * two_at b (zone + 12) ≤ max at (length b)
+  spots-behind e = spots_inside (two_at b (zone + 12)) b at (four_at_of b (zone + 2) + two_at b (zone + 6)) (zone-spots-told e).1

@@ -2,12 +2,13 @@
 use mathlib.Core.Path.{◌≡◌, refl, sym, ap, ◌∙◌}
 use mathlib.Core.Bool.{Bool, true, false}
 use mathlib.Core.Option.{none, some}
-use Prim.Native.Nat.{ℕ, zero, suc, ◌-◌, ◌≤◌, ◌<◌}
+use Prim.Native.Nat.{ℕ, zero, suc, ◌+◌, ◌-◌, ◌≤◌, ◌<◌}
 use native.Mathlib.Omega.{arith}
 use borrow.Author.Tests.{eq-eqb, ne_eqb}
 use lib.Dec.{eqb}
 use Rattle.terms.specs.Ascii.{Bytes}
 use Rattle.terms.specs.Words.{pick}
+use Rattle.packed_rows.proofs.Laws.{one_done}
 use Rattle.packed_frame.specs.Named.{walk, every}
 
 module _ {S : Type 0} (end : Bytes → ℕ → S → ℕ) (next : Bytes → ℕ → S → S) where
@@ -15,16 +16,16 @@ module _ {S : Type 0} (end : Bytes → ℕ → S → ℕ) (next : Bytes → ℕ 
   unfolding walk
   walk_more k b at s = refl
 
-  -- e: the place behind the record here; t: what is known there
-  pub walk-again : (b : Bytes) (at : ℕ) (s : S) (left e : ℕ) (t : S) → 0 < left → e ≡ end b at s → (e ≡ 0 → ⊥) → t ≡ next b at s → walk end next (left - 1) b e t ≡ walk end next left b at s
-  walk-again b at s zero e t h p q r = absurd (omega arith)
-  walk-again b at s (suc k) e t h p q r =
-      let d : suc k - 1 ≡ k = omega arith in
-      (λ i. walk end next (d i) b (p i) (r i)) ∙ sym (walk_more k b at s ∙ ap (λ (t : Bool). pick t none (walk end next k b (end b at s) (next b at s))) (ap (λ (m : ℕ). eqb m 0) (sym p) ∙ ne_eqb e 0 q))
+  -- k of n are done. e: the place behind the record here
+  module _ (b : Bytes) (at : ℕ) (s : S) (n k e : ℕ) (h : k < n) (p : e ≡ end b at s) where
+    walk_on : walk end next (n - k) b at s ≡ pick (eqb e 0) none (walk end next (n - (k + 1)) b e (next b at s))
+    walk_on = one_done (λ (j : ℕ). walk end next j b at s) n k h ∙ walk_more (n - (k + 1)) b at s ∙ ap (λ (m : ℕ). pick (eqb m 0) none (walk end next (n - (k + 1)) b m (next b at s))) (sym p)
 
-  pub walk-stopped : (b : Bytes) (at : ℕ) (s : S) (left e : ℕ) → 0 < left → e ≡ end b at s → e ≡ 0 → none ≡ walk end next left b at s
-  walk-stopped b at s zero e h p q = absurd (omega arith)
-  walk-stopped b at s (suc k) e h p q = sym (walk_more k b at s ∙ ap (λ (t : Bool). pick t none (walk end next k b (end b at s) (next b at s))) (ap (λ (m : ℕ). eqb m 0) (sym p) ∙ eq-eqb e 0 q))
+    pub walk-again : (t : S) → (e ≡ 0 → ⊥) → t ≡ next b at s → walk end next (n - (k + 1)) b e t ≡ walk end next (n - k) b at s
+    walk-again t q r = ap (walk end next (n - (k + 1)) b e) r ∙ sym (walk_on ∙ ap (λ (x : Bool). pick x none (walk end next (n - (k + 1)) b e (next b at s))) (ne_eqb e 0 q))
+
+    pub walk-stopped : e ≡ 0 → none ≡ walk end next (n - k) b at s
+    walk-stopped q = sym (walk_on ∙ ap (λ (x : Bool). pick x none (walk end next (n - (k + 1)) b e (next b at s))) (eq-eqb e 0 q))
 
   pub walk-ended : (b : Bytes) (at : ℕ) (s : S) (left : ℕ) → left ≤ 0 → some (at, s) ≡ walk end next left b at s
   unfolding walk
@@ -36,15 +37,15 @@ module _ {S : Type 0} (test : Bytes → S → Bool) (next : Bytes → S → S) w
   unfolding every
   every_more k b s = refl
 
-  pub every-again : (b : Bytes) (s : S) (left : ℕ) (t : S) → 0 < left → test b s ≡ true → t ≡ next b s → every test next (left - 1) b t ≡ every test next left b s
-  every-again b s zero t h p r = absurd (omega arith)
-  every-again b s (suc k) t h p r =
-      let d : suc k - 1 ≡ k = omega arith in
-      (λ i. every test next (d i) b (r i)) ∙ sym (every_more k b s ∙ ap (λ (x : Bool). pick x (every test next k b (next b s)) false) p)
+  module _ (b : Bytes) (s : S) (n k : ℕ) (h : k < n) where
+    every_on : every test next (n - k) b s ≡ pick (test b s) (every test next (n - (k + 1)) b (next b s)) false
+    every_on = one_done (λ (j : ℕ). every test next j b s) n k h ∙ every_more (n - (k + 1)) b s
 
-  pub every-stopped : (b : Bytes) (s : S) (left : ℕ) → 0 < left → test b s ≡ false → false ≡ every test next left b s
-  every-stopped b s zero h p = absurd (omega arith)
-  every-stopped b s (suc k) h p = sym (every_more k b s ∙ ap (λ (x : Bool). pick x (every test next k b (next b s)) false) p)
+    pub every-again : (t : S) → test b s ≡ true → t ≡ next b s → every test next (n - (k + 1)) b t ≡ every test next (n - k) b s
+    every-again t p r = ap (every test next (n - (k + 1)) b) r ∙ sym (every_on ∙ ap (λ (x : Bool). pick x (every test next (n - (k + 1)) b (next b s)) false) p)
+
+    pub every-stopped : test b s ≡ false → false ≡ every test next (n - k) b s
+    every-stopped p = sym (every_on ∙ ap (λ (x : Bool). pick x (every test next (n - (k + 1)) b (next b s)) false) p)
 
   pub every-ended : (b : Bytes) (s : S) (left : ℕ) → left ≤ 0 → true ≡ every test next left b s
   unfolding every

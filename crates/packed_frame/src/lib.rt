@@ -44,24 +44,11 @@ fn is_field_byte(b: u8) -> bool
     (33 <= b) & (b <= 126) & ((b != b'\\') & (b != b'*'))
 }
 
-// So many bytes from this place on, as far as they are there, may stand in a field.
-fn are_field_bytes(bytes: &[u8], from: usize, size: usize) -> bool
-    ensures { result ≡ all field_byte (take size (drop from bytes.now)) }
+// These bytes may stand in a field.
+fn are_field_bytes(bytes: &[u8]) -> bool
+    ensures { result ≡ all field_byte bytes.now }
 {
-    let mut at = from;
-    let mut left = size;
-    while left > 0 {
-        if bytes.len() <= at {
-            return true;
-        }
-        if is_field_byte(bytes[at]) {
-            at = at + 1;
-            left = left - 1;
-        } else {
-            return false;
-        }
-    }
-    true
+    bytes.iter().all(|b| is_field_byte(*b))
 }
 
 // The length of the name at this place, behind its two bytes of length; 0 where it is missing, `NO_NAME` where none stands here.
@@ -81,7 +68,7 @@ pub fn name_size(bytes: &[u8], at: usize) -> usize
     if bytes.len() - 2 - at < size {
         return NO_NAME;
     }
-    if are_field_bytes(bytes, at + 2, size) {
+    if are_field_bytes(&bytes[at + 2..at + 2 + size]) {
         size
     } else {
         NO_NAME
@@ -146,15 +133,13 @@ pub fn segments_at(bytes: &[u8], from: usize, count: u32) -> Segments
 {
     let mut at = from;
     let mut lanes: u64 = 0;
-    let mut left = count;
-    while left > 0 {
+    for _ in 0..count {
         let end = segment_end(bytes, at, lanes);
         if end == 0 {
             return Segments::Nothing;
         }
         lanes = lanes + two_at(bytes, at + 6) as u64;
         at = end;
-        left = left - 1;
     }
     Segments::To(at, lanes)
 }
@@ -198,8 +183,7 @@ pub fn zones_at(bytes: &[u8], from: usize, count: u32, first: u64) -> Zones
     let mut at = from;
     let mut point = first;
     let mut spot: u64 = 0;
-    let mut left = count;
-    while left > 0 {
+    for _ in 0..count {
         let end = zone_end(bytes, at, point, spot);
         if end == 0 {
             return Zones::Nothing;
@@ -208,7 +192,6 @@ pub fn zones_at(bytes: &[u8], from: usize, count: u32, first: u64) -> Zones
         point = point + (two_at(bytes, at + 6) as u64 + (spots + spots));
         spot = spot + spots;
         at = end;
-        left = left - 1;
     }
     Zones::To(at, point, spot)
 }
@@ -239,15 +222,12 @@ fn are_spots_behind(bytes: &[u8], from: usize, begin: u32, points: u16, count: u
 {
     let mut at = from;
     let mut point = begin as u64 + points as u64;
-    let mut left = count;
-    while left > 0 {
-        if is_spot(bytes, at, point) {
-            at = at + 8;
-            point = point + 2;
-            left = left - 1;
-        } else {
+    for _ in 0..count {
+        if !is_spot(bytes, at, point) {
             return false;
         }
+        at = at + 8;
+        point = point + 2;
     }
     true
 }
@@ -270,15 +250,12 @@ pub fn are_spots(bytes: &[u8], from: usize, count: u32, spots: usize) -> bool
 {
     let mut zone = from;
     let mut at = spots;
-    let mut left = count;
-    while left > 0 {
-        if are_spots_of(bytes, zone, at) {
-            at = at + 8 * two_at(bytes, zone + 12) as usize;
-            zone = named_end(bytes, zone, 12);
-            left = left - 1;
-        } else {
+    for _ in 0..count {
+        if !are_spots_of(bytes, zone, at) {
             return false;
         }
+        at = at + 8 * two_at(bytes, zone + 12) as usize;
+        zone = named_end(bytes, zone, 12);
     }
     true
 }

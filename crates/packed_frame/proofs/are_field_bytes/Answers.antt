@@ -1,17 +1,15 @@
 -- `packed_frame::are_field_bytes` meets its contract. Assumes nothing.
-use mathlib.Core.Path.{sym, ◌∙◌}
-use native.Mathlib.Omega.{arith}
-use Rattle.packed_frame.proofs.NameLaws.{field-again, field-stopped, field_out, field-ended}
+use Rattle.std.proofs.Common.{ℕ, Bool, ◌&&◌, refl, ◌∙◌, rules, tests}
+use Rattle.std.specs.List.{list_all}
+use Rattle.std.proofs.lemmas.Iterator.{YieldsList-from_slice}
+use Rattle.std.proofs.lemmas.Iterator.Search.{all_from_yields_List}
+use Rattle.std.proofs.lemmas.List.Recursion.{same_from_clauses}
+use Rattle.scan.specs.Allowed.{field_byte, all}
 use Rattle.packed_frame.proofs.are_field_bytes.Goals as goal
 
-pub returns-then-bytes-at : goal.returns-then-bytes-at
-returns-then-bytes-at c = field_out c.args.bytes.now c.loop-left.at c.loop-left.left (omega arith) ∙ c.loop-left.invariant
-
-pub loop-left-preserved : goal.loop-left-preserved
-loop-left-preserved c = field-again c.args.bytes.now c.loop-left.at c.loop-left.left (omega arith) (omega arith) (sym c.is_field_byte.ensures ∙ c.if-is_field_byte.true) ∙ c.loop-left.invariant
-
-pub returns-else-is_field_byte : goal.returns-else-is_field_byte
-returns-else-is_field_byte c = field-stopped c.args.bytes.now c.loop-left.at c.loop-left.left (omega arith) (omega arith) (sym c.is_field_byte.ensures ∙ c.if-is_field_byte.false) ∙ c.loop-left.invariant
-
 pub returns : goal.returns
-returns c = field-ended c.args.bytes.now c.loop-left.at c.loop-left.left (omega arith) ∙ c.loop-left.invariant
+unfolding all
+returns c =
+    let xs = c.args.bytes.now in
+    all_from_yields_List field_byte _ _ _ c.all.ensures.ran (YieldsList-from_slice xs cc) (λ x b q k. search (rules, tests))
+    ∙ same_from_clauses (list_all field_byte) (all field_byte) (λ (x : ℕ) (t : Bool). field_byte x && t) refl (λ _ _. refl) (λ _ _. refl) xs

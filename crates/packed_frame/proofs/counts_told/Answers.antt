@@ -1,6 +1,4 @@
 -- `packed_frame::counts_told` meets its contract. Assumes nothing.
-use Rattle.packed_frame.specs.Segments.{segments}
-use Rattle.packed_frame.specs.Zones.{zones}
 use Rattle.packed_frame.proofs.counts_told.Goals as goal
 
 pub returns : goal.returns

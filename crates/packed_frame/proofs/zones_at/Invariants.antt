@@ -1,10 +1,7 @@
 use mathlib.Core.Path.{◌≡◌}
-use Prim.Native.Nat.{◌+◌, ◌*◌, ◌≤◌}
+use Prim.Native.Nat.{◌-◌, ◌*◌, ◌≤◌}
 use Rattle.packed_frame.specs.Zones.{zones}
 use Rattle.packed_frame.proofs.zones_at.Given as goal
 
-abbrev pub invariant-loop-left : goal.invariant-loop-left
-invariant-loop-left l = (zones l.left l.bytes l.at (l.point, l.spot) ≡ zones l.count l.bytes l.from (l.first, 0)) × (l.spot + 65536 * l.left ≤ 65536 * l.count)
-
-abbrev pub decreases-loop-left : goal.decreases-loop-left
-decreases-loop-left l = l.left
+abbrev pub invariant-loop : goal.invariant-loop
+invariant-loop l = (zones (l.count - l.counter) l.bytes l.at (l.point, l.spot) ≡ zones l.count l.bytes l.from (l.first, 0)) × (l.spot ≤ 65536 * l.counter)
