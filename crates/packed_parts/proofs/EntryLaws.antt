@@ -11,6 +11,7 @@ use Rattle.terms.specs.Words.{pick}
 use Rattle.terms.proofs.Tests.{clash}
 use Rattle.packed_rows.specs.Fixed.{record_here}
 use Rattle.packed_rows.specs.Points.{four_at_of}
+use Rattle.packed_rows.proofs.Laws.{one_done}
 use Rattle.packed_rows.proofs.FixedLaws.{here-inside}
 use Rattle.packed_parts.specs.Entries.{middle, halve, behind_last, entry_right, exit_right, exits_right}
 
@@ -121,15 +122,17 @@ module _ (b : Bytes) (key : ℕ → ℕ) (n points end : ℕ) where
   unfolding exits_right
   more-exits k at = refl
 
-  pub again-exit : (at left : ℕ) → 0 < left → exit_right b at key n points end ≡ true → exits_right (left - 1) b (at + 10) key n points end ≡ exits_right left b at key n points end
-  again-exit at zero h e = absurd (omega arith)
-  again-exit at (suc k) h e = let d : suc k - 1 ≡ k = omega arith in ap (λ (j : ℕ). exits_right j b (at + 10) key n points end) d ∙ sym (more-exits k at ∙ ap (λ (t : Bool). pick t (exits_right k b (at + 10) key n points end) false) e)
+  -- k of m are done
+  module _ (m k at : ℕ) where
+    next-exit : k < m → exits_right (m - k) b at key n points end ≡ pick (exit_right b at key n points end) (exits_right (m - (k + 1)) b (at + 10) key n points end) false
+    next-exit h = one_done (λ (j : ℕ). exits_right j b at key n points end) m k h ∙ more-exits (m - (k + 1)) at
 
-  pub stopped-exit : (at left : ℕ) → 0 < left → exit_right b at key n points end ≡ false → false ≡ exits_right left b at key n points end
-  stopped-exit at zero h e = absurd (omega arith)
-  stopped-exit at (suc k) h e = sym (more-exits k at ∙ ap (λ (t : Bool). pick t (exits_right k b (at + 10) key n points end) false) e)
+    pub again-exit : k < m → exit_right b at key n points end ≡ true → exits_right (m - (k + 1)) b (at + 10) key n points end ≡ exits_right (m - k) b at key n points end
+    again-exit h e = sym (next-exit h ∙ ap (λ (t : Bool). pick t (exits_right (m - (k + 1)) b (at + 10) key n points end) false) e)
 
-  pub ended-exits : (at left : ℕ) → left ≤ 0 → true ≡ exits_right left b at key n points end
-  unfolding exits_right
-  ended-exits at zero h = refl
-  ended-exits at (suc k) h = absurd (omega arith)
+    pub stopped-exit : k < m → exit_right b at key n points end ≡ false → false ≡ exits_right (m - k) b at key n points end
+    stopped-exit h e = sym (next-exit h ∙ ap (λ (t : Bool). pick t (exits_right (m - (k + 1)) b (at + 10) key n points end) false) e)
+
+    pub ended-exits : m ≤ k → true ≡ exits_right (m - k) b at key n points end
+    unfolding exits_right
+    ended-exits h = let e : m - k ≡ 0 = omega arith in sym (ap (λ (j : ℕ). exits_right j b at key n points end) e)

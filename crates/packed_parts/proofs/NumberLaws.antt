@@ -2,7 +2,7 @@
 use mathlib.Core.Path.{◌≡◌, refl, sym, ap, ◌∙◌}
 use mathlib.Core.List.{List, [], ◌∷◌, ◌++◌}
 use mathlib.Core.Bool.{Bool, true, false, not}
-use Prim.Native.Nat.{ℕ, zero, suc, ◌+◌, ◌-◌, ◌≤◌, ◌<◌}
+use Prim.Native.Nat.{ℕ, suc, ◌+◌, ◌-◌, ◌≤◌, ◌<◌}
 use native.Mathlib.Omega.{arith}
 use lib.ListN.{length, drop}
 use Rattle.terms.specs.Ascii.{Bytes}
@@ -14,6 +14,7 @@ use Rattle.fill.specs.FirstFaults.{is_among}
 use Rattle.marks.specs.Marks.{Marks, is_marked_of, with_mark}
 use Rattle.marks.proofs.Seen.{Marked, one_more}
 use Rattle.packed_rows.specs.Fixed.{record_here}
+use Rattle.packed_rows.proofs.Laws.{one_done}
 use Rattle.packed_rows.proofs.FixedLaws.{here-inside}
 use Rattle.packed_parts.specs.Numbers.{number_at, number_right, numbers_right}
 
@@ -58,37 +59,34 @@ by-marks {front} {marks} m b at = ap (λ (t : Bool). pick (record_here 6 (drop a
     go false e = refl
 
 -- ## So many
--- the marks at hand are those of the numbers before, and what is left says the whole
-pub record Marking (b : Bytes) (count from : ℕ) (marks : Marks) (at left : ℕ) : Type 0 where
+-- k of count are done: the marks at hand are those of their numbers, and what is left says the whole
+pub record Marking (b : Bytes) (count from : ℕ) (marks : Marks) (at k : ℕ) : Type 0 where
   pub front : List ℕ
   pub marked : Marked front marks
-  pub same : numbers_right left b at front ≡ numbers_right count b from []
+  pub same : numbers_right (count - k) b at front ≡ numbers_right count b from []
+
+pub none-done : (b : Bytes) (count from : ℕ) {marks : Marks} → Marked [] marks → Marking b count from marks from 0
+none-done b count from m = let e : count - 0 ≡ count = omega arith in record { front = []; marked = m; same = ap (λ (j : ℕ). numbers_right j b from []) e }
 
 more_numbers : (k : ℕ) (b : Bytes) (at : ℕ) (front : List ℕ) → numbers_right (suc k) b at front ≡ pick (number_right b at (λ a. is_among a front)) (numbers_right k b (at + 8) (front ++ (number_at b at ∷ []))) false
 unfolding numbers_right
 more_numbers k b at front = refl
 
-pub again-number : {b : Bytes} {count from at left : ℕ} {marks : Marks} (n : ℕ) → Marking b count from marks at left → 0 < left → number_right b at (is_marked_of marks) ≡ true → n ≡ number_at b at → Marking b count from (with_mark marks n) (at + 8) (left - 1)
-again-number {b} {count} {from} {at} {left} {marks} n m h t e = record { front = m.front ++ (n ∷ []); marked = one_more m.marked n; same = go left h ∙ m.same }
-  where
-    go : (l : ℕ) → 0 < l → numbers_right (l - 1) b (at + 8) (m.front ++ (n ∷ [])) ≡ numbers_right l b at m.front
-    go zero h = absurd (omega arith)
-    go (suc k) h =
-        let d : suc k - 1 ≡ k = omega arith in
-        (λ x. numbers_right (d x) b (at + 8) (m.front ++ (e x ∷ [])))
-        ∙ sym (more_numbers k b at m.front ∙ ap (λ (y : Bool). pick y (numbers_right k b (at + 8) (m.front ++ (number_at b at ∷ []))) false) (sym (by-marks m.marked b at) ∙ t))
+module _ {b : Bytes} {count from at k : ℕ} {marks : Marks} (m : Marking b count from marks at k) where
+  abbrev rest-of : ℕ → Bool
+  rest-of n = numbers_right (count - (k + 1)) b (at + 8) (m.front ++ (n ∷ []))
 
-pub stopped-number : {b : Bytes} {count from at left : ℕ} {marks : Marks} → Marking b count from marks at left → 0 < left → number_right b at (is_marked_of marks) ≡ false → false ≡ numbers_right count b from []
-stopped-number {b} {count} {from} {at} {left} {marks} m h t = go left h ∙ m.same
-  where
-    go : (l : ℕ) → 0 < l → false ≡ numbers_right l b at m.front
-    go zero h = absurd (omega arith)
-    go (suc k) h = sym (more_numbers k b at m.front ∙ ap (λ (y : Bool). pick y (numbers_right k b (at + 8) (m.front ++ (number_at b at ∷ []))) false) (sym (by-marks m.marked b at) ∙ t))
+  next-number : k < count → numbers_right count b from [] ≡ pick (number_right b at (is_marked_of marks)) (rest-of (number_at b at)) false
+  next-number h =
+      sym m.same ∙ one_done (λ (j : ℕ). numbers_right j b at m.front) count k h ∙ more_numbers (count - (k + 1)) b at m.front
+      ∙ ap (λ (y : Bool). pick y (rest-of (number_at b at)) false) (sym (by-marks m.marked b at))
 
-no-numbers : (b : Bytes) (at left : ℕ) (front : List ℕ) → left ≤ 0 → true ≡ numbers_right left b at front
-unfolding numbers_right
-no-numbers b at zero front h = refl
-no-numbers b at (suc k) front h = absurd (omega arith)
+  pub again-number : (n : ℕ) → k < count → number_right b at (is_marked_of marks) ≡ true → n ≡ number_at b at → Marking b count from (with_mark marks n) (at + 8) (k + 1)
+  again-number n h t e = record { front = m.front ++ (n ∷ []); marked = one_more m.marked n; same = ap rest-of e ∙ sym (next-number h ∙ ap (λ (y : Bool). pick y (rest-of (number_at b at)) false) t) }
 
-pub ended-numbers : {b : Bytes} {count from at left : ℕ} {marks : Marks} → Marking b count from marks at left → left ≤ 0 → true ≡ numbers_right count b from []
-ended-numbers {b} {count} {from} {at} {left} m h = no-numbers b at left m.front h ∙ m.same
+  pub stopped-number : k < count → number_right b at (is_marked_of marks) ≡ false → false ≡ numbers_right count b from []
+  stopped-number h t = sym (next-number h ∙ ap (λ (y : Bool). pick y (rest-of (number_at b at)) false) t)
+
+  pub ended-numbers : count ≤ k → true ≡ numbers_right count b from []
+  unfolding numbers_right
+  ended-numbers h = let e : count - k ≡ 0 = omega arith in sym (ap (λ (j : ℕ). numbers_right j b at m.front) e) ∙ m.same

@@ -1,15 +1,17 @@
 -- The laws of the walk over parts. Assumes nothing.
 use mathlib.Core.Path.{◌≡◌, refl, sym, ap, ◌∙◌}
-use mathlib.Core.Bool.{Bool, true, false}
-use Prim.Native.Nat.{ℕ, zero, suc, ◌+◌, ◌-◌, ◌*◌, ◌/◌, ◌≤◌, ◌<◌}
+use mathlib.Core.Bool.{Bool, true, false, ◌&&◌}
+use Prim.Native.Nat.{ℕ, zero, suc, ◌+◌, ◌-◌, ◌*◌, ◌/◌, ◌≤◌, ◌<◌, max}
 use native.Mathlib.Nat.{mul-le-mul}
 use native.Mathlib.Omega.{arith}
 use borrow.Author.Tests.{le-leb, lt-leb, leb-false, le-ltb, lt-ltb, eq-eqb, ne_eqb}
 use lib.Dec.{leb, ltb, eqb}
+use Rattle.std.specs.List.{list_all, range_with_len}
 use Rattle.terms.specs.Ascii.{Bytes}
 use Rattle.terms.specs.Words.{pick}
 use Rattle.terms.proofs.Tests.{clash}
 use Rattle.packed_rows.specs.Points.{four_at_of}
+use Rattle.packed_rows.proofs.Laws.{one_done}
 use Rattle.packed_parts.specs.declared.Table.{Table}
 use Rattle.packed_parts.specs.Parts.{cell_at, own_point, next_row, first-at, points_at, spots_at, zone_next, lanes_take, last_end, all-below, zone_exits, all_marked, zone_checkpoints, parts_right}
 
@@ -68,14 +70,17 @@ module _ (key : ℕ → ℕ) (n : ℕ) (b : Bytes) where
   unfolding lanes_take
   more-lanes k at i = refl
 
-  pub again-lane : (left at i p size j : ℕ) → 0 < left → p ≡ four_at_of b (at + 2) → size ≡ points_at b at → j ≡ next_row key p size (n - i) i → lanes_take key n (left - 1) b (at + 12) j ≡ lanes_take key n left b at i
-  again-lane zero at i p size j h e s r = absurd (omega arith)
-  again-lane (suc k) at i p size j h e s r = let d : suc k - 1 ≡ k = omega arith in (λ x. lanes_take key n (d x) b (at + 12) (r x)) ∙ (λ x. lanes_take key n k b (at + 12) (next_row key (e x) (s x) (n - i) i)) ∙ sym (more-lanes k at i)
+  -- lane k of m from this place on. c: what was read of its points
+  pub again-lane : (m k from i p c j : ℕ) → k < m → p ≡ cell_at b from 12 2 k → c ≡ cell_at b from 12 6 k → j ≡ next_row key p (c / 65536) (n - i) i → lanes_take key n (m - (k + 1)) b (from + 12 * (k + 1)) j ≡ lanes_take key n (m - k) b (from + 12 * k) i
+  again-lane m k from i p c j h e s r =
+      let d : from + 12 * (k + 1) ≡ from + 12 * k + 12 = omega arith in
+      (λ x. lanes_take key n (m - (k + 1)) b (d x) (r x))
+      ∙ (λ x. lanes_take key n (m - (k + 1)) b (from + 12 * k + 12) (next_row key (e x) (s x / 65536) (n - i) i))
+      ∙ sym (one_done (λ (l : ℕ). lanes_take key n l b (from + 12 * k) i) m k h ∙ more-lanes (m - (k + 1)) (from + 12 * k) i)
 
-  pub ended-lanes : (left at i : ℕ) → left ≤ 0 → i ≡ lanes_take key n left b at i
+  pub ended-lanes : (m k at i : ℕ) → m ≤ k → i ≡ lanes_take key n (m - k) b at i
   unfolding lanes_take
-  ended-lanes zero at i h = refl
-  ended-lanes (suc k) at i h = absurd (omega arith)
+  ended-lanes m k at i h = let e : m - k ≡ 0 = omega arith in sym (ap (λ (l : ℕ). lanes_take key n l b at i) e)
 
 pub last-lane : (b : Bytes) (from count p c : ℕ) → 0 < count → p ≡ cell_at b from 12 2 (count - 1) → c ≡ cell_at b from 12 6 (count - 1) → p + c / 65536 ≡ last_end b from count
 last-lane b from zero p c h e d = absurd (omega arith)
@@ -91,21 +96,17 @@ module _ (key : ℕ → ℕ) (end : ℕ) where
   unfolding all-below
   more-below k i = refl
 
-  one_below : (n i : ℕ) → i < n → all-below key end (n - i) i ≡ pick (ltb (key i) end) (all-below key end (n - (i + 1)) (i + 1)) false
-  one_below n i h = let e : n - i ≡ suc (n - (i + 1)) = omega arith in ap (λ (k : ℕ). all-below key end k i) e ∙ more-below (n - (i + 1)) i
-
-  pub again-below : (n i : ℕ) → i < n → key i < end → all-below key end (n - (i + 1)) (i + 1) ≡ all-below key end (n - i) i
-  again-below n i h e = sym (one_below n i h ∙ ap (λ (t : Bool). pick t (all-below key end (n - (i + 1)) (i + 1)) false) (lt-ltb (key i) end e))
-
-  pub stopped-below : (n i : ℕ) → i < n → end ≤ key i → false ≡ all-below key end (n - i) i
-  stopped-below n i h e = sym (one_below n i h ∙ ap (λ (t : Bool). pick t (all-below key end (n - (i + 1)) (i + 1)) false) (le-ltb (key i) end e))
-
   none_below : (i : ℕ) → true ≡ all-below key end 0 i
   unfolding all-below
   none_below i = refl
 
-  pub ended-below : (n i : ℕ) → n ≤ i → true ≡ all-below key end (n - i) i
-  ended-below n i h = let e : 0 ≡ n - i = omega arith in none_below i ∙ ap (λ (k : ℕ). all-below key end k i) e
+  and-pick : (x y : Bool) → (x && y) ≡ pick x y false
+  and-pick true y = refl
+  and-pick false y = refl
+
+  pub each-below : (k i : ℕ) → list_all (λ j. ltb (key j) end) (range_with_len i k) ≡ all-below key end k i
+  each-below zero i = none_below i
+  each-below (suc k) i = ap (λ (t : Bool). ltb (key i) end && t) (each-below k (i + 1)) ∙ and-pick (ltb (key i) end) (all-below key end k (i + 1)) ∙ sym (more-below k i)
 
 module _ (point entry : ℕ → ℕ) (n end : ℕ) (b : Bytes) where
   abbrev row-behind : ℕ → ℕ → ℕ
@@ -115,31 +116,26 @@ module _ (point entry : ℕ → ℕ) (n end : ℕ) (b : Bytes) where
   unfolding zone_exits
   more-exits k at i = refl
 
-  module _ (left at i p size j : ℕ) (h : 0 < left) (e : p ≡ four_at_of b (at + 2)) (s : size ≡ points_at b at) (r : j ≡ next_row point p size (n - i) i) where
-    is-behind : j ≡ row-behind at i
-    is-behind = r ∙ (λ x. next_row point (e x) (s x) (n - i) i)
+  -- k of m are done. p, c: what was read of the zone's points
+  module _ (m k at i p c j : ℕ) (h : k < m) (e : p ≡ four_at_of b (at + 2)) (s : c ≡ four_at_of b (at + 6)) (r : j ≡ next_row point p (c / 65536) (n - i) i) where
+    abbrev exits-behind : ℕ → Bool
+    exits-behind place = zone_exits point entry n end (m - (k + 1)) b place j
 
-    pub again-exits : (m : ℕ) → m ≡ four_at_of b at → all-below entry end (j - i) i ≡ true → zone_exits point entry n end (left - 1) b (at + 2 + m / 65536) j ≡ zone_exits point entry n end left b at i
-    again-exits m f t = go left h
-      where
-        go : (l : ℕ) → 0 < l → zone_exits point entry n end (l - 1) b (at + 2 + m / 65536) j ≡ zone_exits point entry n end l b at i
-        go zero h = absurd (omega arith)
-        go (suc k) h =
-            let d : suc k - 1 ≡ k = omega arith in
-            (λ x. zone_exits point entry n end (d x) b (at + 2 + f x / 65536) (is-behind x))
-            ∙ sym (more-exits k at i ∙ ap (λ (t : Bool). pick t (zone_exits point entry n end k b (zone_next b at) (row-behind at i)) false) (ap (λ (y : ℕ). all-below entry end (y - i) i) (sym is-behind) ∙ t))
+    next-exits : zone_exits point entry n end (m - k) b at i ≡ pick (all-below entry end (j - i) i) (exits-behind (zone_next b at)) false
+    next-exits =
+        let d : j ≡ row-behind at i = r ∙ (λ x. next_row point (e x) (s x / 65536) (n - i) i) in
+        one_done (λ (l : ℕ). zone_exits point entry n end l b at i) m k h ∙ more-exits (m - (k + 1)) at i
+        ∙ ap (λ (y : ℕ). pick (all-below entry end (y - i) i) (zone_exits point entry n end (m - (k + 1)) b (zone_next b at) y) false) (sym d)
 
-    pub stopped-exits : all-below entry end (j - i) i ≡ false → false ≡ zone_exits point entry n end left b at i
-    stopped-exits t = go left h
-      where
-        go : (l : ℕ) → 0 < l → false ≡ zone_exits point entry n end l b at i
-        go zero h = absurd (omega arith)
-        go (suc k) h = sym (more-exits k at i ∙ ap (λ (t : Bool). pick t (zone_exits point entry n end k b (zone_next b at) (row-behind at i)) false) (ap (λ (y : ℕ). all-below entry end (y - i) i) (sym is-behind) ∙ t))
+    pub again-exits : (long : ℕ) → long ≡ four_at_of b at → all-below entry end (j - i) i ≡ true → exits-behind (at + 2 + long / 65536) ≡ zone_exits point entry n end (m - k) b at i
+    again-exits long f t = ap (λ (l : ℕ). exits-behind (at + 2 + l / 65536)) f ∙ sym (next-exits ∙ ap (λ (x : Bool). pick x (exits-behind (zone_next b at)) false) t)
 
-  pub ended-exits : (left at i : ℕ) → left ≤ 0 → leb n i ≡ zone_exits point entry n end left b at i
+    pub stopped-exits : all-below entry end (j - i) i ≡ false → false ≡ zone_exits point entry n end (m - k) b at i
+    stopped-exits t = sym (next-exits ∙ ap (λ (x : Bool). pick x (exits-behind (zone_next b at)) false) t)
+
+  pub ended-exits : (m k at i : ℕ) → m ≤ k → leb n i ≡ zone_exits point entry n end (m - k) b at i
   unfolding zone_exits
-  ended-exits zero at i h = refl
-  ended-exits (suc k) at i h = absurd (omega arith)
+  ended-exits m k at i h = let e : m - k ≡ 0 = omega arith in sym (ap (λ (l : ℕ). zone_exits point entry n end l b at i) e)
 
 -- ## Checkpoints of spots
 module _ (key : ℕ → ℕ) (n : ℕ) where
@@ -150,22 +146,27 @@ module _ (key : ℕ → ℕ) (n : ℕ) where
   one-marked : (q k i : ℕ) → i < n → all_marked key n q (suc k) i ≡ pick (eqb (key i) (q + 1)) (all_marked key n (q + 2) k (i + 1)) false
   one-marked q k i h = more-marked q k i ∙ ap (λ (t : Bool). pick t false (pick (eqb (key i) (q + 1)) (all_marked key n (q + 2) k (i + 1)) false)) (lt-leb n i h)
 
-  pub again-marked : (q left i : ℕ) → 0 < left → i < n → key i ≡ q + 1 → all_marked key n (q + 2) (left - 1) (i + 1) ≡ all_marked key n q left i
-  again-marked q zero i h l e = absurd (omega arith)
-  again-marked q (suc k) i h l e = let d : suc k - 1 ≡ k = omega arith in ap (λ (m : ℕ). all_marked key n (q + 2) m (i + 1)) d ∙ sym (one-marked q k i l ∙ ap (λ (t : Bool). pick t (all_marked key n (q + 2) k (i + 1)) false) (eq-eqb (key i) (q + 1) e))
+  -- spot k of m, the first at q; row is the first of their rows. c: what its row says
+  module _ (q m k row c : ℕ) where
+    marked-from : k < m → all_marked key n (q + 2 * k) (m - k) (row + k) ≡ all_marked key n (q + 2 * k) (suc (m - (k + 1))) (row + k)
+    marked-from h = one_done (λ (l : ℕ). all_marked key n (q + 2 * k) l (row + k)) m k h
 
-  pub none_left : (q left i : ℕ) → 0 < left → n ≤ i → false ≡ all_marked key n q left i
-  none_left q zero i h l = absurd (omega arith)
-  none_left q (suc k) i h l = sym (more-marked q k i ∙ ap (λ (t : Bool). pick t false (pick (eqb (key i) (q + 1)) (all_marked key n (q + 2) k (i + 1)) false)) (le-leb n i l))
+    pub again-marked : k < m → row + k < n → c ≡ key (row + k) → c ≡ q + 2 * k + 1 → all_marked key n (q + 2 * (k + 1)) (m - (k + 1)) (row + (k + 1)) ≡ all_marked key n (q + 2 * k) (m - k) (row + k)
+    again-marked h l e s =
+        let d : q + 2 * (k + 1) ≡ q + 2 * k + 2 = omega arith in
+        let f : row + (k + 1) ≡ row + k + 1 = omega arith in
+        (λ i. all_marked key n (d i) (m - (k + 1)) (f i))
+        ∙ sym (marked-from h ∙ one-marked (q + 2 * k) (m - (k + 1)) (row + k) l ∙ ap (λ (t : Bool). pick t (all_marked key n (q + 2 * k + 2) (m - (k + 1)) (row + k + 1)) false) (eq-eqb (key (row + k)) (q + 2 * k + 1) (sym e ∙ s)))
 
-  pub stopped-marked : (q left i : ℕ) → 0 < left → i < n → (key i ≡ q + 1 → ⊥) → false ≡ all_marked key n q left i
-  stopped-marked q zero i h l e = absurd (omega arith)
-  stopped-marked q (suc k) i h l e = sym (one-marked q k i l ∙ ap (λ (t : Bool). pick t (all_marked key n (q + 2) k (i + 1)) false) (ne_eqb (key i) (q + 1) e))
+    pub none_left : k < m → n ≤ row + k → false ≡ all_marked key n (q + 2 * k) (m - k) (row + k)
+    none_left h l = sym (marked-from h ∙ more-marked (q + 2 * k) (m - (k + 1)) (row + k) ∙ ap (λ (t : Bool). pick t false (pick (eqb (key (row + k)) (q + 2 * k + 1)) (all_marked key n (q + 2 * k + 2) (m - (k + 1)) (row + k + 1)) false)) (le-leb n (row + k) l))
 
-  pub ended-marked : (q left i : ℕ) → left ≤ 0 → true ≡ all_marked key n q left i
-  unfolding all_marked
-  ended-marked q zero i h = refl
-  ended-marked q (suc k) i h = absurd (omega arith)
+    pub stopped-marked : k < m → row + k < n → c ≡ key (row + k) → (c ≡ q + 2 * k + 1 → ⊥) → false ≡ all_marked key n (q + 2 * k) (m - k) (row + k)
+    stopped-marked h l e s = sym (marked-from h ∙ one-marked (q + 2 * k) (m - (k + 1)) (row + k) l ∙ ap (λ (t : Bool). pick t (all_marked key n (q + 2 * k + 2) (m - (k + 1)) (row + k + 1)) false) (ne_eqb (key (row + k)) (q + 2 * k + 1) (λ d. s (e ∙ d))))
+
+    pub ended-marked : m ≤ k → true ≡ all_marked key n (q + 2 * k) (m - k) (row + k)
+    unfolding all_marked
+    ended-marked h = let e : m - k ≡ 0 = omega arith in sym (ap (λ (l : ℕ). all_marked key n (q + 2 * k) l (row + k)) e)
 
   -- that many rows are there
   pub marked-inside : (q k i : ℕ) → i ≤ n → all_marked key n q k i ≡ true → i + k ≤ n
@@ -178,11 +179,11 @@ module _ (key : ℕ → ℕ) (n : ℕ) where
       go false e false d h more = clash (sym h)
 
   -- the row behind them fits where the count does
-  pub marked-fits : (m q k i : ℕ) → i ≤ m → n ≤ m → all_marked key n q k i ≡ true → i + k ≤ m
-  marked-fits m q zero i l r h = omega arith
-  marked-fits m q (suc k) i l r h = go (leb n i) refl (sym (more-marked q k i) ∙ h)
+  pub marked-fits : (q k i : ℕ) → all_marked key n q k i ≡ true → i + k ≤ max i n
+  marked-fits q zero i h = omega arith
+  marked-fits q (suc k) i h = go (leb n i) refl (sym (more-marked q k i) ∙ h)
     where
-      go : (x : Bool) → leb n i ≡ x → pick x false (pick (eqb (key i) (q + 1)) (all_marked key n (q + 2) k (i + 1)) false) ≡ true → i + suc k ≤ m
+      go : (x : Bool) → leb n i ≡ x → pick x false (pick (eqb (key i) (q + 1)) (all_marked key n (q + 2) k (i + 1)) false) ≡ true → i + suc k ≤ max i n
       go true e t = clash (sym t)
       go false e t = let u = leb-false n i e in let w = marked-inside q (suc k) i (omega arith) h in omega arith
 
@@ -194,31 +195,25 @@ module _ (key : ℕ → ℕ) (n : ℕ) (b : Bytes) where
   unfolding zone_checkpoints
   more-checkpoints k at i = refl
 
-  module _ (left at i p size spots : ℕ) (h : 0 < left) (e : p ≡ four_at_of b (at + 2)) (s : size ≡ points_at b at) (r : spots ≡ spots_at b at) where
-    marked-here : all_marked key n (p + size) spots i ≡ here-marked at i
-    marked-here = λ x. all_marked key n (e x + s x) (r x) i
+  -- k of m are done. p, c, d: what was read of the zone's points and spots
+  module _ (m k at i p c d : ℕ) (h : k < m) (e : p ≡ four_at_of b (at + 2)) (s : c ≡ four_at_of b (at + 6)) (r : d ≡ four_at_of b (at + 12)) where
+    abbrev checkpoints-behind : ℕ → Bool
+    checkpoints-behind place = zone_checkpoints key n (m - (k + 1)) b place (i + d / 65536)
 
-    pub again-checkpoints : (m : ℕ) → m ≡ four_at_of b at → all_marked key n (p + size) spots i ≡ true → zone_checkpoints key n (left - 1) b (at + 2 + m / 65536) (i + spots) ≡ zone_checkpoints key n left b at i
-    again-checkpoints m f t = go left h
-      where
-        go : (l : ℕ) → 0 < l → zone_checkpoints key n (l - 1) b (at + 2 + m / 65536) (i + spots) ≡ zone_checkpoints key n l b at i
-        go zero h = absurd (omega arith)
-        go (suc k) h =
-            let d : suc k - 1 ≡ k = omega arith in
-            (λ x. zone_checkpoints key n (d x) b (at + 2 + f x / 65536) (i + r x))
-            ∙ sym (more-checkpoints k at i ∙ ap (λ (t : Bool). pick t (zone_checkpoints key n k b (zone_next b at) (i + spots_at b at)) false) (sym marked-here ∙ t))
+    next-checkpoints : zone_checkpoints key n (m - k) b at i ≡ pick (all_marked key n (p + c / 65536) (d / 65536) i) (checkpoints-behind (zone_next b at)) false
+    next-checkpoints =
+        one_done (λ (l : ℕ). zone_checkpoints key n l b at i) m k h ∙ more-checkpoints (m - (k + 1)) at i
+        ∙ sym (λ x. pick (all_marked key n (e x + s x / 65536) (r x / 65536) i) (zone_checkpoints key n (m - (k + 1)) b (zone_next b at) (i + r x / 65536)) false)
 
-    pub stopped-checkpoints : all_marked key n (p + size) spots i ≡ false → false ≡ zone_checkpoints key n left b at i
-    stopped-checkpoints t = go left h
-      where
-        go : (l : ℕ) → 0 < l → false ≡ zone_checkpoints key n l b at i
-        go zero h = absurd (omega arith)
-        go (suc k) h = sym (more-checkpoints k at i ∙ ap (λ (t : Bool). pick t (zone_checkpoints key n k b (zone_next b at) (i + spots_at b at)) false) (sym marked-here ∙ t))
+    pub again-checkpoints : (long : ℕ) → long ≡ four_at_of b at → all_marked key n (p + c / 65536) (d / 65536) i ≡ true → checkpoints-behind (at + 2 + long / 65536) ≡ zone_checkpoints key n (m - k) b at i
+    again-checkpoints long f t = ap (λ (l : ℕ). checkpoints-behind (at + 2 + l / 65536)) f ∙ sym (next-checkpoints ∙ ap (λ (x : Bool). pick x (checkpoints-behind (zone_next b at)) false) t)
 
-  pub ended-checkpoints : (left at i : ℕ) → left ≤ 0 → leb n i ≡ zone_checkpoints key n left b at i
+    pub stopped-checkpoints : all_marked key n (p + c / 65536) (d / 65536) i ≡ false → false ≡ zone_checkpoints key n (m - k) b at i
+    stopped-checkpoints t = sym (next-checkpoints ∙ ap (λ (x : Bool). pick x (checkpoints-behind (zone_next b at)) false) t)
+
+  pub ended-checkpoints : (m k at i : ℕ) → m ≤ k → leb n i ≡ zone_checkpoints key n (m - k) b at i
   unfolding zone_checkpoints
-  ended-checkpoints zero at i h = refl
-  ended-checkpoints (suc k) at i h = absurd (omega arith)
+  ended-checkpoints m k at i h = let e : m - k ≡ 0 = omega arith in sym (ap (λ (l : ℕ). zone_checkpoints key n l b at i) e)
 
 -- ## All parts
 module _ (b : Bytes) (lanes zones checkpoints stops exits : Table) (end : ℕ) where

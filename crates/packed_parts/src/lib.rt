@@ -45,16 +45,13 @@ pub fn are_checkpoints(bytes: &[u8], from: usize, count: u32) -> bool
 {
     let mut marks = [0; 4096];
     let mut at = from;
-    let mut left = count;
-    while left > 0 {
-        if is_new(bytes, at, &marks) {
-            let number = four_at(bytes, at + 2) / 65536;
-            mark(&mut marks, number as u16);
-            at = at + 8;
-            left = left - 1;
-        } else {
+    for _ in 0..count {
+        if !is_new(bytes, at, &marks) {
             return false;
         }
+        let number = four_at(bytes, at + 2) / 65536;
+        mark(&mut marks, number as u16);
+        at = at + 8;
     }
     true
 }
@@ -76,6 +73,7 @@ fn spots_to(bytes: &[u8], spots: Table, point: u32) -> u32
 {
     let mut low = 0;
     let mut high = spots.count;
+    // Kept as it is: what may not change: by the clause of `are_exits` (halve of specs/Entries) one row is found also where the points don't rise, and partition_point says nothing of that.
     while low < high {
         let middle = low + (high - low) / 2;
         if cell(bytes, spots.from, 8, 2, middle) <= point {
@@ -121,14 +119,11 @@ pub fn are_exits(bytes: &[u8], from: usize, count: u32, spots: Table, points: u3
     ensures { result ≡ exits_right count bytes.now from (cell_at bytes.now spots.from 8 2) spots.count points end }
 {
     let mut at = from;
-    let mut left = count;
-    while left > 0 {
-        if is_exit(bytes, at, spots, points, end) {
-            at = at + 10;
-            left = left - 1;
-        } else {
+    for _ in 0..count {
+        if !is_exit(bytes, at, spots, points, end) {
             return false;
         }
+        at = at + 10;
     }
     true
 }
@@ -161,31 +156,24 @@ fn is_own(first: u32, size: u32, point: u32) -> bool
 fn behind(bytes: &[u8], rows: Table, step: u16, offset: u16, first: u32, size: u32, row: u32) -> u32
     ensures { result ≡ next_row (cell_at bytes.now rows.from step offset) first size (rows.count - row) row }
 {
-    let mut at = row;
-    while at < rows.count {
+    for at in row..rows.count {
         let point = cell(bytes, rows.from, step, offset, at);
-        if is_own(first, size, point) {
-            at = at + 1;
-        } else {
+        if !is_own(first, size, point) {
             return at;
         }
     }
-    at
+    row.max(rows.count)
 }
 
 // Each lane takes the rows next in turn whose point it has: the row behind those of all lanes.
 fn taken(bytes: &[u8], lanes: Table, rows: Table, step: u16, offset: u16) -> u32
     ensures { result ≡ lanes_take (cell_at bytes.now rows.from step offset) rows.count lanes.count bytes.now lanes.from 0 }
 {
-    let mut at = lanes.from as usize;
-    let mut left = lanes.count;
     let mut row = 0;
-    while left > 0 {
-        let first = four_at(bytes, at + 2);
-        let size = four_at(bytes, at + 6) / 65536;
+    for lane in 0..lanes.count {
+        let first = cell(bytes, lanes.from, 12, 2, lane);
+        let size = cell(bytes, lanes.from, 12, 6, lane) / 65536;
         row = behind(bytes, rows, step, offset, first, size, row);
-        at = at + 12;
-        left = left - 1;
     }
     row
 }
@@ -194,15 +182,7 @@ fn taken(bytes: &[u8], lanes: Table, rows: Table, step: u16, offset: u16) -> u32
 fn lead_to_lanes(bytes: &[u8], exits: Table, row: u32, until: u32, end: u64) -> bool
     ensures { result ≡ all-below (cell_at bytes.now exits.from 10 6) end (until - row) row }
 {
-    let mut at = row;
-    while at < until {
-        if (cell(bytes, exits.from, 10, 6, at) as u64) < end {
-            at = at + 1;
-        } else {
-            return false;
-        }
-    }
-    true
+    (row..until).all(|at| (cell(bytes, exits.from, 10, 6, at) as u64) < end)
 }
 
 // The exits from `row` on are those of the zones' perimeters, zone by zone, and lead to lanes; none is left.
@@ -210,19 +190,16 @@ fn are_zone_exits(bytes: &[u8], zones: Table, exits: Table, row: u32, end: u64) 
     ensures { result ≡ zone_exits (cell_at bytes.now exits.from 10 2) (cell_at bytes.now exits.from 10 6) exits.count end zones.count bytes.now zones.from row }
 {
     let mut at = zones.from as usize;
-    let mut left = zones.count;
     let mut next = row;
-    while left > 0 {
+    for _ in 0..zones.count {
         let first = four_at(bytes, at + 2);
         let size = four_at(bytes, at + 6) / 65536;
         let until = behind(bytes, exits, 10, 2, first, size, next);
-        if lead_to_lanes(bytes, exits, next, until, end) {
-            next = until;
-            at = at + 2 + (four_at(bytes, at) / 65536) as usize;
-            left = left - 1;
-        } else {
+        if !lead_to_lanes(bytes, exits, next, until, end) {
             return false;
         }
+        next = until;
+        at = at + 2 + (four_at(bytes, at) / 65536) as usize;
     }
     exits.count <= next
 }
@@ -231,18 +208,13 @@ fn are_zone_exits(bytes: &[u8], zones: Table, exits: Table, row: u32, end: u64) 
 fn are_marked(bytes: &[u8], checkpoints: Table, row: u32, first: u32, size: u32, spots: u32) -> bool
     ensures { result ≡ all_marked (cell_at bytes.now checkpoints.from 8 4) checkpoints.count (first + size) spots row }
 {
-    let mut at = row;
-    let mut left = spots;
-    let mut spot = first as u64 + size as u64;
-    while left > 0 {
+    let begin = first as u64 + size as u64;
+    for i in 0..spots {
+        let at = row + i;
         if checkpoints.count <= at {
             return false;
         }
-        if cell(bytes, checkpoints.from, 8, 4, at) as u64 == spot + 1 {
-            at = at + 1;
-            spot = spot + 2;
-            left = left - 1;
-        } else {
+        if cell(bytes, checkpoints.from, 8, 4, at) as u64 != begin + 2 * i as u64 + 1 {
             return false;
         }
     }
@@ -254,19 +226,16 @@ fn are_zone_checkpoints(bytes: &[u8], zones: Table, checkpoints: Table, row: u32
     ensures { result ≡ zone_checkpoints (cell_at bytes.now checkpoints.from 8 4) checkpoints.count zones.count bytes.now zones.from row }
 {
     let mut at = zones.from as usize;
-    let mut left = zones.count;
     let mut next = row;
-    while left > 0 {
+    for _ in 0..zones.count {
         let first = four_at(bytes, at + 2);
         let size = four_at(bytes, at + 6) / 65536;
         let spots = four_at(bytes, at + 12) / 65536;
-        if are_marked(bytes, checkpoints, next, first, size, spots) {
-            next = next + spots;
-            at = at + 2 + (four_at(bytes, at) / 65536) as usize;
-            left = left - 1;
-        } else {
+        if !are_marked(bytes, checkpoints, next, first, size, spots) {
             return false;
         }
+        next = next + spots;
+        at = at + 2 + (four_at(bytes, at) / 65536) as usize;
     }
     checkpoints.count <= next
 }

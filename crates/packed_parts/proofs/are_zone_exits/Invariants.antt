@@ -1,10 +1,7 @@
 use mathlib.Core.Path.{◌≡◌}
-use Prim.Native.Nat.{◌+◌, ◌*◌, ◌≤◌}
+use Prim.Native.Nat.{◌+◌, ◌-◌, ◌*◌, ◌≤◌}
 use Rattle.packed_parts.specs.Parts.{cell_at, zone_exits}
 use Rattle.packed_parts.proofs.are_zone_exits.Given as goal
 
-abbrev pub invariant-loop-left : goal.invariant-loop-left
-invariant-loop-left l = (zone_exits (cell_at l.bytes l.exits.from 10 2) (cell_at l.bytes l.exits.from 10 6) l.exits.count l.end l.left l.bytes l.at l.next ≡ zone_exits (cell_at l.bytes l.exits.from 10 2) (cell_at l.bytes l.exits.from 10 6) l.exits.count l.end l.initial.left l.bytes l.initial.at l.row) × (l.at + 65537 * l.left ≤ 281483566579710)
-
-abbrev pub decreases-loop-left : goal.decreases-loop-left
-decreases-loop-left l = l.left
+abbrev pub invariant-loop : goal.invariant-loop
+invariant-loop l = (zone_exits (cell_at l.bytes l.exits.from 10 2) (cell_at l.bytes l.exits.from 10 6) l.exits.count l.fn.end (l.fn.zones.count - l.counter) l.bytes l.at l.next ≡ zone_exits (cell_at l.bytes l.exits.from 10 2) (cell_at l.bytes l.exits.from 10 6) l.exits.count l.fn.end l.fn.zones.count l.bytes l.fn.zones.from l.row) × (l.at ≤ l.fn.zones.from + 65537 * l.counter)

@@ -5,6 +5,3 @@ use Rattle.packed_parts.proofs.behind.Given as goal
 
 abbrev pub invariant-loop-at : goal.invariant-loop-at
 invariant-loop-at l = next_row (cell_at l.bytes l.rows.from l.step l.offset) l.first l.size (l.rows.count - l.at) l.at ≡ next_row (cell_at l.bytes l.rows.from l.step l.offset) l.first l.size (l.rows.count - l.row) l.row
-
-abbrev pub decreases-loop-at : goal.decreases-loop-at
-decreases-loop-at l = l.rows.count - l.at
