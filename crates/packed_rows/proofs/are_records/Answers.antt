@@ -2,12 +2,9 @@
 use native.Mathlib.Omega.{arith}
 use Prim.Native.Nat.{ℕ}
 use Rattle.std.proofs.lemmas.Grind.{common_steps}
-use Rattle.std.proofs.lemmas.List.{drop_all, take_all}
+use Rattle.std.proofs.lemmas.List.{take_all}
 use Rattle.packed_rows.proofs.Laws.{past_end, next_record, ended}
 use Rattle.packed_rows.proofs.are_records.Goals as goal
-
-pub loop-left-init : goal.loop-left-init
-loop-left-init c = grind (arith, common_steps, drop_all, take_all {A = ℕ})
 
 pub returns-in_default-get : goal.returns-in_default-get
 returns-in_default-get c = grind (arith, common_steps, past_end)
