@@ -24,12 +24,9 @@ fn digits_worth(s: &[u8]) -> Number
     ensures { result ≡ number_of s.now }
 {
     let mut v: u32 = 0;
-    let mut i: usize = 0;
-    while i < s.len() {
-        let b = s[i];
+    for &b in s {
         if is_digit(b) {
             v = v * 10 + ((b - b'0') as u32);
-            i += 1;
         } else {
             return Number::No;
         }

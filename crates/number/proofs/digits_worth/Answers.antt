@@ -5,7 +5,6 @@ use mathlib.Core.List.{[]}
 use mathlib.Core.Bool.{true, false}
 use Prim.Native.Nat.{ℕ, ◌≤◌, ◌-◌}
 use native.Mathlib.Omega.{arith}
-use borrow.Author.Rules.{rules}
 use lib.ListN.{length, drop, get_or}
 use lib.Seq.{drop-length}
 use Rattle.scan.specs.Allowed.{digit, all}
@@ -16,7 +15,7 @@ use Rattle.number.proofs.digits_worth.Goals.{Then-is_digit}
 
 -- the byte read in a turn
 abbrev byte : Then-is_digit → ℕ
-byte c = get_or c.args.s.now c.loop-i.i 0
+byte c = get_or c.args.s.now c.loop-b.b-index 0
 
 is_digit : (c : Then-is_digit) → digit (byte c) ≡ true
 is_digit c = sym c.is_digit.ensures ∙ c.if-is_digit.true
@@ -26,45 +25,38 @@ in-range c = digit-range (byte c) (is_digit c)
 
 pub overflow_mul-v : goal.overflow_mul-v
 overflow_mul-v c =
-    let l = c.loop-i in
-    omega (arith, pow-fits l.v l.i 8 l.invariant.1 (omega arith))
-
-pub overflow_sub-v : goal.overflow_sub-v
-overflow_sub-v c = (in-range (goal.at.overflow_sub-v c).Then-is_digit).0
-
-pub overflow_cast-v : goal.overflow_cast-v
-overflow_cast-v c = search (rules, in-range (goal.at.overflow_cast-v c).Then-is_digit)
+    let l = c.loop-b in
+    omega (arith, pow-fits l.v l.b-index 8 l.invariant.0 (omega arith))
 
 pub overflow_add-v : goal.overflow_add-v
 overflow_add-v c =
-    let l = c.loop-i in
-    omega (arith, pow-fits l.v l.i 8 l.invariant.1 (omega arith), in-range (goal.at.overflow_add-v c).Then-is_digit)
+    let l = c.loop-b in
+    omega (arith, pow-fits l.v l.b-index 8 l.invariant.0 (omega arith), in-range (goal.at.overflow_add-v c).Then-is_digit)
 
-pub loop-i-preserved : goal.loop-i-preserved
-loop-i-preserved c =
+pub loop-b-preserved : goal.loop-b-preserved
+loop-b-preserved c =
     let s = c.args.s.now in
-    let i = c.loop-i.i in
-    let v = c.loop-i.v in
-    let d = is_digit (goal.at.loop-i-preserved c).Then-is_digit in
-    let b = in-range (goal.at.loop-i-preserved c).Then-is_digit in (
-      omega arith,
-      pow_more v (get_or s i 0 - 48) i c.loop-i.invariant.1 (omega arith),
-      worth-go s i (omega arith) v ∙ c.loop-i.invariant.2,
-      digits-go s i (omega arith) d ∙ c.loop-i.invariant.3,
+    let i = c.loop-b.b-index in
+    let v = c.loop-b.v in
+    let d = is_digit (goal.at.loop-b-preserved c).Then-is_digit in
+    let b = in-range (goal.at.loop-b-preserved c).Then-is_digit in (
+      pow_more v (get_or s i 0 - 48) i c.loop-b.invariant.0 (omega arith),
+      worth-go s i (omega arith) v ∙ c.loop-b.invariant.1,
+      digits-go s i (omega arith) d ∙ c.loop-b.invariant.2,
     )
 
 pub returns-else-is_digit : goal.returns-else-is_digit
 unfolding number_of
 returns-else-is_digit c =
     let s = c.args.s.now in
-    let i = c.loop-i.i in
+    let i = c.loop-b.b-index in
     let d : digit (get_or s i 0) ≡ false = sym c.is_digit.ensures ∙ c.if-is_digit.false in
-    rw (sym c.loop-i.invariant.3, digits-no s i (omega arith) d)
+    rw (sym c.loop-b.invariant.2, digits-no s i (omega arith) d)
 
 pub returns : goal.returns
 unfolding number_of worth all
 returns c =
     let s = c.args.s.now in
-    let e : c.loop-i.i ≡ length s = omega arith in
-    let d : drop c.loop-i.i s ≡ [] = ap (λ (k : ℕ). drop k s) e ∙ drop-length s in
-    rw (sym c.loop-i.invariant.3, sym c.loop-i.invariant.2, d)
+    let e : c.loop-b.b-index ≡ length s = omega arith in
+    let d : drop c.loop-b.b-index s ≡ [] = ap (λ (k : ℕ). drop k s) e ∙ drop-length s in
+    rw (sym c.loop-b.invariant.2, sym c.loop-b.invariant.1, d)
