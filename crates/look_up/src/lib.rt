@@ -52,16 +52,13 @@ fn eight_others(checkpoints: &[u32], row: usize, wanted: u32) -> bool
 fn passed(checkpoints: &[u32], wanted: u32) -> usize
     ensures { (result ≤ rows_of (length checkpoints.now) checkpoint_stride) × NoneBefore checkpoints.now result wanted }
 {
-    let rows = rows_of(checkpoints.len(), CHECKPOINT_STRIDE);
-    let mut row: usize = 0;
-    while 8 <= rows - row {
-        if eight_others(checkpoints, row, wanted) {
-            row += 8;
-        } else {
-            return row;
+    let eights = rows_of(checkpoints.len(), CHECKPOINT_STRIDE) / 8;
+    for eight in 0..eights {
+        if !eight_others(checkpoints, 8 * eight, wanted) {
+            return 8 * eight;
         }
     }
-    row
+    8 * eights
 }
 
 // The number as a plain word, as it stands in a table: also one that is too large for a checkpoint number.

@@ -49,6 +49,7 @@ pub fn first_row_from(table: &[u32], stride: usize, count: u32, least: usize) ->
 {
     let mut low: usize = 0;
     let mut left = rows_there(table, stride, count);
+    // Kept as it is: the new form is no plainer: it halves, so that no range says its turns, and `partition_point` wants a slice with one element for each row, while a row here is `stride` words of a flat one.
     while 0 < left {
         let half = left / 2;
         let middle = low + half;
@@ -149,8 +150,7 @@ fn leads(exits: &[u32], count: u32, part: Part, a: u32, b: u32) -> bool
 {
     let rows = rows_there(exits, EXIT_STRIDE, count);
     let behind = part.behind;
-    let mut row = first_row_from(exits, EXIT_STRIDE, count, part.first);
-    while row < rows {
+    for row in first_row_from(exits, EXIT_STRIDE, count, part.first)..rows {
         let source = first_word(exits, EXIT_STRIDE, row);
         if behind <= source as usize {
             return false;
@@ -158,7 +158,6 @@ fn leads(exits: &[u32], count: u32, part: Part, a: u32, b: u32) -> bool
         if goes(exits, row, source, a, b) {
             return true;
         }
-        row += 1;
     }
     false
 }

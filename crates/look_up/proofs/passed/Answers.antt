@@ -1,37 +1,23 @@
 -- `look_up::passed` meets its contract: no row that was passed has the number. Assumes nothing.
-use mathlib.Core.Path.{sym, ◌∙◌}
-use Prim.Native.Nat.{◌+◌, ◌≤◌, zero-le}
+use mathlib.Core.Path.{◌≡◌, sym, ◌∙◌, subst}
+use Prim.Native.Nat.{ℕ, ◌+◌, ◌*◌}
 use native.Mathlib.Omega.{arith}
-use lib.ListN.{length}
-use Rattle.rows.specs.Lay.{rows_of}
-use Rattle.rows.specs.Strides.{checkpoint_stride}
+use Rattle.look_up.specs.LookUp.{NoneBefore}
 use Rattle.look_up.proofs.Others.{rows-passed}
 use Rattle.look_up.proofs.passed.Goals as goal
 
-pub loop-row-init : goal.loop-row-init
-loop-row-init c = (c.rows_of-rows.ensures, zero-le, λ j point l row. omega arith)
+pub loop-eight-init : goal.loop-eight-init
+loop-eight-init c = λ j point l row. omega arith
 
-pub overflow_sub-rows : goal.overflow_sub-rows
-overflow_sub-rows c = omega (arith, c.loop-row.invariant.1)
-
-pub eight_others-requires : goal.eight_others-requires
-eight_others-requires c = omega (arith, c.loop-row.invariant.0, c.loop-row.invariant.1)
-
-pub overflow_add-row : goal.overflow_add-row
-overflow_add-row c = omega (arith, c.loop-row.invariant.1)
-
-pub loop-row-smaller : goal.loop-row-smaller
-loop-row-smaller c = omega (arith, c.loop-row.invariant.1)
-
-pub loop-row-preserved : goal.loop-row-preserved
-loop-row-preserved c =
+pub loop-eight-preserved : goal.loop-eight-preserved
+loop-eight-preserved c =
     let a = c.args in
-    let n = c.loop-row.invariant.0 in
-    let h : c.loop-row.row + 8 ≤ rows_of (length a.checkpoints.now) checkpoint_stride = omega (arith, c.loop-row.invariant.1) in
-    (n, omega arith, rows-passed a.checkpoints.now a.wanted 8 c.loop-row.row h (sym c.eight_others.ensures ∙ c.if-eight_others.true) c.loop-row.invariant.2)
+    let next : 8 * c.loop-eight.eight + 8 ≡ 8 * (c.loop-eight.eight + 1) = omega arith in
+    subst (λ (row : ℕ). NoneBefore a.checkpoints.now row a.wanted) next
+    (rows-passed a.checkpoints.now a.wanted 8 (8 * c.loop-eight.eight) (omega (arith, c.rows_of-eights.ensures, c.loop-eight-test.true)) (sym c.eight_others.ensures ∙ c.if-not-eight_others.false) c.loop-eight.invariant)
 
-pub returns-else-eight_others : goal.returns-else-eight_others
-returns-else-eight_others c = (omega (arith, c.loop-row.invariant.0, c.loop-row.invariant.1), c.loop-row.invariant.2)
+pub returns-then-not-eight_others : goal.returns-then-not-eight_others
+returns-then-not-eight_others c = (omega (arith, c.rows_of-eights.ensures), c.loop-eight.invariant)
 
 pub returns : goal.returns
-returns c = (omega (arith, c.loop-row.invariant.0, c.loop-row.invariant.1), c.loop-row.invariant.2)
+returns c = (omega (arith, c.rows_of-eights.ensures), λ j point l. c.loop-eight.invariant j point (omega (arith, c.loop-eight-test.false)))
