@@ -51,15 +51,13 @@ fn digits_from(s: &[u8], from: usize, first: u32) -> IntegerAt
     ensures { IntegerStands s.now from result }
 {
     let mut v = first;
-    let mut i = from + 1;
-    while i < s.len() {
+    for i in from + 1..s.len() {
         let d = s[i];
         if is_digit(d) {
             if 9999 < v {
                 return IntegerAt::No;
             }
             v = v * 10 + ((d - b'0') as u32);
-            i += 1;
         } else {
             return IntegerAt::Is(v, i);
         }
@@ -157,12 +155,10 @@ fn six_at(s: &[u8], from: usize) -> u32
         return NO_SIX;
     }
     let mut v: u32 = 0;
-    let mut k: usize = 0;
-    while k < 6 {
+    for k in 0..6 {
         let b = s[from + k];
         if is_digit(b) {
             v = v * 10 + ((b - b'0') as u32);
-            k += 1;
         } else {
             return NO_SIX;
         }
@@ -354,13 +350,10 @@ fn is_name_byte(b: u8) -> bool
 pub fn name_end(s: &[u8], from: usize) -> usize
     ensures { NameEnds s.now from result }
 {
-    let mut i = from;
-    while i < s.len() {
-        if is_name_byte(s[i]) {
-            i += 1;
-        } else {
+    for i in from..s.len() {
+        if !is_name_byte(s[i]) {
             return i;
         }
     }
-    i
+    from.max(s.len())
 }

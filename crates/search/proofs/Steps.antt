@@ -316,10 +316,9 @@ module _ (sp : List ℕ → ℕ → List ℕ) (tg : ℕ → List ℕ) (w : List 
   search-end zero h = refl
   search-end (suc left) h = absurd (omega arith)
 
-  pub search-on : (left : ℕ) (v : List ℕ) (r : ℕ) → 0 < left → (top ≡ 0 → ⊥) → marks v r ≡ popped sp tg (marks w top) → (searched sp tg (left - 1) (marks v r)).words ≡ (searched sp tg left (marks w top)).words
+  pub search-on : (i n : ℕ) (v : List ℕ) (r : ℕ) → i < n → (top ≡ 0 → ⊥) → marks v r ≡ popped sp tg (marks w top) → (searched sp tg (n - (i + 1)) (marks v r)).words ≡ (searched sp tg (n - i) (marks w top)).words
   unfolding searched
-  search-on zero v r h n e = absurd (omega arith)
-  search-on (suc left) v r h n e = let f : suc left - 1 ≡ left = omega arith in (λ i. (searched sp tg (f i) (e i)).words) ∙ rw (ne_eqb top 0 n)
+  search-on i n v r h t e = let f : n - i ≡ suc (n - (i + 1)) = omega arith in (λ j. (searched sp tg (n - (i + 1)) (e j)).words) ∙ rw (f, ne_eqb top 0 t)
 
 -- ## What is taken off the stack leaves the words as many, and the top within them
 module _ (lanes zones exits : List ℕ) (c : Counts) (w : List ℕ) (top : ℕ) where

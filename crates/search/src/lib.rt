@@ -22,8 +22,7 @@ use rows::{EXIT_STRIDE, clear};
 fn run(work: &mut [u32], from: usize, behind: usize)
     ensures { work.new ≡ run work.old from (behind - from) }
 {
-    let mut i = from;
-    while i < behind {
+    for i in from..behind {
         if work.len() <= i {
             return;
         }
@@ -31,7 +30,6 @@ fn run(work: &mut [u32], from: usize, behind: usize)
             return;
         }
         work[i] = 1;
-        i += 1;
     }
 }
 
@@ -120,14 +118,12 @@ fn reach_entries(
     let rows = rows_there(exits, EXIT_STRIDE, c.exits);
     let behind = part.behind;
     let mut head = top;
-    let mut row = first_row_from(exits, EXIT_STRIDE, c.exits, part.first);
-    while row < rows {
+    for row in first_row_from(exits, EXIT_STRIDE, c.exits, part.first)..rows {
         let source = word(exits, row * EXIT_STRIDE) as usize;
         if behind <= source {
             return head;
         }
         head = reach_entry(lanes, zones, exits, c, row, source, least, last, work, head);
-        row += 1;
     }
     head
 }
@@ -244,13 +240,11 @@ fn search(lanes: &[u32], zones: &[u32], exits: &[u32], c: Counts, work: &mut [u3
     ensures { work.new ≡ search lanes.now zones.now exits.now c work.old from }
 {
     let mut top = begin(lanes, zones, exits, c, work, from);
-    let mut left = work.len();
-    while 0 < left {
+    for _ in 0..work.len() {
         if top == 0 {
             return;
         }
         top = onward(lanes, zones, exits, c, work, top);
-        left -= 1;
     }
 }
 

@@ -6,18 +6,9 @@ use Rattle.look_up.specs.LookUp.{NoneBefore}
 use Rattle.look_up.proofs.Others.{rows-passed}
 use Rattle.look_up.proofs.passed.Goals as goal
 
-pub loop-eight-init : goal.loop-eight-init
-loop-eight-init c = λ j point l row. omega arith
-
 pub loop-eight-preserved : goal.loop-eight-preserved
 loop-eight-preserved c =
     let a = c.args in
     let next : 8 * c.loop-eight.eight + 8 ≡ 8 * (c.loop-eight.eight + 1) = omega arith in
     subst (λ (row : ℕ). NoneBefore a.checkpoints.now row a.wanted) next
     (rows-passed a.checkpoints.now a.wanted 8 (8 * c.loop-eight.eight) (omega (arith, c.rows_of-eights.ensures, c.loop-eight-test.true)) (sym c.eight_others.ensures ∙ c.if-not-eight_others.false) c.loop-eight.invariant)
-
-pub returns-then-not-eight_others : goal.returns-then-not-eight_others
-returns-then-not-eight_others c = (omega (arith, c.rows_of-eights.ensures), c.loop-eight.invariant)
-
-pub returns : goal.returns
-returns c = (omega (arith, c.rows_of-eights.ensures), λ j point l. c.loop-eight.invariant j point (omega (arith, c.loop-eight-test.false)))

@@ -1,11 +1,8 @@
 use mathlib.Core.Path.{◌≡◌}
-use Prim.Native.Nat.{◌≤◌}
+use Prim.Native.Nat.{◌-◌, ◌≤◌}
 use lib.ListN.{length}
-use Rattle.search.specs.Search.{marks, spread, targets, searched}
+use Rattle.search.specs.Search.{marks, spread, targets, searched, search}
 use Rattle.search.proofs.search.Given as goal
 
-abbrev pub invariant-loop-left : goal.invariant-loop-left
-invariant-loop-left l = ((searched (spread l.lanes l.zones l.c) (targets l.lanes l.zones l.exits l.c) l.left (marks l.work l.top)).words ≡ (searched (spread l.lanes l.zones l.c) (targets l.lanes l.zones l.exits l.c) l.initial.left (marks l.initial.work l.initial.top)).words) × (length l.work ≡ length l.initial.work) × (l.top ≤ length l.work)
-
-abbrev pub decreases-loop-left : goal.decreases-loop-left
-decreases-loop-left l = l.left
+abbrev pub invariant-loop : goal.invariant-loop
+invariant-loop l = ((searched (spread l.lanes l.zones l.c) (targets l.lanes l.zones l.exits l.c) (l.end - l.counter) (marks l.work l.top)).words ≡ search l.lanes l.zones l.exits l.c l.fn.work l.from) × (l.top ≤ length l.work)
