@@ -22,10 +22,8 @@ use search::{leads_to, search_from, word};
 fn stood(goals: &[u32], number: u32, many: usize) -> bool
     ensures { result ≡ stood goals.now number many }
 {
-    let mut left = many;
-    while 0 < left {
-        left -= 1;
-        if word(goals, left) == number {
+    for row in (0..many).rev() {
+        if word(goals, row) == number {
             return true;
         }
     }
@@ -56,14 +54,12 @@ fn first_unmarked(
     requires { 0 < row }
     ensures { result ≡ first-of (unmarked goals.now (goal_point_of checkpoints.now goals.now) work.now number) row (bad - row) }
 {
-    let mut leg = row;
-    while leg < bad {
+    for leg in row..bad {
         if unmarked(checkpoints, goals, work, number, leg) {
             return leg;
         }
-        leg += 1;
     }
-    leg
+    row.max(bad)
 }
 
 // A search from the goal before this row, where its number did not stand before: of the legs from that number the first without chain, where it is before `bad`, else `bad`.
@@ -109,6 +105,7 @@ fn later_stuck(
 {
     let mut bad = count as usize;
     let mut row: usize = 1;
+    // Kept as it is: the new form is no plainer: the loop ends at `bad`, which falls while it runs, so that a `for` up to `count` would need a second test and a `break`.
     while row < bad {
         bad = stuck_from(lanes, zones, exits, checkpoints, goals, c, row, bad, work);
         row += 1;

@@ -2,8 +2,5 @@ use mathlib.Core.Path.{◌≡◌}
 use Rattle.legs.specs.Legs.{stood}
 use Rattle.legs.proofs.stood.Given as goal
 
-abbrev pub invariant-loop-left : goal.invariant-loop-left
-invariant-loop-left l = stood l.goals l.number l.left ≡ stood l.goals l.number l.initial.left
-
-abbrev pub decreases-loop-left : goal.decreases-loop-left
-decreases-loop-left l = l.left
+abbrev pub invariant-loop-row : goal.invariant-loop-row
+invariant-loop-row l = stood l.goals l.number l.row ≡ stood l.goals l.number l.many
