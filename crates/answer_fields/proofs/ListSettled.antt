@@ -1,11 +1,11 @@
 -- THE THEOREM of document 01's "Prove that no second reply or memory would satisfy it", for the library's look-up of a list (L4): the contract settles the answer and every number of the
 -- lent list, for every table and every list; one there is; and an answer tells the whole reply. Assumes nothing.
+use Rattle.std.specs.Prelude.{Ok, Err}
+use Rattle.look_up.specs.Types.{ListReply}
 use mathlib.Core.Path.{◌≡◌, refl, sym, ap, ◌∙◌}
 use mathlib.Core.List.{List}
 use Prim.Native.Nat.{ℕ}
 use native.Mathlib.Omega.{arith}
-use Rattle.look_up.specs.declared.ListReply.{ListReply}
-use Rattle.look_up.specs.declared.ListReply.TheVariants as Listed
 use Rattle.look_up.proofs.ListSettled.{settled, some-answer}
 use Rattle.answer_fields.specs.declared.ListAnswer.{ListAnswer}
 use Rattle.answer_fields.specs.Answers.{list_answer_of, AnswersList}
@@ -24,7 +24,7 @@ list-answer-some t numbers lent =
 
 -- one reply for one answer
 pub list-told-whole : (x y : ListReply) → list_answer_of x ≡ list_answer_of y → x ≡ y
-list-told-whole Listed.Answered Listed.Answered e = refl
-list-told-whole Listed.Answered (Listed.Refused y) e = absurd (let z : ◌≡◌ {A = ℕ} 1 0 = ap (λ (a : ListAnswer). a.accepted) e in omega arith)
-list-told-whole (Listed.Refused x) Listed.Answered e = absurd (let z : ◌≡◌ {A = ℕ} 0 1 = ap (λ (a : ListAnswer). a.accepted) e in omega arith)
-list-told-whole (Listed.Refused x) (Listed.Refused y) e = ap (λ (a : ListAnswer). Listed.Refused (record { file = a.file; line = a.line; number = a.number; column = a.column })) e
+list-told-whole (Ok _) (Ok _) e = refl
+list-told-whole (Ok _) (Err y) e = absurd (let z : ◌≡◌ {A = ℕ} 1 0 = ap (λ (a : ListAnswer). a.accepted) e in omega arith)
+list-told-whole (Err x) (Ok _) e = absurd (let z : ◌≡◌ {A = ℕ} 0 1 = ap (λ (a : ListAnswer). a.accepted) e in omega arith)
+list-told-whole (Err x) (Err y) e = ap (λ (a : ListAnswer). Err (record { file = a.file; line = a.line; number = a.number; column = a.column })) e

@@ -1,6 +1,8 @@
 -- THE THEOREM of L13 over the library's answers: "L5 has a good route exactly when this, given the room, accepts" (`library-agrees`): kastepuhm_check_route accepts some route exactly if kastepuhm_check_mission, with a row of work space
 -- for each point, accepts; in each edition, for all texts, tables and starts, whatever is answered by the contracts. The route is a list of numbers of any length; that those of a good route are rows of the point table, so fit into
 -- 32 bits, is not said here. Assumes nothing.
+use Rattle.std.specs.Prelude.{Ok, Err}
+use Rattle.replies.specs.Types.{PairReply}
 use mathlib.Core.Path.{◌≡◌, refl, sym, ap, ◌∙◌}
 use mathlib.Core.Logic.{◌↔◌}
 use mathlib.Core.List.{List}
@@ -10,8 +12,6 @@ use Rattle.terms.specs.Ascii.{Bytes}
 use Rattle.law.specs.Tables.{Lent, MissionLent}
 use Rattle.edition.specs.declared.Edition.{Edition}
 use Rattle.edition.specs.Editions.{inner, rules_of}
-use Rattle.replies.specs.declared.PairReply.{PairReply}
-use Rattle.replies.specs.declared.PairReply.TheVariants as Pair
 use Rattle.reach_checks.specs.Agree.{IsAcceptance, RowForEachPoint}
 use Rattle.reach_checks.proofs.Agreed.{agreed}
 use Rattle.answer_fields.specs.declared.Answer.{Answer}
@@ -19,12 +19,12 @@ use Rattle.answer_fields.specs.Answers.{pair_answer_of, AnswersRoute, AnswersMis
 
 -- ## The field of the answer
 accepts : (r : PairReply) → (pair_answer_of r).accepted ≡ 1 → IsAcceptance r
-accepts (Pair.Accepted c file d own) h = tt
-accepts (Pair.Refused why) h = let z : ◌≡◌ {A = ℕ} 0 1 = h in omega arith
+accepts (Ok (c, file, d, own)) h = tt
+accepts (Err why) h = let z : ◌≡◌ {A = ℕ} 0 1 = h in omega arith
 
 told : (r : PairReply) → IsAcceptance r → (pair_answer_of r).accepted ≡ 1
-told (Pair.Accepted c file d own) h = refl
-told (Pair.Refused why) h = absurd h
+told (Ok (c, file, d, own)) h = refl
+told (Err why) h = absurd h
 
 module _ (e : Edition) (start : ℕ) (rndf mdf : Bytes) (t : Lent) (u : MissionLent) where
   pub record SomeAccepted : Type 0 where

@@ -1,5 +1,9 @@
 -- WHAT A READER MUST BELIEVE. What the library for C and Rust answers, field by field, and what the lent tables and the lent output then hold. Assumes nothing.
-use Rattle.std.specs.Prelude.{◌≡◌}
+use Rattle.writings.specs.Types.{WriteMdfReply, WriteReply}
+use Rattle.replies.specs.Types.{PairReply, RndfReply}
+use Rattle.mend_law.specs.Types.{MendReply}
+use Rattle.look_up.specs.Types.{ListReply}
+use Rattle.std.specs.Prelude.{◌≡◌, Ok, Err}
 use Rattle.terms.specs.Words.{List, none, ℕ, Bytes}
 use Rattle.line.specs.Line.{Field}
 use Rattle.law.specs.Network.{Network}
@@ -12,26 +16,14 @@ use Rattle.rows.specs.declared.MissionFileRow.{MissionFileRow}
 use Rattle.counts.specs.declared.Counts.{Counts}
 use Rattle.counts.specs.declared.MissionCounts.{MissionCounts}
 use Rattle.refusal.specs.declared.Refusal.{Refusal}
-use Rattle.replies.specs.declared.RndfReply.{RndfReply}
-use Rattle.replies.specs.declared.RndfReply.TheVariants as Rndf
-use Rattle.replies.specs.declared.PairReply.{PairReply}
-use Rattle.replies.specs.declared.PairReply.TheVariants as Pair
 use Rattle.replies.specs.Replies.{refusal, stretch, ReadsRndf, ReadsPair}
-use Rattle.writings.specs.declared.WriteReply.{WriteReply}
-use Rattle.writings.specs.declared.WriteReply.TheVariants as Write
-use Rattle.writings.specs.declared.WriteMdfReply.{WriteMdfReply}
-use Rattle.writings.specs.declared.WriteMdfReply.TheVariants as WriteMdf
 use Rattle.writings.specs.Writes.{Writes, WritesMdf}
 use Rattle.unpackings.specs.Unpacks.{Unpacks}
-use Rattle.mend_law.specs.declared.MendReply.{MendReply}
-use Rattle.mend_law.specs.declared.MendReply.TheVariants as Mend
 use Rattle.mend_law.specs.Mends.{Mends}
 use Rattle.pair_checks.specs.Checks.{ChecksRoute}
 use Rattle.reach_checks.specs.Checks.{ChecksMission}
 use Rattle.answer_fields.specs.declared.Name.{Name}
 use Rattle.answer_fields.specs.declared.Answer.{Answer}
-use Rattle.look_up.specs.declared.ListReply.{ListReply}
-use Rattle.look_up.specs.declared.ListReply.TheVariants as Listed
 use Rattle.look_up.specs.Listed.{PointsOf}
 use Rattle.answer_fields.specs.declared.WriteAnswer.{WriteAnswer}
 use Rattle.answer_fields.specs.declared.ListAnswer.{ListAnswer}
@@ -89,21 +81,21 @@ abbrev pub refused : Refusal → Answer
 refused x = laid_out 0 x no_counts no_mission_counts no_file_of no_mission_file
 
 abbrev pub rndf_answer_of : RndfReply → Answer
-rndf_answer_of (Rndf.Accepted c f) = taken c f no_mission_counts no_mission_file
-rndf_answer_of (Rndf.Refused x) = refused x
+rndf_answer_of (Ok (c, f)) = taken c f no_mission_counts no_mission_file
+rndf_answer_of (Err x) = refused x
 
 abbrev pub pair_answer_of : PairReply → Answer
-pair_answer_of (Pair.Accepted c f m g) = taken c f m g
-pair_answer_of (Pair.Refused x) = refused x
+pair_answer_of (Ok (c, f, m, g)) = taken c f m g
+pair_answer_of (Err x) = refused x
 
 -- a writer's: the same, and then the bytes written, 0 of a refusal
 abbrev pub write_answer_of : WriteReply → WriteAnswer
-write_answer_of (Write.Written c f n) = record { answer = taken c f no_mission_counts no_mission_file; length = n }
-write_answer_of (Write.Refused x) = record { answer = refused x; length = 0 }
+write_answer_of (Ok (c, f, n)) = record { answer = taken c f no_mission_counts no_mission_file; length = n }
+write_answer_of (Err x) = record { answer = refused x; length = 0 }
 
 abbrev pub write_mdf_answer_of : WriteMdfReply → WriteAnswer
-write_mdf_answer_of (WriteMdf.Written c f m g n) = record { answer = taken c f m g; length = n }
-write_mdf_answer_of (WriteMdf.Refused x) = record { answer = refused x; length = 0 }
+write_mdf_answer_of (Ok (c, f, m, g, n)) = record { answer = taken c f m g; length = n }
+write_mdf_answer_of (Err x) = record { answer = refused x; length = 0 }
 
 -- ## What is answered are the fields of a reply; that reply, and what is left in all that was lent, are as the part of the library that is asked promises
 pub record Answers {Reply Fields : Type 0} (fields : Reply → Fields) (Promised : Reply → Type 0) (given : Fields) : Type 0 where
@@ -141,16 +133,16 @@ AnswersUnpack bytes t given left = Answers rndf_answer_of (λ reply. Unpacks byt
 
 -- ## The look-up of a list of checkpoint numbers. Request L4. t: the table; numbers: the list; lent: the length of the lent list of points; left: what it then holds
 abbrev pub list_answer_of : ListReply → ListAnswer
-list_answer_of Listed.Answered = record { accepted = 1; file = 0; line = 0; number = 0; column = 0 }
-list_answer_of (Listed.Refused x) = record { accepted = 0; file = x.file; line = x.line; number = x.number; column = x.column }
+list_answer_of (Ok _) = record { accepted = 1; file = 0; line = 0; number = 0; column = 0 }
+list_answer_of (Err x) = record { accepted = 0; file = x.file; line = x.line; number = x.number; column = x.column }
 
 abbrev pub AnswersList : (t numbers : List ℕ) → (lent : ℕ) → ListAnswer → (left : List ℕ) → Type 0
 AnswersList t numbers lent given left = Answers list_answer_of (λ reply. PointsOf t numbers lent reply left) given
 
 -- ## Mending. Request L9. list: the list as it was lent, two words to a row; lent: the length of the lent output; left and out: what both then hold
 abbrev pub mend_answer_of : MendReply → MendAnswer
-mend_answer_of (Mend.Mended rows n) = record { accepted = 1; file = 0; line = 0; number = 0; column = 0; rows = rows; length = n }
-mend_answer_of (Mend.Refused x) = record { accepted = 0; file = x.file; line = x.line; number = x.number; column = x.column; rows = 0; length = 0 }
+mend_answer_of (Ok (rows, n)) = record { accepted = 1; file = 0; line = 0; number = 0; column = 0; rows = rows; length = n }
+mend_answer_of (Err x) = record { accepted = 0; file = x.file; line = x.line; number = x.number; column = x.column; rows = 0; length = 0 }
 
 abbrev pub AnswersMend : Edition → (text : Bytes) → (list : List ℕ) → (lent : ℕ) → MendAnswer → (left : List ℕ) → (out : Bytes) → Type 0
 AnswersMend edition text list lent given left out = Answers mend_answer_of (λ reply. Mends (rules_of edition) text list lent reply left out) given

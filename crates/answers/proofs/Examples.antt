@@ -1,4 +1,5 @@
 -- Sentences as they come out, letter by letter. Assumes nothing.
+use Rattle.std.specs.Prelude.{Err}
 use mathlib.Core.Path.{◌≡◌, refl}
 use mathlib.Core.List.{[], ◌∷◌}
 use Rattle.terms.specs.Ascii.{ascii}
@@ -8,7 +9,6 @@ use Rattle.scan.specs.Reach.{same_bytes_of}
 use Rattle.line.specs.Lines.{lines_of, drop_cr}
 use Rattle.rows.specs.Lay.{row_at}
 use Rattle.replies.specs.Replies.{refusal}
-use Rattle.replies.specs.declared.RndfReply.TheVariants as Rndf
 use Rattle.shown.specs.Shown.{shown_byte, shown, blank, blanks, picture, line_in, byte_from_42, byte_alone, byte_words}
 use Rattle.reasons.specs.Reasons.{reason, reasons, reason_of}
 use Rattle.answers.specs.Answers.{place, detail, why_of, sentence, unplaced, counted, next, rndf_answer_of, goal_number_of, way_from, no_way, no_start}
@@ -50,6 +50,6 @@ unfolding ascii no_way way_from goal_number_of row_at house_integer decimal spel
 later-goal = refl
 
 -- of packed bytes: no line is named, and no text is shown
-no_network : rndf_answer_of (ascii "yard.packed") [] [] (Rndf.Refused (refusal 0 0 29 0)) ≡ ascii "yard.packed: the records are not the packed form of a network (29)\n"
+no_network : rndf_answer_of (ascii "yard.packed") [] [] (Err (refusal 0 0 29 0)) ≡ ascii "yard.packed: the records are not the packed form of a network (29)\n"
 unfolding ascii rndf_answer_of sentence why_of detail place reason reasons decimal spell picture
 no_network = refl

@@ -1,5 +1,7 @@
 -- THE THEOREM of document 01's "Prove that no second reply or memory would satisfy it", for the sentences: the contract of each public function settles every byte of the lent output and the place that is returned,
 -- for every output, place, name and reply; and some output and place satisfy it. Assumes nothing.
+use Rattle.std.specs.Prelude.{Some, None, Option}
+use Rattle.replies.specs.Types.{PairReply, RndfReply}
 use mathlib.Core.Path.{◌≡◌, refl, sym, ap, ◌∙◌}
 use mathlib.Core.List.{List, ◌++◌}
 use Prim.Native.Nat.{ℕ, ◌<◌}
@@ -9,12 +11,8 @@ use Rattle.terms.specs.Ascii.{Bytes, ascii}
 use Rattle.output.specs.Output.{Fits}
 use Rattle.output.specs.Ended.{Output}
 use Rattle.output.specs.Pen.{Pen, pen, put, Wrote, output_of, answer_of}
-use Rattle.output.specs.declared.Finished as DF
-use Rattle.output.specs.declared.Finished.TheVariants.{Written, TooLong}
 use Rattle.output.proofs.Writing.{wrote_one}
 use Rattle.output.proofs.Whole.{output-is}
-use Rattle.replies.specs.declared.RndfReply.{RndfReply}
-use Rattle.replies.specs.declared.PairReply.{PairReply}
 use Rattle.shown.specs.Shown.{line_in}
 use Rattle.reasons.specs.Reasons.{reason, reason_of}
 use Rattle.answers.specs.Sentences.{place, why_of, WholeOrNone, whole, too_long}
@@ -82,9 +80,9 @@ module _ (said : Bytes) (lent : ℕ) where
   whole-or-none-one (too_long never t o) (whole f' t' o') = absurd (never f')
   whole-or-none-one (too_long never t o) (too_long never' t' o') = (t ∙ sym t', o ∙ sym o')
 
-  ended : (out : Bytes) (answer : DF.Finished) → Output lent said out answer → (told : ℕ) × (out : Bytes) × WholeOrNone said lent told out
-  ended out (Written n) o = (n, out, told-whole o)
-  ended out TooLong o = (0, out, told_none o)
+  ended : (out : Bytes) (answer : Option ℕ) → Output lent said out answer → (told : ℕ) × (out : Bytes) × WholeOrNone said lent told out
+  ended out (Some n) o = (n, out, told-whole o)
+  ended out None o = (0, out, told_none o)
 
   -- one there is
   pub whole-or-none-some : (told : ℕ) × (out : Bytes) × WholeOrNone said lent told out

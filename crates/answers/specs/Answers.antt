@@ -1,5 +1,6 @@
 -- WHAT A READER MUST BELIEVE. What a planner is told of a reply: one sentence, with the names of the files; of a refusal that of Sentences. Assumes nothing.
-use Rattle.std.specs.Prelude.{List, [], ◌++◌, ℕ, suc, ◌-◌, eqb, ltb, length}
+use Rattle.replies.specs.Types.{PairReply, RndfReply}
+use Rattle.std.specs.Prelude.{List, [], ◌++◌, ℕ, suc, ◌-◌, eqb, ltb, length, Ok, Err}
 use Rattle.terms.specs.Ascii.{Bytes, ascii}
 use Rattle.terms.specs.Words.{pick}
 use Rattle.scan.specs.Allowed.{separates}
@@ -12,10 +13,6 @@ use Rattle.grammar.specs.PlaceRows.{mission_kind_row}
 use Rattle.counts.specs.declared.Counts.{Counts}
 use Rattle.counts.specs.declared.MissionCounts.{MissionCounts}
 use Rattle.refusal.specs.declared.Refusal.{Refusal}
-use Rattle.replies.specs.declared.RndfReply.{RndfReply}
-use Rattle.replies.specs.declared.RndfReply.TheVariants as Rndf
-use Rattle.replies.specs.declared.PairReply.{PairReply}
-use Rattle.replies.specs.declared.PairReply.TheVariants as Pair
 use Rattle.shown.specs.Shown.{picture, line_in}
 use Rattle.reasons.specs.Reasons.{reason_of}
 unfoldable pub use Rattle.answers.specs.Sentences.{place, detail, why_of, sentence}
@@ -62,12 +59,12 @@ unfoldable pub rndf_accepted : (name trouble : Bytes) → Counts → Bytes
 rndf_accepted name trouble c = pick (ltb 0 (length trouble)) trouble (name ++ ascii ": accepted; " ++ network_counts c ++ ascii "\n")
 
 unfoldable pub rndf_answer_of : (name text trouble : Bytes) → RndfReply → Bytes
-rndf_answer_of name text trouble (Rndf.Accepted c file) = rndf_accepted name trouble c
-rndf_answer_of name text trouble (Rndf.Refused why) = sentence name text why.line why.number why.column
+rndf_answer_of name text trouble (Ok (c, file)) = rndf_accepted name trouble c
+rndf_answer_of name text trouble (Err why) = sentence name text why.line why.number why.column
 
 unfoldable pub pair_answer_of : (rndf mdf rndf-text mdf-text : Bytes) → PairReply → Bytes
-pair_answer_of rndf mdf rndf-text mdf-text (Pair.Accepted c file m mission_file_of) = rndf ++ ascii " with " ++ mdf ++ ascii ": accepted; " ++ network_counts c ++ mission_counts m ++ ascii "\n"
-pair_answer_of rndf mdf rndf-text mdf-text (Pair.Refused why) = refused rndf mdf rndf-text mdf-text why
+pair_answer_of rndf mdf rndf-text mdf-text (Ok (c, file, m, mission_file_of)) = rndf ++ ascii " with " ++ mdf ++ ascii ": accepted; " ++ network_counts c ++ mission_counts m ++ ascii "\n"
+pair_answer_of rndf mdf rndf-text mdf-text (Err why) = refused rndf mdf rndf-text mdf-text why
 
 -- ## Can the mission be driven? (L13)
 -- start: the point's identifier as it was given; goals: the table of goals as the reader fills it. 31 has "its row in place of the line"
@@ -108,5 +105,5 @@ not_driven rndf mdf rndf-text mdf-text start goals why =
     (pick (eqb why.number 30) (no_start rndf start) (refused rndf mdf rndf-text mdf-text why))
 
 unfoldable pub mission_answer : (rndf mdf rndf-text mdf-text start : Bytes) (goals : List ℕ) → PairReply → Bytes
-mission_answer rndf mdf rndf-text mdf-text start goals (Pair.Accepted c file m mission_file_of) = mdf ++ ascii ": can be driven from " ++ start ++ ascii "\n"
-mission_answer rndf mdf rndf-text mdf-text start goals (Pair.Refused why) = not_driven rndf mdf rndf-text mdf-text start goals why
+mission_answer rndf mdf rndf-text mdf-text start goals (Ok (c, file, m, mission_file_of)) = mdf ++ ascii ": can be driven from " ++ start ++ ascii "\n"
+mission_answer rndf mdf rndf-text mdf-text start goals (Err why) = not_driven rndf mdf rndf-text mdf-text start goals why

@@ -11,7 +11,7 @@ ghost use Rattle.answers.specs.Answers.{unplaced, refused, counted, next, networ
 
 use counts::{Counts, MissionCounts};
 use find_line::mdf_line;
-use output::{Finished, clear_output, finish, put_byte, put_bytes, put_integer};
+use output::{clear_output, finish, put_byte, put_bytes, put_integer};
 use read_rows::goal_at;
 use reasons::{put_reason, put_reason_of};
 use refusal::Refusal;
@@ -90,8 +90,8 @@ pub fn write_sentence(
     let at = put_sentence(out, 0, name, text, line, number, column);
     let finished = finish(out, at);
     match finished {
-        Finished::Written(n) => n as u32,
-        Finished::TooLong => 0,
+        Some(n) => n as u32,
+        None => 0,
     }
 }
 
@@ -197,10 +197,8 @@ pub fn put_rndf_answer(
     ensures { Wrote (pen out.old at) (rndf_answer_of name.now text.now trouble.now reply) (pen out.new result) }
 {
     match reply {
-        RndfReply::Accepted(c, _) => put_rndf_accepted(out, at, name, trouble, c),
-        RndfReply::Refused(why) => {
-            put_sentence(out, at, name, text, why.line, why.number, why.column)
-        }
+        Ok((c, _)) => put_rndf_accepted(out, at, name, trouble, c),
+        Err(why) => { put_sentence(out, at, name, text, why.line, why.number, why.column) }
     }
 }
 
@@ -236,8 +234,8 @@ pub fn put_pair_answer(
     ensures { Wrote (pen out.old at) (pair_answer_of rndf.now mdf.now rndf_text.now mdf_text.now reply) (pen out.new result) }
 {
     match reply {
-        PairReply::Accepted(c, _, m, _) => put_pair_accepted(out, at, rndf, mdf, c, m),
-        PairReply::Refused(why) => put_refused(out, at, rndf, mdf, rndf_text, mdf_text, why),
+        Ok((c, _, m, _)) => put_pair_accepted(out, at, rndf, mdf, c, m),
+        Err(why) => put_refused(out, at, rndf, mdf, rndf_text, mdf_text, why),
     }
 }
 
@@ -383,9 +381,7 @@ pub fn put_mission_answer(
     ensures { Wrote (pen out.old at) (mission_answer rndf.now mdf.now rndf_text.now mdf_text.now start.now goals.now reply) (pen out.new result) }
 {
     match reply {
-        PairReply::Accepted(_, _, _, _) => put_driven(out, at, mdf, start),
-        PairReply::Refused(why) => {
-            put_not_driven(out, at, rndf, mdf, rndf_text, mdf_text, start, goals, why)
-        }
+        Ok((_, _, _, _)) => put_driven(out, at, mdf, start),
+        Err(why) => { put_not_driven(out, at, rndf, mdf, rndf_text, mdf_text, start, goals, why) }
     }
 }

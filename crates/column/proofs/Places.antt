@@ -1,4 +1,5 @@
 -- The place behind the lines before the wanted one: the reading walk answers it, whatever it gathers, and the column is the wanted line's there. Assumes nothing.
+use Rattle.std.specs.Prelude.{Some, None, Option}
 use mathlib.Core.Path.{◌≡◌, refl, sym, ap, ◌∙◌}
 use mathlib.Core.List.{List, [], ◌∷◌}
 use mathlib.Core.Bool.{Bool, true, false}
@@ -35,8 +36,6 @@ use Rattle.columns.specs.Locating.{onward, line_columns}
 use Rattle.columns.specs.RndfColumns.{rndf_wrong, rndf_line_column, rndf_column_in}
 use Rattle.columns.proofs.Bounds.{column-small}
 use Rattle.column.specs.Before.{lines_before, lines_from, bytes_before, place_on, place_after_of, place_behind_of, place_before_of, column_behind}
-use Rattle.column.specs.declared.Standing as DS
-use Rattle.column.specs.declared.Standing.TheVariants as Standing
 use Rattle.column.proofs.Lines.{lines-before, lines-from}
 
 -- ## The reading walk
@@ -51,9 +50,9 @@ same_line : (l : Bytes) (start : ℕ) (p : Place) → line (judging_in march) l 
 same_line l start p = line-so march l start p ∙ all-had (line rndf_judging l start p)
 
 -- what is gathered is forgotten
-abbrev pub standing : WalkEnd → DS.Standing
-standing (stopped i n) = Standing.No
-standing (reached p m i) = Standing.At p
+abbrev pub standing : WalkEnd → Option Place
+standing (stopped i n) = None
+standing (reached p m i) = Some p
 
 after-so : (ls : List Bytes) (p : Place) (m : Memory) (start i : ℕ) → standing (reaching march p m start i ls) ≡ place_after_of p start ls
 unfolding reaching place_after_of
@@ -70,7 +69,7 @@ pub behind-so : (text : Bytes) (m : Memory) → standing (reached_in march text 
 unfolding reached_in place_behind_of
 behind-so text m = go (ltb most (length text))
   where
-    go : (b : Bool) → standing (pick b (stopped 0 1) (reaching march first_place m 0 1 (lines_of text))) ≡ pick b Standing.No (place_after_of first_place 0 (lines_of text))
+    go : (b : Bool) → standing (pick b (stopped 0 1) (reaching march first_place m 0 1 (lines_of text))) ≡ pick b None (place_after_of first_place 0 (lines_of text))
     go true = refl
     go false = after-so (lines_of text) first_place m 0 1
 
@@ -102,21 +101,21 @@ module _ (s : Bytes) (w n from : ℕ) (size : length s ≤ most) (starts : from 
       let short : length (take from s) ≤ most = omega (arith, length-take from s) in
       sym (not_too-long s 0 (line_columns rndf_judging rndf_wrong first_place 0 1 w n (lines_of s)) size
       ∙ columns-so (lines_of s) first_place 0 1 w n
-      ∙ rw (lines-before s w from starts, lines-from s w from starts) (ap (λ (x : DS.Standing). column_behind n x (lines_of (drop from s))) (sym (not_too-long (take from s) Standing.No (place_after_of first_place 0 (lines_of (take from s))) short))))
+      ∙ rw (lines-before s w from starts, lines-from s w from starts) (ap (λ (x : Option Place). column_behind n x (lines_of (drop from s))) (sym (not_too-long (take from s) None (place_after_of first_place 0 (lines_of (take from s))) short))))
 
   pub no_line : length s ≤ from → 0 ≡ rndf_column_in s w n
   unfolding column_behind
   no_line h = sym (go (place_behind_of (take from s))) ∙ column-there
     where
-      go : (x : DS.Standing) → column_behind n x (lines_of (drop from s)) ≡ 0
-      go Standing.No = refl
-      go (Standing.At p) = rw (lines_end s from h) refl
+      go : (x : Option Place) → column_behind n x (lines_of (drop from s)) ≡ 0
+      go None = refl
+      go (Some p) = rw (lines_end s from h) refl
 
 -- ## The place before a line
 -- `stop` cuts the text before it; where there is no such line, behind all of them
 pub before-so : (s : Bytes) (w from stop : ℕ) → length s ≤ most → from ≡ bytes_before 1 w (lines_of s) → (stop ≡ from) ⊎ ((length s ≤ from) × (stop ≡ length s)) → place_behind_of (take stop s) ≡ place_before_of s w
 unfolding place_before_of
-before-so s w from stop size starts h = ap place_behind_of (go h ∙ ap (λ (k : ℕ). take k s) starts) ∙ sym (not_too-long s Standing.No (place_behind_of (take (bytes_before 1 w (lines_of s)) s)) size)
+before-so s w from stop size starts h = ap place_behind_of (go h ∙ ap (λ (k : ℕ). take k s) starts) ∙ sym (not_too-long s None (place_behind_of (take (bytes_before 1 w (lines_of s)) s)) size)
   where
     go : (stop ≡ from) ⊎ ((length s ≤ from) × (stop ≡ length s)) → take stop s ≡ take from s
     go (inl e) = ap (λ (k : ℕ). take k s) e
@@ -128,19 +127,19 @@ unfolding place_before_of place_behind_of
 place-before s w size =
     let k = bytes_before 1 w (lines_of s) in
     let short : length (take k s) ≤ most = omega (arith, length-take k s) in
-    not_too-long s Standing.No _ size ∙ not_too-long (take k s) Standing.No _ short ∙ ap (place_after_of first_place 0) (sym (lines-before s w k refl))
+    not_too-long s None _ size ∙ not_too-long (take k s) None _ short ∙ ap (place_after_of first_place 0) (sym (lines-before s w k refl))
 
 -- the line from here on, at the place that was found
 pub line_there : (s : Bytes) (from e : ℕ) → from < length s → e ≡ reach (stops_by (Byte 10)) s from → (table : List (List ℕ)) → table ≡ rndf_table_of → (n : ℕ) (p : Place) (r : ℕ) → r ≡ rndf_line_column table (take (e - from) (drop from s)) p n
-    → (x : DS.Standing) → Standing.At p ≡ x → r ≡ column_behind n x (lines_of (drop from s))
+    → (x : Option Place) → Some p ≡ x → r ≡ column_behind n x (lines_of (drop from s))
 unfolding column_behind
 line_there s from e h q table right n p r a x b = a ∙ rw (← b, lines_at s from e h q, right) refl
 
 -- a column fits in 32 bits
-pub small : (s : Bytes) (from : ℕ) → from < length s → length s ≤ most → (n : ℕ) (x : DS.Standing) → column_behind n x (lines_of (drop from s)) < 4294967296
+pub small : (s : Bytes) (from : ℕ) → from < length s → length s ≤ most → (n : ℕ) (x : Option Place) → column_behind n x (lines_of (drop from s)) < 4294967296
 unfolding column_behind
-small s from h z n Standing.No = omega arith
-small s from h z n (Standing.At p) =
+small s from h z n None = omega arith
+small s from h z n (Some p) =
     let e = reach (stops_by (Byte 10)) s from in
     let l = take (e - from) (drop from s) in
     let k : e ≤ length s = reach_le (stops_by (Byte 10)) s from (omega arith) in

@@ -19,24 +19,17 @@ ghost use Rattle.refusal.specs.Size.{most};
 ghost use Rattle.column.specs.Before.{bytes_before, place_behind_of, place_before_of, column_behind};
 
 use column_parts::{bad_at, listed_at, start_of};
-use coordinate::{Degrees, coordinate_of};
+use coordinate::coordinate_of;
 use edition::Edition;
 use line::{Fields, fields_of, trimmed};
 use made_out::fields_needed;
-use network::{Walked, walk_lines};
-use number::{Triple, triple_of};
+use network::walk_lines;
+use number::{Id, triple_of};
 use place::Place;
-use place_table::{Verdict, rndf_table};
+use place_table::rndf_table;
 use refusal::LONGEST_TEXT;
 use scan::{far_byte_from, two_from};
-use statement::{Id, kinds};
-
-// A place of the grammar; none behind a line that is refused.
-#[derive(Clone, Copy)]
-pub enum Standing {
-    At(Place),
-    No,
-}
+use statement::kinds;
 
 // For 8 spellings alone count; for 9 the values that are permitted here.
 fn tried(number: u8, permitted: bool) -> bool
@@ -79,40 +72,30 @@ fn passes(p: Place, i: Id, latitude: i32) -> bool
 }
 
 // The field at fault, counted from 0, of a checkpoint's line: with a number that is always permitted behind the waypoint.
-fn checkpoint_wrong(p: Place, number: u8, i: Triple) -> u8
+fn checkpoint_wrong(p: Place, number: u8, i: Option<Id>) -> u8
     ensures { result ≡ checkpoint_wrong_of p number i }
 {
-    let Triple::Is(w) = i else {
+    let Some(id) = i else {
         return 1;
-    };
-    let id = Id {
-        x: w.x,
-        y: w.y,
-        z: w.z,
     };
     if tried(number, marks(p, id)) { 2 } else { 1 }
 }
 
 // Of an exit's line: with an entry that is always permitted.
-fn exit_wrong(p: Place, number: u8, i: Triple) -> u8
+fn exit_wrong(p: Place, number: u8, i: Option<Id>) -> u8
     ensures { result ≡ exit_wrong_of p number i }
 {
-    let Triple::Is(w) = i else {
+    let Some(id) = i else {
         return 1;
-    };
-    let id = Id {
-        x: w.x,
-        y: w.y,
-        z: w.z,
     };
     if tried(number, leads(p, id)) { 2 } else { 1 }
 }
 
 // Of a point's line: its identifier, with 0.000000 behind it; its latitude; its longitude.
-fn latitude_wrong(p: Place, number: u8, id: Id, a: Degrees) -> u8
+fn latitude_wrong(p: Place, number: u8, id: Id, a: Option<i32>) -> u8
     ensures { result ≡ latitude_wrong_of p number id a }
 {
-    let Degrees::Is(latitude) = a else {
+    let Some(latitude) = a else {
         return 1;
     };
     if tried(number, passes(p, id, latitude)) {
@@ -122,16 +105,11 @@ fn latitude_wrong(p: Place, number: u8, id: Id, a: Degrees) -> u8
     }
 }
 
-fn point_wrong(p: Place, number: u8, i: Triple, a: Degrees) -> u8
+fn point_wrong(p: Place, number: u8, i: Option<Id>, a: Option<i32>) -> u8
     ensures { result ≡ point_wrong_of p number i a }
 {
-    let Triple::Is(w) = i else {
+    let Some(id) = i else {
         return 0;
-    };
-    let id = Id {
-        x: w.x,
-        y: w.y,
-        z: w.z,
     };
     if tried(number, passes(p, id, 0)) {
         latitude_wrong(p, number, id, a)
@@ -165,7 +143,7 @@ fn kind_field(table: &[[u8; 30]; 27], s: &[u8], f: Fields, p: Place, number: u8,
     ensures { result ≡ rndf_kind_field table.now s.now f p number kind }
 {
     let cell = p.cell(table, kind);
-    let Verdict::Taken = p.refuses(cell) else {
+    let Ok(()) = p.refuses(cell) else {
         return 0;
     };
     if f.count == fields_needed(kind) {
@@ -270,7 +248,7 @@ fn start_of_line(text: &[u8], wanted: u32) -> usize
 }
 
 // The place behind all lines of a text: the reading walk, with no room for a row. The table is `place_table::rndf_table()`.
-fn place_behind(table: &[[u8; 30]; 27], text: &[u8]) -> Standing
+fn place_behind(table: &[[u8; 30]; 27], text: &[u8]) -> Option<Place>
     requires { table.now ≡ rndf_table_of }
     ensures { result ≡ place_behind_of text.now }
 {
@@ -296,17 +274,17 @@ fn place_behind(table: &[[u8; 30]; 27], text: &[u8]) -> Standing
         &mut exits,
     );
     match walked {
-        Walked::Fault(_) => Standing::No,
-        Walked::Ended(place, _, _) => Standing::At(place),
+        Err(_) => None,
+        Ok((place, _, _)) => Some(place),
     }
 }
 
 // The place behind the lines before line `wanted`; behind all of them where there is no such line. None behind a line that is refused, or where the text is too long.
-pub fn place_before(text: &[u8], wanted: u32) -> Standing
+pub fn place_before(text: &[u8], wanted: u32) -> Option<Place>
     ensures { result ≡ place_before_of text.now wanted }
 {
     if LONGEST_TEXT < text.len() {
-        return Standing::No;
+        return None;
     }
     let from = start_of_line(text, wanted);
     let stop = if from < text.len() { from } else { text.len() };
@@ -320,7 +298,7 @@ fn column_at(text: &[u8], from: usize, number: u8) -> usize
     ensures { result ≡ column_behind number (place_behind_of (take from text.now)) (lines_of (drop from text.now)) }
 {
     let table = rndf_table();
-    let Standing::At(place) = place_behind(&table, &text[..from]) else {
+    let Some(place) = place_behind(&table, &text[..from]) else {
         return 0;
     };
     let e = far_byte_from(text, from, 10);

@@ -1,4 +1,5 @@
 -- What the ties ask of an MDF. Assumes nothing.
+use Rattle.std.specs.Prelude.{Some, None, Ok, Err}
 use mathlib.Core.Path.{◌≡◌, refl, sym, ap, ◌∙◌}
 use mathlib.Core.List.{List, [], ◌∷◌}
 use mathlib.Core.Option.{Option, none, some}
@@ -13,8 +14,6 @@ use Rattle.line.specs.Content.{Field}
 use Rattle.line.specs.Forms.{listed, part}
 use Rattle.line.specs.declared.Fields.{Fields}
 use Rattle.number.specs.Executable.{the_integer_of}
-use Rattle.number.specs.declared.Number as DN
-use Rattle.number.specs.declared.Number.TheVariants as Number
 use Rattle.grammar.specs.Language.{say}
 use Rattle.grammar.specs.MissionPlaces.{mdf}
 use Rattle.grammar.specs.PlaceRows.{mission_kind_row}
@@ -29,7 +28,6 @@ use Rattle.statement.specs.MissionMeaning.{meant}
 use Rattle.made_out.specs.Names.{the_the_stretch_of, behind}
 use Rattle.made_out.specs.MadeOrders.{order_shapes, order_needs}
 use Rattle.mission_place.specs.declared.MissionPlace.{MissionPlace}
-use Rattle.mission_place.specs.declared.MissionOutcome.TheVariants.{Next, Refused}
 use Rattle.mission_place.specs.Step.{permits_of, after_of, has_of, opted_of, due_of, option_of, cell_of, by_cell, refuses_by}
 use Rattle.mission_place.specs.Abstract.{seen, abs_of}
 use Rattle.mission_place.proofs.Theorems.{Sound}
@@ -40,6 +38,7 @@ use Rattle.law_columns.specs.Files.{mdf_low}
 use Rattle.columns.specs.Locating.{tried_of}
 use Rattle.columns.specs.MdfColumns.{minimum_wrong_of, limit_wrong_of, mdf_wrong}
 use Rattle.columns.proofs.Ties.{taken_mapped, pick-few, Locates}
+use Rattle.std.specs.Prelude as Rust
 
 -- where the kind may stand, the place takes what is permitted
 taken-by : (p : MissionPlace) (s : Order) (c : ℕ) → refuses_by p c ≡ 0 → taken? (seen (by_cell p s c)) ≡ permits_of s
@@ -47,7 +46,7 @@ unfolding by_cell refuses_by due_of option_of
 taken-by p s c h = go (ltb c 128) (ltb c 255) (has_of p (c - 128)) (permits_of s) (after_of p s c) (opted_of p (c - 128)) h
   where
     go : (due option given fine : Bool) (q r : MissionPlace) → ◌≡◌ {A = ℕ} (pick due 0 (pick option (pick given 6 0) 5)) 0
-        → taken? (seen (pick due (pick fine (Next q) (Refused 9)) (pick option (pick given (Refused 6) (pick fine (Next r) (Refused 9))) (Refused 5)))) ≡ fine
+        → taken? (seen (pick due (pick fine (Ok q) (Err 9)) (pick option (pick given (Err 6) (pick fine (Ok r) (Err 9))) (Err 5)))) ≡ fine
     go true option given true q r e = refl
     go true option given false q r e = refl
     go false true true fine q r e = absurd (omega (arith, e))
@@ -74,17 +73,17 @@ module _ (p : MissionPlace) (i : Sound p) (n : ℕ) where
   abbrev may : Kind → Type 0
   may k = refuses_by p (cell_of mdf_table_of p (mission_kind_row k)) ≡ 0
 
-  minimum-is : may limit → (id : ℕ) (t : DN.Number) → minimum_wrong_of n id t ≡ suc (on_read (number t) (λ m. pick (tried limit (id, (m, (mdf_low limit).1.1))) 1 0))
+  minimum-is : may limit → (id : ℕ) (t : Rust.Option ℕ) → minimum_wrong_of n id t ≡ suc (on_read (number t) (λ m. pick (tried limit (id, (m, (mdf_low limit).1.1))) 1 0))
   unfolding minimum_wrong_of
-  minimum-is h id (Number.Is m) = ap (λ (b : Bool). pick b 2 1) (trial_is p i n limit (or.Limit id m 0) (id, (m, (mdf_low limit).1.1)) h refl) ∙ one_more (tried limit (id, (m, (mdf_low limit).1.1)))
-  minimum-is h id Number.No = refl
+  minimum-is h id (Some m) = ap (λ (b : Bool). pick b 2 1) (trial_is p i n limit (or.Limit id m 0) (id, (m, (mdf_low limit).1.1)) h refl) ∙ one_more (tried limit (id, (m, (mdf_low limit).1.1)))
+  minimum-is h id None = refl
 
-  limit_is : may limit → (t m : DN.Number) → limit_wrong_of n t m ≡ on_read (number t) (λ id. pick (tried limit (id, (mdf_low limit).1)) (suc (on_read (number m) (λ x. pick (tried limit (id, (x, (mdf_low limit).1.1))) 1 0))) 0)
+  limit_is : may limit → (t m : Rust.Option ℕ) → limit_wrong_of n t m ≡ on_read (number t) (λ id. pick (tried limit (id, (mdf_low limit).1)) (suc (on_read (number m) (λ x. pick (tried limit (id, (x, (mdf_low limit).1.1))) 1 0))) 0)
   unfolding limit_wrong_of
-  limit_is h (Number.Is id) m =
+  limit_is h (Some id) m =
       ap (λ (b : Bool). pick b (minimum_wrong_of n id m) 0) (trial_is p i n limit (or.Limit id 0 0) (id, (mdf_low limit).1) h refl)
       ∙ ap (λ (x : ℕ). pick (tried limit (id, (mdf_low limit).1)) x 0) (minimum-is h id m)
-  limit_is h Number.No m = refl
+  limit_is h None m = refl
 
   wrong-is : (k : Kind) (s : Bytes) (f : Fields) → may k → mdf_wrong n s f (mission_kind_row k) ≡ behind_word (word_at (mission_kind_row k)) (wrong_at (mdf_sorts k) (tried k) (mdf_low k) (behind (word_at (mission_kind_row k)) (listed 0 s f (order_needs (get_or order_shapes (mission_kind_row k) 0)))))
   unfolding mdf_wrong wrong_at read
@@ -104,15 +103,15 @@ module _ (p : MissionPlace) (i : Sound p) (n : ℕ) where
 
 -- ## One of the first three
 module _ (n : ℕ) where
-  minimum-few : (id : ℕ) (t : DN.Number) → minimum_wrong_of n id t ≤ 2
+  minimum-few : (id : ℕ) (t : Rust.Option ℕ) → minimum_wrong_of n id t ≤ 2
   unfolding minimum_wrong_of
-  minimum-few id (Number.Is m) = pick-few (tried_of n (permits_of (or.Limit id m 0))) 2 1 (omega arith) (omega arith)
-  minimum-few id Number.No = omega arith
+  minimum-few id (Some m) = pick-few (tried_of n (permits_of (or.Limit id m 0))) 2 1 (omega arith) (omega arith)
+  minimum-few id None = omega arith
 
-  limit-few : (t m : DN.Number) → limit_wrong_of n t m ≤ 2
+  limit-few : (t m : Rust.Option ℕ) → limit_wrong_of n t m ≤ 2
   unfolding limit_wrong_of
-  limit-few (Number.Is id) m = pick-few (tried_of n (permits_of (or.Limit id 0 0))) _ 0 (minimum-few id m) (omega arith)
-  limit-few Number.No m = omega arith
+  limit-few (Some id) m = pick-few (tried_of n (permits_of (or.Limit id 0 0))) _ 0 (minimum-few id m) (omega arith)
+  limit-few None m = omega arith
 
   wrong-few : (s : Bytes) (f : Fields) (k : ℕ) → mdf_wrong n s f k ≤ 2
   unfolding mdf_wrong

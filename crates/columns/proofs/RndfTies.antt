@@ -1,4 +1,5 @@
 -- What the ties ask of an RNDF. Assumes nothing.
+use Rattle.std.specs.Prelude.{Some, None}
 use mathlib.Core.Path.{◌≡◌, refl, sym, ap, ◌∙◌}
 use mathlib.Core.List.{List, [], ◌∷◌}
 use mathlib.Core.Option.{Option, none, some}
@@ -14,11 +15,7 @@ use Rattle.line.specs.Content.{Field}
 use Rattle.line.specs.Forms.{listed, part}
 use Rattle.line.specs.declared.Fields.{Fields}
 use Rattle.number.specs.Executable.{triple_of}
-use Rattle.number.specs.declared.Triple as DT
-use Rattle.number.specs.declared.Triple.TheVariants as Triple
 use Rattle.coordinate.specs.Executable.{the_coordinate_of}
-use Rattle.coordinate.specs.declared.Degrees as DD
-use Rattle.coordinate.specs.declared.Degrees.TheVariants as Degrees
 use Rattle.grammar.specs.Language.{say}
 use Rattle.grammar.specs.Machine.{step}
 use Rattle.grammar.specs.Places.{rndf}
@@ -33,7 +30,7 @@ use Rattle.statement.specs.declared.Statement.{Statement}
 use Rattle.statement.specs.declared.Statement.TheVariants as st
 use Rattle.statement.specs.Meaning.{meant}
 use Rattle.made_out.specs.Names.{the_the_stretch_of, behind}
-use Rattle.made_out.specs.Made.{the_id_of, shapes, needs_of}
+use Rattle.made_out.specs.Made.{shapes, needs_of}
 use Rattle.place.specs.declared.Place.{Place}
 use Rattle.place.specs.Step.{permits_of, after_of, has_of, opted_of, ready_of, due_of, option_of, cell_of, by_cell, refuses_by, Next, Refused}
 use Rattle.place.specs.Abstract.{seen, abs_of}
@@ -45,6 +42,8 @@ use Rattle.law_columns.specs.Files.{rndf_low}
 use Rattle.columns.specs.Locating.{tried_of}
 use Rattle.columns.specs.RndfColumns.{low_id, checkpoint_wrong_of, exit_wrong_of, latitude_wrong_of, point_wrong_of, rndf_wrong}
 use Rattle.columns.proofs.Ties.{taken_mapped, pick-few, Locates}
+use Rattle.std.specs.Prelude as Rust
+use Rattle.number.specs.declared.Id.{Id}
 
 -- where the kind may stand, the place takes what is permitted, a spot's missing checkpoint aside
 taken-by : (p : Place) (s : Statement) (c : ℕ) → refuses_by p.given c ≡ 0 → taken? (seen (by_cell p s c)) ≡ permits_of p s
@@ -81,34 +80,34 @@ module _ (p : Place) (i : Sound p) (n : ℕ) where
   abbrev may : Kind → Type 0
   may k = refuses_by p.given (cell_of rndf_table_of p (kind_row k)) ≡ 0
 
-  checkpoint-is : may checkpoint → (t : DT.Triple) → checkpoint_wrong_of p n t ≡ suc (on_read (triple_from t) (λ v. pick (tried checkpoint (v, (rndf_low checkpoint).1)) 1 0))
+  checkpoint-is : may checkpoint → (t : Rust.Option Id) → checkpoint_wrong_of p n t ≡ suc (on_read (triple_from t) (λ v. pick (tried checkpoint (v, (rndf_low checkpoint).1)) 1 0))
   unfolding checkpoint_wrong_of
-  checkpoint-is h (Triple.Is w) =
+  checkpoint-is h (Some w) =
       let v : G.PointId = record { x = w.x; y = w.y; z = w.z } in
-      ap (λ (b : Bool). pick b 2 1) (trial_is p i n checkpoint (st.Checkpoint (the_id_of w) 1) (v, (rndf_low checkpoint).1) h refl) ∙ one_more (tried checkpoint (v, (rndf_low checkpoint).1))
-  checkpoint-is h Triple.No = refl
+      ap (λ (b : Bool). pick b 2 1) (trial_is p i n checkpoint (st.Checkpoint w 1) (v, (rndf_low checkpoint).1) h refl) ∙ one_more (tried checkpoint (v, (rndf_low checkpoint).1))
+  checkpoint-is h None = refl
 
-  exit-is : may exit → (t : DT.Triple) → exit_wrong_of p n t ≡ suc (on_read (triple_from t) (λ v. pick (tried exit (v, (rndf_low exit).1)) 1 0))
+  exit-is : may exit → (t : Rust.Option Id) → exit_wrong_of p n t ≡ suc (on_read (triple_from t) (λ v. pick (tried exit (v, (rndf_low exit).1)) 1 0))
   unfolding exit_wrong_of
-  exit-is h (Triple.Is w) =
+  exit-is h (Some w) =
       let v : G.PointId = record { x = w.x; y = w.y; z = w.z } in
-      ap (λ (b : Bool). pick b 2 1) (trial_is p i n exit (st.Exit (the_id_of w) low_id) (v, (rndf_low exit).1) h refl) ∙ one_more (tried exit (v, (rndf_low exit).1))
-  exit-is h Triple.No = refl
+      ap (λ (b : Bool). pick b 2 1) (trial_is p i n exit (st.Exit w low_id) (v, (rndf_low exit).1) h refl) ∙ one_more (tried exit (v, (rndf_low exit).1))
+  exit-is h None = refl
 
-  latitude-is : may point → (w : _) (a : DD.Degrees) → latitude_wrong_of p n (the_id_of w) a ≡ suc (on_read (degrees a) (λ z. pick (tried point (record { x = w.x; y = w.y; z = w.z }, (z, (rndf_low point).1.1))) 1 0))
+  latitude-is : may point → (w : _) (a : Rust.Option ℤ) → latitude_wrong_of p n w a ≡ suc (on_read (degrees a) (λ z. pick (tried point (record { x = w.x; y = w.y; z = w.z }, (z, (rndf_low point).1.1))) 1 0))
   unfolding latitude_wrong_of
-  latitude-is h w (Degrees.Is a) =
+  latitude-is h w (Some a) =
       let v : G.PointId = record { x = w.x; y = w.y; z = w.z } in
-      ap (λ (b : Bool). pick b 2 1) (trial_is p i n point (st.Point (the_id_of w) a (pos 0)) (v, (a, (rndf_low point).1.1)) h refl) ∙ one_more (tried point (v, (a, (rndf_low point).1.1)))
-  latitude-is h w Degrees.No = refl
+      ap (λ (b : Bool). pick b 2 1) (trial_is p i n point (st.Point w a (pos 0)) (v, (a, (rndf_low point).1.1)) h refl) ∙ one_more (tried point (v, (a, (rndf_low point).1.1)))
+  latitude-is h w None = refl
 
-  point-is : may point → (t : DT.Triple) (a : DD.Degrees) → point_wrong_of p n t a ≡ on_read (triple_from t) (λ v. pick (tried point (v, (rndf_low point).1)) (suc (on_read (degrees a) (λ z. pick (tried point (v, (z, (rndf_low point).1.1))) 1 0))) 0)
+  point-is : may point → (t : Rust.Option Id) (a : Rust.Option ℤ) → point_wrong_of p n t a ≡ on_read (triple_from t) (λ v. pick (tried point (v, (rndf_low point).1)) (suc (on_read (degrees a) (λ z. pick (tried point (v, (z, (rndf_low point).1.1))) 1 0))) 0)
   unfolding point_wrong_of
-  point-is h (Triple.Is w) a =
+  point-is h (Some w) a =
       let v : G.PointId = record { x = w.x; y = w.y; z = w.z } in
-      ap (λ (b : Bool). pick b (latitude_wrong_of p n (the_id_of w) a) 0) (trial_is p i n point (st.Point (the_id_of w) (pos 0) (pos 0)) (v, (rndf_low point).1) h refl)
+      ap (λ (b : Bool). pick b (latitude_wrong_of p n w a) 0) (trial_is p i n point (st.Point w (pos 0) (pos 0)) (v, (rndf_low point).1) h refl)
       ∙ ap (λ (x : ℕ). pick (tried point (v, (rndf_low point).1)) x 0) (latitude-is h w a)
-  point-is h Triple.No a = refl
+  point-is h None a = refl
 
   wrong-is : (k : Kind) (s : Bytes) (f : Fields) → may k → rndf_wrong p n s f (kind_row k) ≡ behind_word (word_at (kind_row k)) (wrong_at (rndf_sorts k) (tried k) (rndf_low k) (behind (word_at (kind_row k)) (listed 0 s f (needs_of (get_or shapes (kind_row k) 0)))))
   unfolding rndf_wrong wrong_at read
@@ -145,25 +144,25 @@ module _ (p : Place) (i : Sound p) (n : ℕ) where
 
 -- ## One of the first three
 module _ (p : Place) (n : ℕ) where
-  checkpoint-few : (t : DT.Triple) → checkpoint_wrong_of p n t ≤ 2
+  checkpoint-few : (t : Rust.Option Id) → checkpoint_wrong_of p n t ≤ 2
   unfolding checkpoint_wrong_of
-  checkpoint-few (Triple.Is w) = pick-few (tried_of n (permits_of p (st.Checkpoint (the_id_of w) 1))) 2 1 (omega arith) (omega arith)
-  checkpoint-few Triple.No = omega arith
+  checkpoint-few (Some w) = pick-few (tried_of n (permits_of p (st.Checkpoint w 1))) 2 1 (omega arith) (omega arith)
+  checkpoint-few None = omega arith
 
-  exit-few : (t : DT.Triple) → exit_wrong_of p n t ≤ 2
+  exit-few : (t : Rust.Option Id) → exit_wrong_of p n t ≤ 2
   unfolding exit_wrong_of
-  exit-few (Triple.Is w) = pick-few (tried_of n (permits_of p (st.Exit (the_id_of w) low_id))) 2 1 (omega arith) (omega arith)
-  exit-few Triple.No = omega arith
+  exit-few (Some w) = pick-few (tried_of n (permits_of p (st.Exit w low_id))) 2 1 (omega arith) (omega arith)
+  exit-few None = omega arith
 
-  latitude-few : (w : _) (a : DD.Degrees) → latitude_wrong_of p n w a ≤ 2
+  latitude-few : (w : _) (a : Rust.Option ℤ) → latitude_wrong_of p n w a ≤ 2
   unfolding latitude_wrong_of
-  latitude-few w (Degrees.Is a) = pick-few (tried_of n (permits_of p (st.Point w a (pos 0)))) 2 1 (omega arith) (omega arith)
-  latitude-few w Degrees.No = omega arith
+  latitude-few w (Some a) = pick-few (tried_of n (permits_of p (st.Point w a (pos 0)))) 2 1 (omega arith) (omega arith)
+  latitude-few w None = omega arith
 
-  point-few : (t : DT.Triple) (a : DD.Degrees) → point_wrong_of p n t a ≤ 2
+  point-few : (t : Rust.Option Id) (a : Rust.Option ℤ) → point_wrong_of p n t a ≤ 2
   unfolding point_wrong_of
-  point-few (Triple.Is w) a = pick-few (tried_of n (permits_of p (st.Point (the_id_of w) (pos 0) (pos 0)))) _ 0 (latitude-few (the_id_of w) a) (omega arith)
-  point-few Triple.No a = omega arith
+  point-few (Some w) a = pick-few (tried_of n (permits_of p (st.Point w (pos 0) (pos 0)))) _ 0 (latitude-few w a) (omega arith)
+  point-few None a = omega arith
 
   wrong-few : (s : Bytes) (f : Fields) (k : ℕ) → rndf_wrong p n s f k ≤ 2
   unfolding rndf_wrong

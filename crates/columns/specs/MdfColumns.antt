@@ -1,13 +1,11 @@
 -- Executable: the column in an MDF, over the program's types. Assumes nothing.
-use Rattle.std.specs.Prelude.{List, ℕ, eqb}
+use Rattle.std.specs.Prelude.{List, ℕ, eqb, Some, None, Option}
 use Rattle.terms.specs.Ascii.{Bytes}
 use Rattle.terms.specs.Words.{pick}
 use Rattle.line.specs.Lines.{lines_of}
 use Rattle.line.specs.Forms.{part}
 use Rattle.line.specs.declared.Fields.{Fields}
 use Rattle.number.specs.Executable.{the_integer_of}
-use Rattle.number.specs.declared.Number as DN
-use Rattle.number.specs.declared.Number.TheVariants as Number
 use Rattle.statement.specs.declared.Order.TheVariants as or
 use Rattle.mission_place.specs.declared.MissionPlace.{MissionPlace}
 use Rattle.mission_place.specs.Step.{first_place, permits_of}
@@ -16,13 +14,13 @@ use Rattle.refusal.specs.Size.{if_too_long}
 use Rattle.columns.specs.Locating.{tried_of, kind_field_of, field_of, fields_column_of, content_column_of, line_column_of, line_columns}
 
 -- the maximum 0 is no ceiling
-unfoldable pub minimum_wrong_of : (n id : ℕ) → DN.Number → ℕ
-minimum_wrong_of n i (Number.Is m) = pick (tried_of n (permits_of (or.Limit i m 0))) 2 1
-minimum_wrong_of n i Number.No = 1
+unfoldable pub minimum_wrong_of : (n id : ℕ) → Option ℕ → ℕ
+minimum_wrong_of n i (Some m) = pick (tried_of n (permits_of (or.Limit i m 0))) 2 1
+minimum_wrong_of n i None = 1
 
-unfoldable pub limit_wrong_of : (n : ℕ) → DN.Number → DN.Number → ℕ
-limit_wrong_of n (Number.Is i) m = pick (tried_of n (permits_of (or.Limit i 0 0))) (minimum_wrong_of n i m) 0
-limit_wrong_of n Number.No m = 0
+unfoldable pub limit_wrong_of : (n : ℕ) → Option ℕ → Option ℕ → ℕ
+limit_wrong_of n (Some i) m = pick (tried_of n (permits_of (or.Limit i 0 0))) (minimum_wrong_of n i m) 0
+limit_wrong_of n None m = 0
 
 -- of a kind: a goal has one field, the others one behind their keyword
 unfoldable pub mdf_wrong : (n : ℕ) → Bytes → Fields → (kind : ℕ) → ℕ

@@ -1,19 +1,14 @@
 -- Executable: the column in an RNDF, over the program's types. Assumes nothing.
-use Rattle.std.specs.Prelude.{List, ℕ, eqb, ℤ, pos}
+use Rattle.std.specs.Prelude.{List, ℕ, eqb, ℤ, pos, Some, None, Option}
 use Rattle.terms.specs.Ascii.{Bytes}
 use Rattle.terms.specs.Words.{pick}
 use Rattle.line.specs.Lines.{lines_of}
 use Rattle.line.specs.Forms.{part}
 use Rattle.line.specs.declared.Fields.{Fields}
 use Rattle.number.specs.Executable.{triple_of}
-use Rattle.number.specs.declared.Triple as DT
-use Rattle.number.specs.declared.Triple.TheVariants as Triple
 use Rattle.coordinate.specs.Executable.{the_coordinate_of}
-use Rattle.coordinate.specs.declared.Degrees as DD
-use Rattle.coordinate.specs.declared.Degrees.TheVariants as Degrees
-use Rattle.statement.specs.declared.Id.{Id}
+use Rattle.number.specs.declared.Id.{Id}
 use Rattle.statement.specs.declared.Statement.TheVariants as st
-use Rattle.made_out.specs.Made.{the_id_of}
 use Rattle.place.specs.declared.Place.{Place}
 use Rattle.place.specs.Step.{first_place, permits_of}
 use Rattle.judge.specs.RndfLine.{judging, rndf_judging}
@@ -24,21 +19,21 @@ use Rattle.columns.specs.Locating.{tried_of, kind_field_of, field_of, fields_col
 abbrev pub low_id : Id
 low_id = record { x = 1; y = 1; z = 1 }
 
-unfoldable pub checkpoint_wrong_of : Place → (n : ℕ) → DT.Triple → ℕ
-checkpoint_wrong_of p n (Triple.Is i) = pick (tried_of n (permits_of p (st.Checkpoint (the_id_of i) 1))) 2 1
-checkpoint_wrong_of p n Triple.No = 1
+unfoldable pub checkpoint_wrong_of : Place → (n : ℕ) → Option Id → ℕ
+checkpoint_wrong_of p n (Some i) = pick (tried_of n (permits_of p (st.Checkpoint i 1))) 2 1
+checkpoint_wrong_of p n None = 1
 
-unfoldable pub exit_wrong_of : Place → (n : ℕ) → DT.Triple → ℕ
-exit_wrong_of p n (Triple.Is i) = pick (tried_of n (permits_of p (st.Exit (the_id_of i) low_id))) 2 1
-exit_wrong_of p n Triple.No = 1
+unfoldable pub exit_wrong_of : Place → (n : ℕ) → Option Id → ℕ
+exit_wrong_of p n (Some i) = pick (tried_of n (permits_of p (st.Exit i low_id))) 2 1
+exit_wrong_of p n None = 1
 
-unfoldable pub latitude_wrong_of : Place → (n : ℕ) → Id → DD.Degrees → ℕ
-latitude_wrong_of p n i (Degrees.Is a) = pick (tried_of n (permits_of p (st.Point i a (pos 0)))) 2 1
-latitude_wrong_of p n i Degrees.No = 1
+unfoldable pub latitude_wrong_of : Place → (n : ℕ) → Id → Option ℤ → ℕ
+latitude_wrong_of p n i (Some a) = pick (tried_of n (permits_of p (st.Point i a (pos 0)))) 2 1
+latitude_wrong_of p n i None = 1
 
-unfoldable pub point_wrong_of : Place → (n : ℕ) → DT.Triple → DD.Degrees → ℕ
-point_wrong_of p n (Triple.Is i) a = pick (tried_of n (permits_of p (st.Point (the_id_of i) (pos 0) (pos 0)))) (latitude_wrong_of p n (the_id_of i) a) 0
-point_wrong_of p n Triple.No a = 0
+unfoldable pub point_wrong_of : Place → (n : ℕ) → Option Id → Option ℤ → ℕ
+point_wrong_of p n (Some i) a = pick (tried_of n (permits_of p (st.Point i (pos 0) (pos 0)))) (latitude_wrong_of p n i a) 0
+point_wrong_of p n None a = 0
 
 -- of a kind: the others have one field behind their keyword
 unfoldable pub rndf_wrong : Place → (n : ℕ) → Bytes → Fields → (kind : ℕ) → ℕ

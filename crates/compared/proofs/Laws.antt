@@ -1,4 +1,5 @@
 -- What is left of two writings, step by step; the line that starts at a place. Assumes nothing.
+use Rattle.std.specs.Prelude.{Some, None}
 use mathlib.Core.Path.{◌≡◌, refl, sym, ap, ◌∙◌}
 use mathlib.Core.List.{List, [], ◌++◌}
 use Prim.Native.Nat.{ℕ, ◌+◌, ◌-◌, ◌≤◌, ◌<◌}
@@ -13,25 +14,23 @@ use Rattle.line.specs.Text.{lf}
 use Rattle.line.specs.Lines.{lines_of}
 use Rattle.line.proofs.Cuts.{lines_at, lines_end}
 use Rattle.compared.specs.Compared.{differ_from, line_there, line_of_name, line_told}
-use Rattle.compared.specs.declared.Difference.{Difference}
-use Rattle.compared.specs.declared.Difference.TheVariants.{Nowhere, At}
 
 module _ (a b : Bytes) (i start passed : ℕ) where
   -- ## It is this line
-  pub other_byte : i < length a → i < length b → (get_or a i 0 ≡ get_or b i 0 → ⊥) → differ_from i start passed (drop i a) (drop i b) ≡ At start passed
+  pub other_byte : i < length a → i < length b → (get_or a i 0 ≡ get_or b i 0 → ⊥) → differ_from i start passed (drop i a) (drop i b) ≡ Some (start, passed)
   unfolding differ_from
   other_byte h k e = rw (drop-cons a i 0 h, drop-cons b i 0 k, ne_eqb (get_or a i 0) (get_or b i 0) e)
 
-  pub second-ends : i < length a → length b ≤ i → differ_from i start passed (drop i a) (drop i b) ≡ At start passed
+  pub second-ends : i < length a → length b ≤ i → differ_from i start passed (drop i a) (drop i b) ≡ Some (start, passed)
   unfolding differ_from
   second-ends h k = rw (drop-cons a i 0 h, drop_of_length-le b k)
 
-  pub first_ends : length a ≤ i → i < length b → differ_from i start passed (drop i a) (drop i b) ≡ At start passed
+  pub first_ends : length a ≤ i → i < length b → differ_from i start passed (drop i a) (drop i b) ≡ Some (start, passed)
   unfolding differ_from
   first_ends h k = rw (drop_of_length-le a h, drop-cons b i 0 k)
 
   -- ## It is none
-  pub both_end : length a ≤ i → length b ≤ i → differ_from i start passed (drop i a) (drop i b) ≡ Nowhere
+  pub both_end : length a ≤ i → length b ≤ i → differ_from i start passed (drop i a) (drop i b) ≡ None
   unfolding differ_from
   both_end h k = rw (drop_of_length-le a h, drop_of_length-le b k)
 

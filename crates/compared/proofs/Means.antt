@@ -1,4 +1,5 @@
 -- The first line in which two writings differ: what is found is it, nothing else is, and nothing is found exactly if the two are equal. Assumes nothing.
+use Rattle.std.specs.Prelude.{Some, None, Option}
 use mathlib.Core.Path.{◌≡◌, refl, sym, ap, subst, ◌∙◌}
 use mathlib.Core.Logic.{◌↔◌}
 use mathlib.Core.List.{List, [], ◌∷◌, ◌++◌, append_assoc, append-nil, head-eq_of_cons-eq, tail-eq_of_cons-eq, nil≢cons}
@@ -13,8 +14,6 @@ use Rattle.terms.specs.Words.{pick, Each}
 use Rattle.line.specs.Text.{lf, Lacks, none, more}
 use Rattle.line.specs.Lines.{write_lines}
 use Rattle.compared.specs.Compared.{differ_from, first_difference_of, first_line, FirstDiffers, Means}
-use Rattle.compared.specs.declared.Difference.{Difference}
-use Rattle.compared.specs.declared.Difference.TheVariants.{Nowhere, At}
 
 -- ## Bytes before the LF
 cancel : (l : Bytes) {u v : Bytes} → l ++ u ≡ l ++ v → u ≡ v
@@ -38,18 +37,18 @@ lacks-more (more m r) b n = more m (lacks-more r b n)
 
 -- ## What is found means what it says
 -- behind a line that starts there, so many lines before it
-abbrev From : (start passed : ℕ) (a b : Bytes) → Difference → Type 0
-From start passed a b Nowhere = a ≡ b
-From start passed a b (At s n) = (s' : ℕ) × (n' : ℕ) × (s ≡ start + s') × (n ≡ passed + n') × FirstDiffers a b s' n'
+abbrev From : (start passed : ℕ) (a b : Bytes) → Option (ℕ × ℕ) → Type 0
+From start passed a b None = a ≡ b
+From start passed a b (Some (s, n)) = (s' : ℕ) × (n' : ℕ) × (s ≡ start + s') × (n ≡ passed + n') × FirstDiffers a b s' n'
 
-here : (start passed : ℕ) (a b : Bytes) → (first_line a ≡ first_line b → ⊥) → From start passed a b (At start passed)
+here : (start passed : ℕ) (a b : Bytes) → (first_line a ≡ first_line b → ⊥) → From start passed a b (Some (start, passed))
 unfolding write_lines
 here start passed a b d = (0, 0, omega arith, omega arith, record { lines = []; one = a; other = b; whole = tt; first = refl; second = refl; starts = refl; counted = refl; differ = d })
 
-later : (l : Bytes) → Lacks lf l → (start passed : ℕ) (a b : Bytes) (d : Difference) → From (start + suc (length l)) (suc passed) a b d → From start passed (l ++ (lf ∷ a)) (l ++ (lf ∷ b)) d
+later : (l : Bytes) → Lacks lf l → (start passed : ℕ) (a b : Bytes) (d : Option (ℕ × ℕ)) → From (start + suc (length l)) (suc passed) a b d → From start passed (l ++ (lf ∷ a)) (l ++ (lf ∷ b)) d
 unfolding write_lines
-later l h start passed a b Nowhere e = ap (λ (t : Bytes). l ++ (lf ∷ t)) e
-later l h start passed a b (At s n) (s', n', p, q, f) = (
+later l h start passed a b None e = ap (λ (t : Bytes). l ++ (lf ∷ t)) e
+later l h start passed a b (Some (s, n)) (s', n', p, q, f) = (
   suc (length l) + s',
   suc n',
   omega (arith, p),
@@ -77,7 +76,7 @@ found l h at start passed e (x ∷ a) (y ∷ b) = go (eqb x y) refl (eqb x lf) r
   where
     go : (t : Bool) → eqb x y ≡ t → (u : Bool) → eqb x lf ≡ u → From (suc at) (suc passed) a b (differ_from (suc at) (suc at) (suc passed) a b)
         → ((x ≡ lf → ⊥) → From start passed ((l ++ (x ∷ [])) ++ a) ((l ++ (x ∷ [])) ++ b) (differ_from (suc at) start passed a b))
-        → From start passed (l ++ (x ∷ a)) (l ++ (y ∷ b)) (pick t (pick u (differ_from (suc at) (suc at) (suc passed) a b) (differ_from (suc at) start passed a b)) (At start passed))
+        → From start passed (l ++ (x ∷ a)) (l ++ (y ∷ b)) (pick t (pick u (differ_from (suc at) (suc at) (suc passed) a b) (differ_from (suc at) start passed a b)) (Some (start, passed)))
     go false p u q r s = here start passed (l ++ (x ∷ a)) (l ++ (y ∷ b)) (λ z. eqb-false x y p (head-eq_of_cons-eq (cancel l (sym (line_on h (x ∷ a)) ∙ z ∙ line_on h (y ∷ b)))))
     go true p true q r s =
         let d = differ_from (suc at) (suc at) (suc passed) a b in
@@ -94,9 +93,9 @@ pub means : (a b : Bytes) → Means a b (first_difference_of a b)
 unfolding first_difference_of
 means a b = go (differ_from 0 0 0 a b) (found [] none 0 0 0 (omega arith) a b)
   where
-    go : (d : Difference) → From 0 0 a b d → Means a b d
-    go Nowhere e = e
-    go (At s n) (s', n', p, q, f) =
+    go : (d : Option (ℕ × ℕ)) → From 0 0 a b d → Means a b d
+    go None e = e
+    go (Some (s, n)) (s', n', p, q, f) =
         let p' : s' ≡ s = omega (arith, p) in
         let q' : n' ≡ n = omega (arith, q) in
         subst (FirstDiffers a b s) q' (subst (λ (k : ℕ). FirstDiffers a b k n') p' f)
@@ -131,14 +130,14 @@ same_lines (l ∷ ls) (m ∷ ms) h k u v u' v' e f d d' =
     λ i. x.0 i ∷ w i
 
 -- no second answer means what it says
-pub means-one : (a b : Bytes) (d d' : Difference) → Means a b d → Means a b d' → d ≡ d'
-means-one a b Nowhere Nowhere p q = refl
-means-one a b Nowhere (At s n) p q = absurd (never-equal q p)
-means-one a b (At s n) Nowhere p q = absurd (never-equal p q)
-means-one a b (At s n) (At s' n') p q =
+pub means-one : (a b : Bytes) (d d' : Option (ℕ × ℕ)) → Means a b d → Means a b d' → d ≡ d'
+means-one a b None None p q = refl
+means-one a b None (Some (s, n)) p q = absurd (never-equal q p)
+means-one a b (Some (s, n)) None p q = absurd (never-equal p q)
+means-one a b (Some (s, n)) (Some (s', n')) p q =
     let e = same_lines p.lines q.lines p.whole q.whole p.one p.other q.one q.other (sym p.first ∙ q.first) (sym p.second ∙ q.second) p.differ q.differ in
-    λ i. At ((p.starts ∙ ap (λ (ls : List Bytes). length (write_lines ls)) e ∙ sym q.starts) i) ((p.counted ∙ ap length e ∙ sym q.counted) i)
+    λ i. Some (((p.starts ∙ ap (λ (ls : List Bytes). length (write_lines ls)) e ∙ sym q.starts) i), (p.counted ∙ ap length e ∙ sym q.counted) i)
 
 -- nowhere exactly if the two are equal
-pub nowhere-equal : (a b : Bytes) → (first_difference_of a b ≡ Nowhere) ↔ (a ≡ b)
-nowhere-equal a b = (λ e. subst (Means a b) e (means a b), λ e. means-one a b (first_difference_of a b) Nowhere (means a b) e)
+pub nowhere-equal : (a b : Bytes) → (first_difference_of a b ≡ None) ↔ (a ≡ b)
+nowhere-equal a b = (λ e. subst (Means a b) e (means a b), λ e. means-one a b (first_difference_of a b) None (means a b) e)

@@ -1,24 +1,22 @@
 -- WHAT A READER MUST BELIEVE. The first line in which two writings differ, and what planners are told of two house writings. Document 02, L14. Assumes nothing.
-use Rattle.std.specs.Prelude.{◌≡◌, Bool, ◌||◌, List, [], ◌∷◌, ◌++◌, ℕ, suc, ◌+◌, min, eqb, leb, length, take, drop, get_or}
+use Rattle.std.specs.Prelude.{◌≡◌, Bool, ◌||◌, List, [], ◌∷◌, ◌++◌, ℕ, suc, ◌+◌, min, eqb, leb, length, take, drop, get_or, Some, None, Option}
 use Rattle.terms.specs.Ascii.{Bytes, ascii}
 use Rattle.terms.specs.Words.{pick, Each}
 use Rattle.scan.specs.Reach.{same_bytes_of}
 use Rattle.number.specs.House.{house_integer}
 use Rattle.line.specs.Text.{lf, Lacks}
 use Rattle.line.specs.Lines.{lines_of, write_lines}
-use Rattle.compared.specs.declared.Difference.{Difference}
-use Rattle.compared.specs.declared.Difference.TheVariants.{Nowhere, At}
 
 -- ## Where they differ first
 -- executable: what is left of both behind `at` bytes that are the same, where the line that is open starts, and how many lines stand before it
-unfoldable pub differ_from : (at start passed : ℕ) → (a b : Bytes) → Difference
-differ_from at start passed [] [] = Nowhere
-differ_from at start passed [] (y ∷ b) = At start passed
-differ_from at start passed (x ∷ a) [] = At start passed
+unfoldable pub differ_from : (at start passed : ℕ) → (a b : Bytes) → Option (ℕ × ℕ)
+differ_from at start passed [] [] = None
+differ_from at start passed [] (y ∷ b) = Some (start, passed)
+differ_from at start passed (x ∷ a) [] = Some (start, passed)
 differ_from at start passed (x ∷ a) (y ∷ b) =
-    pick (eqb x y) (pick (eqb x lf) (differ_from (suc at) (suc at) (suc passed) a b) (differ_from (suc at) start passed a b)) (At start passed)
+    pick (eqb x y) (pick (eqb x lf) (differ_from (suc at) (suc at) (suc passed) a b) (differ_from (suc at) start passed a b)) (Some (start, passed))
 
-unfoldable pub first_difference_of : (a b : Bytes) → Difference
+unfoldable pub first_difference_of : (a b : Bytes) → Option (ℕ × ℕ)
 first_difference_of a b = differ_from 0 0 0 a b
 
 -- the first line with its LF; what there is, if there is none
@@ -38,9 +36,9 @@ pub record FirstDiffers (a b : Bytes) (start passed : ℕ) : Type 0 where
   pub counted : passed ≡ length lines
   pub differ : first_line one ≡ first_line other → ⊥
 
-abbrev pub Means : (a b : Bytes) → Difference → Type 0
-Means a b Nowhere = a ≡ b
-Means a b (At start passed) = FirstDiffers a b start passed
+abbrev pub Means : (a b : Bytes) → Option (ℕ × ℕ) → Type 0
+Means a b None = a ≡ b
+Means a b (Some (start, passed)) = FirstDiffers a b start passed
 
 -- ## What is told
 -- lines count from 1
@@ -75,9 +73,9 @@ unfoldable pub differ_told : (name other a b : Bytes) (start passed : ℕ) → B
 differ_told name other a b start passed = ascii "not the same yard\n" ++ line_told name a start passed ++ line_told other b start passed ++ part_told (last_opening_of [] (lines_of (take start a)))
 
 -- L14: "equal house writings exactly when they mean the same network apart from creation dates"
-abbrev pub told_of : (name other a b : Bytes) → Difference → Bytes
-told_of name other a b Nowhere = ascii "the same yard\n"
-told_of name other a b (At start passed) = differ_told name other a b start passed
+abbrev pub told_of : (name other a b : Bytes) → Option (ℕ × ℕ) → Bytes
+told_of name other a b None = ascii "the same yard\n"
+told_of name other a b (Some (start, passed)) = differ_told name other a b start passed
 
 unfoldable pub told : (name other a b : Bytes) → Bytes
 told name other a b = told_of name other a b (first_difference_of a b)

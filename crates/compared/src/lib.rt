@@ -13,14 +13,7 @@ use output::{put_byte, put_bytes, put_integer};
 use scan::{far_byte_from, same};
 use shown::first;
 
-// Where two writings differ first: nowhere, or in the line that starts at so many bytes in both, behind so many lines.
-#[derive(Clone, Copy)]
-pub enum Difference {
-    Nowhere,
-    At(usize, usize),
-}
-
-pub fn first_difference(a: &[u8], b: &[u8]) -> Difference
+pub fn first_difference(a: &[u8], b: &[u8]) -> Option<(usize, usize)>
     ensures { result ≡ first_difference_of a.now b.now }
 {
     let mut i: usize = 0;
@@ -28,10 +21,10 @@ pub fn first_difference(a: &[u8], b: &[u8]) -> Difference
     let mut passed: usize = 0;
     while i < a.len() {
         if b.len() <= i {
-            return Difference::At(start, passed);
+            return Some((start, passed));
         }
         if a[i] != b[i] {
-            return Difference::At(start, passed);
+            return Some((start, passed));
         }
         if a[i] == 10 {
             i += 1;
@@ -42,9 +35,9 @@ pub fn first_difference(a: &[u8], b: &[u8]) -> Difference
         i += 1;
     }
     if i < b.len() {
-        return Difference::At(start, passed);
+        return Some((start, passed));
     }
-    Difference::Nowhere
+    None
 }
 
 // ## What is told
@@ -164,7 +157,7 @@ pub fn put_compared(
 {
     let difference = first_difference(a, b);
     match difference {
-        Difference::Nowhere => put_bytes(out, at, b"the same yard\n"),
-        Difference::At(start, passed) => put_differ(out, at, name, other, a, b, start, passed),
+        None => put_bytes(out, at, b"the same yard\n"),
+        Some((start, passed)) => put_differ(out, at, name, other, a, b, start, passed),
     }
 }

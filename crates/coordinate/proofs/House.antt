@@ -1,5 +1,6 @@
 -- Laws of the house spelling of coordinates: it spells its value, nothing else does (but `-0.000000` for 0), and what it is made of.
 -- Assumes nothing.
+use Rattle.std.specs.Prelude.{Some}
 use mathlib.Core.Path.{◌≡◌, refl, sym, ap, ◌∙◌}
 use mathlib.Core.List.{◌++◌, append_assoc}
 use mathlib.Core.Bool.{Bool, true, false}
@@ -20,7 +21,6 @@ use Rattle.coordinate.specs.Spelling.{SpellsCoordinate}
 use Rattle.coordinate.specs.Sign.{sign, signed}
 use Rattle.coordinate.specs.House.{house_degrees, house_coordinate}
 use Rattle.coordinate.specs.Executable.{the_coordinate_of}
-use Rattle.coordinate.specs.declared.Degrees.TheVariants as D
 use Rattle.coordinate.proofs.Coordinates.{coordinate-only, coordinate-same, spelled-bound, minus_zero}
 
 pub house-coordinate_spells : (z : ℤ) → nat_abs z ≤ 999999999 → SpellsCoordinate (house_coordinate z) z
@@ -48,7 +48,7 @@ house-coordinate_spells (negsuc m) h =
       counted = ap (λ (k : ℕ). neg_ℤ (pos k)) e;
     }
 
-pub house-coordinate-reads : (z : ℤ) → nat_abs z ≤ 999999999 → the_coordinate_of (house_coordinate z) ≡ D.Is z
+pub house-coordinate-reads : (z : ℤ) → nat_abs z ≤ 999999999 → the_coordinate_of (house_coordinate z) ≡ Some z
 house-coordinate-reads z h = coordinate-only (house_coordinate z) z (house-coordinate_spells z h)
 
 pub house-coordinate-same : (y z : ℤ) → nat_abs y ≤ 999999999 → nat_abs z ≤ 999999999 → house_coordinate y ≡ house_coordinate z → y ≡ z

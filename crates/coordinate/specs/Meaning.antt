@@ -1,11 +1,9 @@
--- What each answer of the program says of the field. `No` is 01's refusal 8: "field not of its kind (spelling ..)".
+-- What each answer of the program says of the field. `None` is 01's refusal 8: "field not of its kind (spelling ..)".
 -- Assumes nothing.
-use Rattle.std.specs.Prelude.{ℤ}
+use Rattle.std.specs.Prelude.{ℤ, Some, None, Option}
 use Rattle.terms.specs.Ascii.{Bytes}
 use Rattle.coordinate.specs.Spelling.{SpellsCoordinate}
-use Rattle.coordinate.specs.declared.Degrees as DD
-use Rattle.coordinate.specs.declared.Degrees.TheVariants as D
 
-unfoldable pub CoordinateMeans : Bytes → DD.Degrees → Type 0
-CoordinateMeans field (D.Is z) = SpellsCoordinate field z
-CoordinateMeans field D.No = (z : ℤ) → SpellsCoordinate field z → ⊥
+unfoldable pub CoordinateMeans : Bytes → Option ℤ → Type 0
+CoordinateMeans field (Some z) = SpellsCoordinate field z
+CoordinateMeans field None = (z : ℤ) → SpellsCoordinate field z → ⊥

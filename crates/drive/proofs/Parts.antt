@@ -1,4 +1,5 @@
 -- The work space, of which the first words are lent: zero again where it was zero and they come back zero. The verdict, test by test. Assumes nothing.
+use Rattle.std.specs.Prelude.{Ok, Err}
 use mathlib.Core.Path.{◌≡◌, refl, sym, ap, ◌∙◌}
 use mathlib.Core.Bool.{Bool}
 use mathlib.Core.List.{List, [], ◌∷◌, ◌++◌}
@@ -8,8 +9,6 @@ use lib.ListN.{take, drop, replicate, take-append-drop}
 use borrow.Author.Tests.{lt-ltb, le-ltb}
 use Rattle.room.specs.Room.{fitted}
 use Rattle.legs.specs.Legs.{first_stuck_of}
-use Rattle.drive.specs.declared.Verdict.{Verdict}
-use Rattle.drive.specs.declared.Verdict.TheVariants as Verdict
 use Rattle.drive.specs.Verdict.{verdict}
 
 -- ## The work space
@@ -24,22 +23,22 @@ zero-whole k n w x h e f = (λ i. f i ++ drop k (e i)) ∙ ap (λ (l : List ℕ)
 
 -- ## The verdict
 module _ (leads : ℕ → ℕ → Bool) (point : ℕ → ℕ) (points rows count start : ℕ) where
-  pub short : rows < points → Verdict.Wrong 0 11 ≡ verdict leads point points rows count start
+  pub short : rows < points → Err (0, 11) ≡ verdict leads point points rows count start
   unfolding verdict
   short h = rw (lt-ltb rows points h)
 
-  pub undeclared : points ≤ rows → points ≤ start → Verdict.Wrong 0 30 ≡ verdict leads point points rows count start
+  pub undeclared : points ≤ rows → points ≤ start → Err (0, 30) ≡ verdict leads point points rows count start
   unfolding verdict
   undeclared r h = rw (le-ltb rows points r, le-ltb start points h)
 
   module _ (k : ℕ) (r : points ≤ rows) (d : start < points) (e : k ≡ first_stuck_of leads point count start) where
-    pub stuck : k < count → (line : ℕ) → line ≡ fitted k → Verdict.Wrong line 31 ≡ verdict leads point points rows count start
+    pub stuck : k < count → (line : ℕ) → line ≡ fitted k → Err (line, 31) ≡ verdict leads point points rows count start
     unfolding verdict
     stuck h line f =
         let g : first_stuck_of leads point count start < count = omega arith in
-        ap (λ (x : ℕ). Verdict.Wrong x 31) (f ∙ ap fitted e) ∙ rw (le-ltb rows points r, lt-ltb start points d, lt-ltb (first_stuck_of leads point count start) count g)
+        ap (λ (x : ℕ). Err (x, 31)) (f ∙ ap fitted e) ∙ rw (le-ltb rows points r, lt-ltb start points d, lt-ltb (first_stuck_of leads point count start) count g)
 
-    pub free : count ≤ k → Verdict.Good ≡ verdict leads point points rows count start
+    pub free : count ≤ k → Ok tt ≡ verdict leads point points rows count start
     unfolding verdict
     free h =
         let g : count ≤ first_stuck_of leads point count start = omega arith in

@@ -15,13 +15,6 @@ use legs::first_stuck;
 use room::in_word;
 use rows::clear;
 
-// What a mission gets: what stands in place of the line, and the number.
-#[derive(Clone, Copy)]
-pub enum Verdict {
-    Good,
-    Wrong(u32, u8),
-}
-
 // Whether it can be driven from `start`, a point's row, in the tables of a pair with these counts.
 pub fn judged(
     lanes: &[u32],
@@ -33,14 +26,14 @@ pub fn judged(
     m: MissionCounts,
     start: u32,
     work: &mut [u32],
-) -> Verdict
+) -> Result<(), (u32, u8)>
     ensures value { result ≡ verdict (leads_to_of lanes.now zones.now exits.now c c.points) (goal_point_of checkpoints.now goals.now) c.points (length work.old) m.goals start }
     ensures work_after { work.new ≡ replicate (length work.old) 0 }
 {
     clear(work);
     let points = c.points as usize;
     if work.len() < points {
-        return Verdict::Wrong(0, 11);
+        return Err((0, 11));
     }
     if start < c.points {
         let stuck = first_stuck(
@@ -55,10 +48,10 @@ pub fn judged(
             &mut work[..points],
         );
         if stuck < m.goals as usize {
-            return Verdict::Wrong(in_word(stuck), 31);
+            return Err((in_word(stuck), 31));
         }
-        Verdict::Good
+        Ok(())
     } else {
-        Verdict::Wrong(0, 30)
+        Err((0, 30))
     }
 }

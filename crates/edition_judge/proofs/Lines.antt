@@ -1,4 +1,5 @@
 -- One line of an edition, as the program tells it: what the present edition says of it, but for what this one does not have. Assumes nothing.
+use Rattle.std.specs.Prelude.{Ok, Err, Result}
 use mathlib.Core.Path.{◌≡◌, refl}
 use mathlib.Core.Option.{Option, none, some}
 use mathlib.Core.Bool.{Bool, true, false}
@@ -9,8 +10,6 @@ use Rattle.terms.specs.Ascii.{Bytes}
 use Rattle.terms.specs.Words.{pick}
 use Rattle.line.specs.Lines.{trim_of}
 use Rattle.line.specs.Forms.{form_of, fields_in_of, part}
-use Rattle.line.specs.declared.Form as Form
-use Rattle.line.specs.declared.Form.TheVariants.{Bad, Body}
 use Rattle.line.specs.declared.Fields.{Fields}
 use Rattle.grammar.specs.Editions.{Edition}
 use Rattle.grammar.specs.Machine.{Out, next, refuse}
@@ -64,9 +63,9 @@ module _ (e : Edition) where
       let k = rndf_kind (part s (fields_in_of s).a) in
       both (eqb (fields_in_of s).count 0) blank (known rndf_judging s base (fields_in_of s) p k) _ _ refl (known_so s base (fields_in_of s) p k)
 
-  formed-so : (s : Bytes) (base : ℕ) (p : Place) (f : Form.Form) → formed (judging_in e) s base p f ≡ bar_got (formed rndf_judging s base p f)
-  formed-so s base p (Bad n) = refl
-  formed-so s base p (Body n) = told-so (take n s) base p
+  formed-so : (s : Bytes) (base : ℕ) (p : Place) (f : Result ℕ ℕ) → formed (judging_in e) s base p f ≡ bar_got (formed rndf_judging s base p f)
+  formed-so s base p (Err n) = refl
+  formed-so s base p (Ok n) = told-so (take n s) base p
 
   -- THE LINE
   pub line-so : (s : Bytes) (base : ℕ) (p : Place) → line (judging_in e) s base p ≡ bar_got (line rndf_judging s base p)

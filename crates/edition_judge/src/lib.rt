@@ -15,49 +15,40 @@ ghost use Rattle.place_table.specs.Verdicts.{verdict_of};
 ghost use Rattle.edition_judge.specs.EditionLine.{side_bars_of, spots_bar_of, bars_of};
 
 use edition::Edition;
-use place_table::Verdict;
 use statement::Statement;
 
 // 8 for the second boundary, `solid_yellow`.
-fn side_bars(boundary: u8) -> Verdict
+fn side_bars(boundary: u8) -> Result<(), u8>
     ensures { result ≡ verdict_of (side_bars_of boundary) }
 {
-    if boundary == 2 {
-        Verdict::Refused(8)
-    } else {
-        Verdict::Taken
-    }
+    if boundary == 2 { Err(8) } else { Ok(()) }
 }
 
 // 9 for no spots.
-fn spots_bar(count: u32) -> Verdict
+fn spots_bar(count: u32) -> Result<(), u8>
     ensures { result ≡ verdict_of (spots_bar_of count) }
 {
-    if count == 0 {
-        Verdict::Refused(9)
-    } else {
-        Verdict::Taken
-    }
+    if count == 0 { Err(9) } else { Ok(()) }
 }
 
 // What the older edition says of a statement that the present one takes.
-fn bars(s: Statement) -> Verdict
+fn bars(s: Statement) -> Result<(), u8>
     ensures { result ≡ verdict_of (bars_of december s) }
 {
     match s {
         Statement::LeftBoundary(b) => side_bars(b),
         Statement::RightBoundary(b) => side_bars(b),
         Statement::NumSpots(n) => spots_bar(n),
-        _ => Verdict::Taken,
+        _ => Ok(()),
     }
 }
 
 // What an edition says of a statement that the present one takes. The present one has every statement.
-pub fn barred(edition: Edition, s: Statement) -> Verdict
+pub fn barred(edition: Edition, s: Statement) -> Result<(), u8>
     ensures { result ≡ verdict_of (bars_of (inner edition) s) }
 {
     match edition {
-        Edition::March2007 => Verdict::Taken,
+        Edition::March2007 => Ok(()),
         Edition::December2006 => bars(s),
     }
 }

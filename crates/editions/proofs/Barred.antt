@@ -1,4 +1,5 @@
 -- THE LAW of an edition's lines: a line gets what it gets in the present edition; but one that says what the edition does not have gets 8 or 9 for it. Assumes nothing.
+use Rattle.std.specs.Prelude.{Ok, Err, Result}
 use mathlib.Core.Path.{◌≡◌, refl, sym, ap, ◌∙◌}
 use mathlib.Core.List.{List, [], ◌∷◌}
 use mathlib.Core.Option.{Option, none, some}
@@ -13,8 +14,6 @@ use Rattle.terms.proofs.Tests.{nothing}
 use Rattle.line.specs.Content.{Field}
 use Rattle.line.specs.Lines.{drop_cr}
 use Rattle.line.specs.Forms.{form_of, fields_at}
-use Rattle.line.specs.declared.Form as Form
-use Rattle.line.specs.declared.Form.TheVariants.{Bad, Body}
 use Rattle.word.specs.Number.{boundary_number, digit_first}
 use Rattle.grammar.specs.Editions.{Edition, march, december, has_boundary}
 use Rattle.grammar.specs.Forms.{tested}
@@ -321,9 +320,9 @@ of-all : (p : Place (rndf Field)) (fs : List Field) → told (places december) (
 of-all p [] = refl
 of-all p (f ∷ fs) = of_fields p f fs
 
-of-form : (p : Place (rndf Field)) (start : ℕ) (content : Bytes) (f : Form.Form) → formed (places december) (rndf_lexis_in december) p start content f ≡ barred december (formed (rndf Field) rndf_lexis p start content f)
-of-form p start content (Bad n) = refl
-of-form p start content (Body e) = of-all p (fields_at start (take e content))
+of-form : (p : Place (rndf Field)) (start : ℕ) (content : Bytes) (f : Result ℕ ℕ) → formed (places december) (rndf_lexis_in december) p start content f ≡ barred december (formed (rndf Field) rndf_lexis p start content f)
+of-form p start content (Err n) = refl
+of-form p start content (Ok e) = of-all p (fields_at start (take e content))
 
 -- the present edition bars nothing
 none-barred : (v : Got) → v ≡ barred march v

@@ -1,13 +1,12 @@
 -- THE THEOREM of "no second reply or memory" for `write_expected` and the library's `kastepuhm_expected`: its contract settles the answer and every byte of the lent output, whatever is chosen where the law leaves room; and with
 -- the words that are told some answer and output satisfy it. Assumes nothing.
+use Rattle.std.specs.Prelude.{Some, None, Option}
 use mathlib.Core.Path.{◌≡◌, refl, sym, ◌∙◌}
 use Prim.Native.Nat.{ℕ}
 use Rattle.terms.specs.Ascii.{Bytes}
 use Rattle.edition.specs.declared.Edition.{Edition}
 use Rattle.output.specs.Ended.{Output}
 use Rattle.output.specs.Pen.{output_of, answer_of}
-use Rattle.output.specs.declared.Finished as DF
-use Rattle.output.specs.declared.Finished.TheVariants.{Written, TooLong}
 use Rattle.output.proofs.Whole.{output-is, answered-written, answered_too-long}
 use Rattle.expected_law.specs.declared.ExpectedAnswer.{ExpectedAnswer}
 use Rattle.expected_law.specs.Tells.{AnswersExpected}
@@ -23,17 +22,17 @@ module _ (e : Edition) (rndf mdf : Bytes) (file line number lent : ℕ) where
       words : Bytes
       words = chosen e rndf mdf file line number
 
-      go : (finished : DF.Finished) → Output lent words (output_of lent words) finished → (a ≡ b) × (out ≡ left)
-      go (Written n) o =
+      go : (finished : Option ℕ) → Output lent words (output_of lent words) finished → (a ≡ b) × (out ≡ left)
+      go (Some n) o =
           let f = (answered-written o).0 in
           ((x.whole f).0 ∙ sym (y.whole f).0, (x.whole f).1 ∙ sym (y.whole f).1)
-      go TooLong o =
+      go None o =
           let f = (answered_too-long o).0 in
           ((x.too_long f).0 ∙ sym (y.too_long f).0, (x.too_long f).1 ∙ sym (y.too_long f).1)
 
-  some : {out : Bytes} (answer : DF.Finished) → Output lent (expected_words_of e rndf mdf file line number) out answer → (a : ExpectedAnswer) × (out : Bytes) × AnswersExpected expected_words_of e rndf mdf file line number lent a out
-  some {out} (Written n) o = (Words.answer_of n, out, answers-whole refl o)
-  some {out} TooLong o = (too_short_of, out, answers-none refl o)
+  some : {out : Bytes} (answer : Option ℕ) → Output lent (expected_words_of e rndf mdf file line number) out answer → (a : ExpectedAnswer) × (out : Bytes) × AnswersExpected expected_words_of e rndf mdf file line number lent a out
+  some {out} (Some n) o = (Words.answer_of n, out, answers-whole refl o)
+  some {out} None o = (too_short_of, out, answers-none refl o)
 
   -- one there is
   pub expected-some : (a : ExpectedAnswer) × (out : Bytes) × AnswersExpected expected_words_of e rndf mdf file line number lent a out

@@ -17,7 +17,7 @@ use expected_lines::{put_mdf_words, put_rndf_words};
 use expected_references::{
     put_entries, put_goals, put_ids, put_missing, put_new_number, put_rndf_name,
 };
-use output::{Finished, clear_output, finish, put_line_end};
+use output::{clear_output, finish, put_line_end};
 
 fn put_of_rndf(
     out: &mut [u8],
@@ -136,7 +136,7 @@ pub fn write_expected(
     let at = put_expected(out, 0, edition, rndf, mdf, file, line, number);
     let finished = finish(out, at);
     match finished {
-        Finished::Written(n) => answer_of(n as u32),
-        Finished::TooLong => too_short(),
+        Some(n) => answer_of(n as u32),
+        None => too_short(),
     }
 }

@@ -1,5 +1,5 @@
 -- Executable: the form of each statement at a place of the program, and the forms of those that may stand there: first the due one, then the options that are still open, by their kinds. Assumes nothing.
-use Rattle.std.specs.Prelude.{List, [], ◌∷◌, ◌++◌, map, Bool, true, false, not, ◌&&◌, ◌||◌, ℕ, zero, suc, ◌-◌, ◌%◌, eqb, ltb}
+use Rattle.std.specs.Prelude.{List, [], ◌∷◌, ◌++◌, map, Bool, true, false, not, ◌&&◌, ◌||◌, ℕ, zero, suc, ◌-◌, ◌%◌, eqb, ltb, ⊤, Ok, Err, Result}
 use Rattle.terms.specs.Words.{pick}
 use Rattle.law.specs.Network.{largest}
 use Rattle.edition.specs.declared.Edition as DE
@@ -10,8 +10,6 @@ use Rattle.place.specs.declared.Open as DO
 use Rattle.place.specs.declared.Open.TheVariants as op
 use Rattle.place.specs.declared.Place.{Place}
 use Rattle.place.specs.Step.{major_of, minor_of, first_marked_of, cell_of, refuses_by, ready_of}
-use Rattle.place_table.specs.declared.Verdict as DV
-use Rattle.place_table.specs.declared.Verdict.TheVariants as verdict
 use Rattle.place_table.specs.RndfRows as rows
 use Rattle.place_table.specs.MdfRows as mission-rows
 use Rattle.mission_place.specs.declared.MissionPlace.{MissionPlace}
@@ -77,9 +75,9 @@ rndf_form_of e p k = record { count = fields_needed_of k; a = first_item_of p k;
 unfoldable pub is_due_of : (table : List (List ℕ)) → Place → (kind : ℕ) → Bool
 is_due_of table p k = ltb (cell_of table p k) 128 && ready_of p
 
-unfoldable pub is_taken : DV.Verdict → Bool
-is_taken verdict.Taken = true
-is_taken (verdict.Refused n) = false
+unfoldable pub is_taken : Result ⊤ ℕ → Bool
+is_taken (Ok _) = true
+is_taken (Err n) = false
 
 unfoldable pub is_open : (table : List (List ℕ)) → Place → (kind : ℕ) → Bool
 is_open table p k = not (ltb (cell_of table p k) 128) && eqb (refuses_by p.given (cell_of table p k)) 0

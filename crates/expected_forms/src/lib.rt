@@ -21,7 +21,7 @@ use made_out::{fields_needed, order_fields_needed};
 use mission_place::MissionPlace;
 use output::{put_bytes, put_integer};
 use place::{Open, Place};
-use place_table::{OFTEN, Verdict, mdf, rndf};
+use place_table::{OFTEN, mdf, rndf};
 use statement::{kinds, orders};
 
 // The largest number of document 01.
@@ -198,12 +198,12 @@ fn is_due_kind(table: &[[u8; 30]; 27], p: Place, kind: u8) -> bool
 }
 
 // 6 and 5 are refused alike: an option given again is not listed.
-fn is_taken(verdict: Verdict) -> bool
+fn is_taken(verdict: Result<(), u8>) -> bool
     ensures { result ≡ is_taken verdict }
 {
     match verdict {
-        Verdict::Taken => true,
-        Verdict::Refused(_) => false,
+        Ok(()) => true,
+        Err(_) => false,
     }
 }
 

@@ -1,12 +1,10 @@
 -- Executable: what is told of a line that is refused for its form, from the place behind the lines before it. Assumes nothing.
-use Rattle.std.specs.Prelude.{Bool, false, ◌||◌, List, [], ℕ, eqb, ltb, take}
+use Rattle.std.specs.Prelude.{Bool, false, ◌||◌, List, [], ℕ, eqb, ltb, take, Some, None, Option}
 use Rattle.terms.specs.Ascii.{Bytes}
 use Rattle.terms.specs.Words.{pick}
 use Rattle.scan.specs.Reach.{up_to}
 use Rattle.line.specs.Forms.{opens, fields_in_of, part}
 use Rattle.number.specs.Executable.{the_integer_of}
-use Rattle.number.specs.declared.Number as DN
-use Rattle.number.specs.declared.Number.TheVariants as Number
 use Rattle.edition.specs.declared.Edition.{Edition}
 use Rattle.place.specs.declared.Place.{Place}
 use Rattle.mission_place.specs.declared.MissionPlace.{MissionPlace}
@@ -18,11 +16,7 @@ use Rattle.mission_judge.specs.MdfLine.{mdf_kind}
 use Rattle.columns.specs.RndfColumns.{rndf_field_of}
 use Rattle.columns.specs.MdfColumns.{mdf_field_of}
 use Rattle.column.specs.Before.{place_before_of}
-use Rattle.column.specs.declared.Standing as DS
-use Rattle.column.specs.declared.Standing.TheVariants as Standing
 use Rattle.mission_column.specs.Before.{mission_place_before_of}
-use Rattle.mission_column.specs.declared.MissionStanding as DM
-use Rattle.mission_column.specs.declared.MissionStanding.TheVariants as Mission
 use Rattle.shown.specs.Shown.{line_in}
 use Rattle.expected_law.specs.Expected.{lines, fields, field}
 use Rattle.expected_law.specs.Telling.{told}
@@ -52,9 +46,9 @@ fields_words e table s p n = pick (ltb (rndf_kind (part s (fields_in_of s).a)) 3
 unfoldable pub rndf_line_words : Edition → Bytes → Place → ℕ → Bytes
 rndf_line_words e s p n = pick (lists n) (told (lines (the_owed_of p) (forms_at e rndf_table_of p))) (fields_words e rndf_table_of (take (up_to opens s) s) p n)
 
-abbrev pub rndf_behind : Edition → Bytes → ℕ → DS.Standing → Bytes
-rndf_behind e s n Standing.No = []
-rndf_behind e s n (Standing.At p) = rndf_line_words e s p n
+abbrev pub rndf_behind : Edition → Bytes → ℕ → Option Place → Bytes
+rndf_behind e s n None = []
+rndf_behind e s n (Some p) = rndf_line_words e s p n
 
 -- of line i of a text, with the refusal n
 unfoldable pub rndf_words : Edition → Bytes → (i n : ℕ) → Bytes
@@ -62,10 +56,10 @@ rndf_words e text i n = rndf_behind e (line_in text i) n (place_before_of text i
 
 -- ## MDF
 -- are a limit's id and minimum permitted, with no ceiling behind them?
-unfoldable pub goes_on_of : DN.Number → DN.Number → Bool
-goes_on_of Number.No m = false
-goes_on_of (Number.Is i) Number.No = false
-goes_on_of (Number.Is i) (Number.Is m) = permits_of (or.Limit i m 0)
+unfoldable pub goes_on_of : Option ℕ → Option ℕ → Bool
+goes_on_of None m = false
+goes_on_of (Some i) None = false
+goes_on_of (Some i) (Some m) = permits_of (or.Limit i m 0)
 
 -- a limit's maximum, behind such an id and minimum; else by itself
 unfoldable pub maximum_words : Bytes → Bytes
@@ -81,9 +75,9 @@ order_fields_words table s p n = pick (ltb (mdf_kind p (part s (fields_in_of s).
 unfoldable pub mdf_line_words : Bytes → MissionPlace → ℕ → Bytes
 mdf_line_words s p n = pick (lists n) (told (lines (owed_orders_of p) (order_forms_at mdf_table_of p))) (order_fields_words mdf_table_of (take (up_to opens s) s) p n)
 
-abbrev pub mdf_behind : Bytes → ℕ → DM.MissionStanding → Bytes
-mdf_behind s n Mission.No = []
-mdf_behind s n (Mission.At p) = mdf_line_words s p n
+abbrev pub mdf_behind : Bytes → ℕ → Option MissionPlace → Bytes
+mdf_behind s n None = []
+mdf_behind s n (Some p) = mdf_line_words s p n
 
 unfoldable pub mdf_words : Bytes → (i n : ℕ) → Bytes
 mdf_words text i n = mdf_behind (line_in text i) n (mission_place_before_of text i)

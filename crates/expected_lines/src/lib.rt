@@ -10,14 +10,14 @@ ghost use Rattle.std.specs.Prelude.{◌≡◌};
 ghost use Rattle.output.specs.Pen.{pen, Wrote};
 ghost use Rattle.expected_lines.specs.Words.{lists, lists_field_of, item_at, kind_words, fields_words, rndf_line_words, rndf_words, goes_on_of, maximum_words, order_words, order_fields_words, mdf_line_words, mdf_words};
 
-use column::{Standing, field_at_fault, place_before};
+use column::{field_at_fault, place_before};
 use edition::Edition;
 use expected_forms::{order_form, put_field, put_fields, put_mdf_lines, put_rndf_lines, rndf_form};
 use expected_words::{Form, Item};
 use line::fields_of;
-use mission_column::{MissionStanding, mission_field_at_fault, mission_place_before};
+use mission_column::{mission_field_at_fault, mission_place_before};
 use mission_place::MissionPlace;
-use number::{Number, integer_of};
+use number::integer_of;
 use place::Place;
 use place_table::{mdf_table, rndf_table};
 use scan::two_from;
@@ -141,7 +141,7 @@ pub fn put_rndf_words(
 ) -> usize
     ensures { Wrote (pen out.old at) (rndf_words edition text.now line number) (pen out.new result) }
 {
-    let Standing::At(place) = place_before(text, line) else {
+    let Some(place) = place_before(text, line) else {
         return at;
     };
     put_rndf_line(out, at, edition, line_of(text, line), place, number)
@@ -150,13 +150,13 @@ pub fn put_rndf_words(
 // ## An MDF
 
 // Are a limit's id and minimum permitted, with no ceiling behind them?
-fn goes_on(i: Number, m: Number) -> bool
+fn goes_on(i: Option<u32>, m: Option<u32>) -> bool
     ensures { result ≡ goes_on_of i m }
 {
-    let Number::Is(id) = i else {
+    let Some(id) = i else {
         return false;
     };
-    let Number::Is(minimum) = m else {
+    let Some(minimum) = m else {
         return false;
     };
     permitted::limited(id, minimum, 0)
@@ -241,7 +241,7 @@ fn put_mdf_line(out: &mut [u8], at: usize, s: &[u8], p: MissionPlace, number: u8
 pub fn put_mdf_words(out: &mut [u8], at: usize, text: &[u8], line: u32, number: u8) -> usize
     ensures { Wrote (pen out.old at) (mdf_words text.now line number) (pen out.new result) }
 {
-    let MissionStanding::At(place) = mission_place_before(text, line) else {
+    let Some(place) = mission_place_before(text, line) else {
         return at;
     };
     put_mdf_line(out, at, line_of(text, line), place, number)

@@ -1,4 +1,5 @@
 -- The kind and the fields of a line, by what it says: in each edition. Assumes nothing.
+use Rattle.std.specs.Prelude.{Some}
 use mathlib.Core.Path.{◌≡◌, refl, sym, ap, ◌∙◌}
 use mathlib.Core.List.{List, [], ◌∷◌, ◌++◌, head-eq_of_cons-eq, tail-eq_of_cons-eq, nil≢cons, cons≢nil}
 use mathlib.Core.Bool.{true}
@@ -23,8 +24,6 @@ use Rattle.line.proofs.Spans.{fields-listed}
 use Rattle.number.specs.Decimal.{decimal}
 use Rattle.number.specs.House.{house_integer, house_triple}
 use Rattle.number.specs.Executable.{the_integer_of, triple_of}
-use Rattle.number.specs.declared.Number.TheVariants as N
-use Rattle.number.specs.declared.Triple.TheVariants as T
 use Rattle.number.proofs.House.{house-integer-first}
 use Rattle.number.proofs.Integers.{integer-only}
 use Rattle.number.proofs.Identifiers.{triple-only}
@@ -160,11 +159,11 @@ module _ (d : Edition) {start : ℕ} {l : Bytes} where
       go [] e s = absurd s
       go (f ∷ fs) e s = kind-first d h ∙ digit-kind (first_of (body_of l)) (ap digit_first (first_on d h f fs e ∙ s.0.0) ∙ numbers-first n i)
 
-  pub point-is : (x y z : ℕ) (others : Line) → Says (reading d) start l (numbers (x ∷ y ∷ z ∷ []) ∷ others) → triple_of (field_on_of 0 l) ≡ T.Is (record { x = x; y = y; z = z })
+  pub point-is : (x y z : ℕ) (others : Line) → Says (reading d) start l (numbers (x ∷ y ∷ z ∷ []) ∷ others) → triple_of (field_on_of 0 l) ≡ Some (record { x = x; y = y; z = z })
   unfolding house_triple
   point-is x y z others h = go h.fields refl h.spelled
     where
-      go : (fs : List Field) → h.fields ≡ fs → SpellFields d fs (numbers (x ∷ y ∷ z ∷ []) ∷ others) → triple_of (field_on_of 0 l) ≡ T.Is (record { x = x; y = y; z = z })
+      go : (fs : List Field) → h.fields ≡ fs → SpellFields d fs (numbers (x ∷ y ∷ z ∷ []) ∷ others) → triple_of (field_on_of 0 l) ≡ Some (record { x = x; y = y; z = z })
       go [] e s = absurd s
       go (f ∷ fs) e s = triple-only (field_on_of 0 l) x y z (record { spelled = on-first d h f fs e ∙ s.0.0 ∙ sym (in_dots x y z); x_five_digits = s.0.1.0; y_five_digits = s.0.1.1.0; z_five_digits = s.0.1.1.1.0 })
 
@@ -198,11 +197,11 @@ module _ (d : Edition) {start : ℕ} {l : Bytes} where
       go (f ∷ g ∷ fs) e s = on-second d h f g fs e ∙ ap (λ (x : Field). x.bytes) s.1.0.0
 
   -- the identifier in the second
-  pub second-point : (a : Said) (x y z : ℕ) (others : Line) → Says (reading d) start l (a ∷ numbers (x ∷ y ∷ z ∷ []) ∷ others) → triple_of (field_on_of 1 l) ≡ T.Is (record { x = x; y = y; z = z })
+  pub second-point : (a : Said) (x y z : ℕ) (others : Line) → Says (reading d) start l (a ∷ numbers (x ∷ y ∷ z ∷ []) ∷ others) → triple_of (field_on_of 1 l) ≡ Some (record { x = x; y = y; z = z })
   unfolding house_triple
   second-point a x y z others h = go h.fields refl h.spelled
     where
-      go : (fs : List Field) → h.fields ≡ fs → SpellFields d fs (a ∷ numbers (x ∷ y ∷ z ∷ []) ∷ others) → triple_of (field_on_of 1 l) ≡ T.Is (record { x = x; y = y; z = z })
+      go : (fs : List Field) → h.fields ≡ fs → SpellFields d fs (a ∷ numbers (x ∷ y ∷ z ∷ []) ∷ others) → triple_of (field_on_of 1 l) ≡ Some (record { x = x; y = y; z = z })
       go [] e s = absurd s
       go (f ∷ []) e s = absurd s.1
       go (f ∷ g ∷ fs) e s = triple-only (field_on_of 1 l) x y z (record { spelled = on-second d h f g fs e ∙ s.1.0.0 ∙ sym (in_dots x y z); x_five_digits = s.1.0.1.0; y_five_digits = s.1.0.1.1.0; z_five_digits = s.1.0.1.1.1.0 })

@@ -1,5 +1,5 @@
 -- Executable: what the lines of an RNDF and of an MDF name, by their first fields: no line is judged, so of texts that are not well-formed nothing is promised (`expected_named` is of those that are). Assumes nothing.
-use Rattle.std.specs.Prelude.{List, [], ◌∷◌, Bool, true, false, ◌||◌, ℕ, zero, suc, ◌-◌, take, eqb, ltb}
+use Rattle.std.specs.Prelude.{List, [], ◌∷◌, Bool, true, false, ◌||◌, ℕ, zero, suc, ◌-◌, take, eqb, ltb, Some, None, Option}
 use Rattle.terms.specs.Ascii.{Bytes}
 use Rattle.terms.specs.Words.{pick}
 use Rattle.line.specs.Lines.{lines_of}
@@ -7,11 +7,7 @@ use Rattle.line.specs.Forms.{fields_in_of, part}
 use Rattle.line.specs.declared.Span.{Span}
 use Rattle.line.specs.declared.Fields.{Fields}
 use Rattle.number.specs.Executable.{the_integer_of, triple_of}
-use Rattle.number.specs.declared.Number as DN
-use Rattle.number.specs.declared.Number.TheVariants as N
 use Rattle.number.specs.declared.Id.{Id}
-use Rattle.number.specs.declared.Triple as DT
-use Rattle.number.specs.declared.Triple.TheVariants as T
 use Rattle.law.specs.Network.{PointId}
 use Rattle.fill.specs.FirstFaults.{is_among}
 use Rattle.refusal.specs.Size.{if_too_long}
@@ -30,16 +26,16 @@ body_of l = take (fields_end_of l) l
 unfoldable pub field_on_of : ℕ → Bytes → Bytes
 field_on_of i l = part (body_of l) (span_of (fields_in_of (body_of l)) i)
 
-abbrev pub id_of : DT.Triple → Id
-id_of (T.Is i) = i
-id_of T.No = record { x = 0; y = 0; z = 0 }
+abbrev pub id_of : Option Id → Id
+id_of (Some i) = i
+id_of None = record { x = 0; y = 0; z = 0 }
 
 abbrev pub point_of : Id → PointId
 point_of i = record { x = i.x; y = i.y; z = i.z }
 
-abbrev pub number_in : DN.Number → ℕ
-number_in (N.Is n) = n
-number_in N.No = 0
+abbrev pub number_in : Option ℕ → ℕ
+number_in (Some n) = n
+number_in None = 0
 
 unfoldable pub number_on_of : ℕ → Bytes → ℕ
 number_on_of i l = number_in (the_integer_of (field_on_of i l))

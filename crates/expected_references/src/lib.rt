@@ -22,7 +22,7 @@ use expected_words::{put_and_more, put_point_words};
 use find_line::{fields_end, mdf_line_kind, rndf_line_kind};
 use line::{Fields, Span, fields_of};
 use marks::{is_marked, mark};
-use number::{Id, Number, Triple, integer_of, triple_of};
+use number::{Id, integer_of, triple_of};
 use output::{put_bytes, put_integer};
 use refusal::LONGEST_TEXT;
 use scan::far_byte_from;
@@ -55,22 +55,22 @@ fn field_on(line: &[u8], i: u8) -> &[u8]
 }
 
 // What is no identifier is 0.0.0.
-fn id_of(t: Triple) -> Id
+fn id_of(t: Option<Id>) -> Id
     ensures { result ≡ id_of t }
 {
     match t {
-        Triple::Is(i) => i,
-        Triple::No => Id { x: 0, y: 0, z: 0 },
+        Some(i) => i,
+        None => Id { x: 0, y: 0, z: 0 },
     }
 }
 
 // What is no number is 0.
-fn number_in(n: Number) -> u32
+fn number_in(n: Option<u32>) -> u32
     ensures { result ≡ number_in n }
 {
     match n {
-        Number::Is(v) => v,
-        Number::No => 0,
+        Some(v) => v,
+        None => 0,
     }
 }
 

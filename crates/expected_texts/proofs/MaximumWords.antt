@@ -1,4 +1,5 @@
 -- What is told of a limit's maximum goes by the two fields before it; the field at fault is the third only of a line with three fields. Assumes nothing.
+use Rattle.std.specs.Prelude.{Some, None, Option}
 use mathlib.Core.Path.{◌≡◌, refl, sym, ap, subst, ◌∙◌}
 use mathlib.Core.List.{List, [], ◌∷◌, tail-eq_of_cons-eq}
 use mathlib.Core.Bool.{Bool, true, false}
@@ -15,8 +16,6 @@ use Rattle.line.specs.Forms as Forms
 use Rattle.line.specs.declared.Fields.{Fields}
 use Rattle.line.proofs.Spans.{fields-listed}
 use Rattle.number.specs.Executable.{the_integer_of}
-use Rattle.number.specs.declared.Number as DN
-use Rattle.number.specs.declared.Number.TheVariants as Number
 use Rattle.grammar.specs.PlaceTable.{mdf_table_of}
 use Rattle.text.specs.Judge.{number, read}
 use Rattle.statement.specs.declared.Order.TheVariants as or
@@ -60,11 +59,11 @@ told-picked : (x : Bool) (a b : Expectation) → pick x (told a) (told b) ≡ to
 told-picked true a b = refl
 told-picked false a b = refl
 
-by-numbers : (minimum : Bytes) (x y : DN.Number) → pick (goes_on_of x y) (told (field minimum (law_item Item.Maximum))) (told (field [] (law_item (Item.Number 0 32768)))) ≡ told (maximum_told minimum (number x) (number y))
+by-numbers : (minimum : Bytes) (x y : Option ℕ) → pick (goes_on_of x y) (told (field minimum (law_item Item.Maximum))) (told (field [] (law_item (Item.Number 0 32768)))) ≡ told (maximum_told minimum (number x) (number y))
 unfolding goes_on_of is_limit
-by-numbers minimum Number.No y = refl
-by-numbers minimum (Number.Is i) Number.No = refl
-by-numbers minimum (Number.Is i) (Number.Is m) = told-picked (permits_of (or.Limit i m 0)) _ _
+by-numbers minimum None y = refl
+by-numbers minimum (Some i) None = refl
+by-numbers minimum (Some i) (Some m) = told-picked (permits_of (or.Limit i m 0)) _ _
 
 two-before : (s : Bytes) (f g : Field) (gs : List Field) → field_in 0 s (fields_in_of s).a ≡ f → field_in 0 s (fields_in_of s).b ≡ g → maximum_words s ≡ told (maximum_behind (f ∷ g ∷ gs))
 unfolding maximum_words read

@@ -1,4 +1,5 @@
 -- Of line i of an MDF that is refused: the place that the program finds before it is sound, and lines that say what stands before it lead there; so what it lists is expected. Assumes nothing.
+use Rattle.std.specs.Prelude.{Some, Option}
 use mathlib.Core.Path.{◌≡◌, refl, sym, ap, subst, ◌∙◌}
 use mathlib.Core.List.{List, [], ◌∷◌, ◌++◌, append-nil}
 use mathlib.Core.Bool.{Bool, true, false}
@@ -38,8 +39,6 @@ use Rattle.mission_judge.specs.MdfLine.{mdf_judging}
 use Rattle.mission_judge.proofs.MdfTies.{mdf_ties}
 use Rattle.refusal.specs.Size.{most}
 use Rattle.mission_column.specs.Before.{arrive_from, standing, mission_place_before_of}
-use Rattle.mission_column.specs.declared.MissionStanding as DS
-use Rattle.mission_column.specs.declared.MissionStanding.TheVariants as Standing
 use Rattle.mission_column.proofs.Lines.{place-before}
 use Rattle.expected_law.specs.Expected.{lines, ExpectedBehind, Expected, unknown}
 use Rattle.expected_forms.specs.Forms.{order_forms_at, owed_orders_of}
@@ -48,7 +47,7 @@ use Rattle.expected_places.proofs.MdfPlaces.{MdfCame, mdf_expects}
 
 -- ## The walk to line i, in front of these lines
 module _ (i : ℕ) where
-  stops : (p : DP.MissionPlace) (start : ℕ) (ls : List Bytes) → standing (arrive_from p start i i ls) ≡ Standing.At p
+  stops : (p : DP.MissionPlace) (start : ℕ) (ls : List Bytes) → standing (arrive_from p start i i ls) ≡ Some p
   unfolding arrive_from
   stops p start [] = refl
   stops p start (l ∷ ls) = rw (eq-eqb i i refl) refl
@@ -61,14 +60,14 @@ module _ (i : ℕ) where
   unfolding arrive_from
   moves p start j l ls n s q e = rw (ne_eqb j i n, e) refl
 
-  abbrev to-line : (rest : List Bytes) → LineWalk mdf_judging i rest DS.MissionStanding
-  to-line rest = record { walk = λ p start j ls. standing (arrive_from p start j i ls); stands = Standing.At; stops = λ p start. stops p start rest; passes = passes; moves = moves }
+  abbrev to-line : (rest : List Bytes) → LineWalk mdf_judging i rest (Option DP.MissionPlace)
+  to-line rest = record { walk = λ p start j ls. standing (arrive_from p start j i ls); stands = Some; stops = λ p start. stops p start rest; passes = passes; moves = moves }
 
 module _ (e : DE.Edition) (text : Bytes) (size : length text ≤ most) where
   -- the place before line i: it is sound, and statements that say what stands there lead to it
   pub record MdfStands (i : ℕ) (front : List Line) : Type 0 where
     pub place : DP.MissionPlace
-    pub found : mission_place_before_of text i ≡ Standing.At place
+    pub found : mission_place_before_of text i ≡ Some place
     pub sound : Sound place
     pub said : List (S (Mdf.orders Field))
     pub is : front ≡ laws the_mdf_line_of said

@@ -1,4 +1,5 @@
 -- THE THEOREMS of an MDF: what is told of line i of a text is told of what the law expects there: 5 to 9 and 25 in that line, 10 behind the last; nothing of 2, 3 and 4. Assumes nothing.
+use Rattle.std.specs.Prelude.{Some, None}
 use mathlib.Core.Path.{◌≡◌, refl, sym, ap, subst, ◌∙◌}
 use mathlib.Core.List.{List, [], ◌∷◌, map}
 use mathlib.Core.Option.{Option, none, some}
@@ -45,8 +46,6 @@ use Rattle.columns.proofs.MdfTies.{mdf_locates}
 use Rattle.refusal.specs.Size.{most}
 use Rattle.shown.specs.Shown.{line_in}
 use Rattle.mission_column.specs.Before.{mission_place_before_of}
-use Rattle.mission_column.specs.declared.MissionStanding as DS
-use Rattle.mission_column.specs.declared.MissionStanding.TheVariants as Standing
 use Rattle.expected_law.specs.Expected.{Item, Form, Expectation, lines as told-lines, fields, field, ExpectedBehind, Expected, unknown}
 use Rattle.expected_law.specs.Telling.{told}
 use Rattle.expected_words.specs.Items.{law_item, law_form}
@@ -64,10 +63,11 @@ use Rattle.expected_texts.proofs.ItemOf.{item-is}
 use Rattle.expected_texts.proofs.MaximumWords.{maximum-is}
 use Rattle.expected_texts.proofs.OfLine.{of-bytes, of_field, of-line, may_stand}
 use Rattle.expected_texts.proofs.MdfTexts.{MdfStands, mdf-line-told, mdf-end-told, mdf-lists-there}
+use Rattle.std.specs.Prelude as Rust
 
 module _ (e : DE.Edition) where
   -- ## The words at a place
-  at_place : (text : Bytes) (i n : ℕ) (p : DP.MissionPlace) → mission_place_before_of text i ≡ Standing.At p → mdf_words text i n ≡ mdf_line_words (line_in text i) p n
+  at_place : (text : Bytes) (i n : ℕ) (p : DP.MissionPlace) → mission_place_before_of text i ≡ Some p → mdf_words text i n ≡ mdf_line_words (line_in text i) p n
   unfolding mdf_words
   at_place text i n p q = ap (mdf_behind (line_in text i) n) q
 
@@ -105,9 +105,9 @@ module _ (e : DE.Edition) where
   unfolding mdf_words
   mdf-no-words text i n a = go (mission_place_before_of text i)
     where
-      go : (x : DS.MissionStanding) → mdf_behind (line_in text i) n x ≡ []
-      go Standing.No = refl
-      go (Standing.At p) = let q = of-bytes n a in no_fields (line_in text i) p n q.0 q.1 q.2
+      go : (x : Rust.Option DP.MissionPlace) → mdf_behind (line_in text i) n x ≡ []
+      go None = refl
+      go (Some p) = let q = of-bytes n a in no_fields (line_in text i) p n q.0 q.1 q.2
 
   -- ## 7
   seven : (text : Bytes) (i : ℕ) (p : DP.MissionPlace) {f : Field} {fs : List Field} (l : Lined text i f fs) (k : Kind) → mdf_kind p f.bytes ≡ mission_kind_row k → mdf_line_words (line_in text i) p 7 ≡ told (fields (law_form (order_form_of (mdf_kind p f.bytes))))

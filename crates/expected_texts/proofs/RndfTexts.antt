@@ -1,4 +1,5 @@
 -- Of line i of an RNDF that is refused: the place that the program finds before it is sound, and lines that say what stands before it lead there; so what it lists is expected. Assumes nothing.
+use Rattle.std.specs.Prelude.{Some, Option}
 use mathlib.Core.Path.{◌≡◌, refl, sym, ap, subst, ◌∙◌}
 use mathlib.Core.List.{List, [], ◌∷◌, ◌++◌, append-nil}
 use mathlib.Core.Bool.{Bool, true, false}
@@ -42,8 +43,6 @@ use Rattle.judge.specs.RndfLine.{rndf_judging}
 use Rattle.judge.proofs.RndfTies.{rndf_ties}
 use Rattle.refusal.specs.Size.{most}
 use Rattle.column.specs.Before.{lines_before, place_after_of, place_before_of}
-use Rattle.column.specs.declared.Standing as DS
-use Rattle.column.specs.declared.Standing.TheVariants as Standing
 use Rattle.column.proofs.Places.{place-before}
 use Rattle.expected_law.specs.Expected.{lines, ExpectedBehind, Expected, unknown}
 use Rattle.expected_forms.specs.Forms.{forms_at, the_owed_of}
@@ -52,7 +51,7 @@ use Rattle.expected_places.proofs.RndfPlaces.{RndfCame, rndf_expects}
 
 -- ## The walk to line i, in front of these lines
 module _ (i : ℕ) where
-  stops : (p : DP.Place) (start : ℕ) (ls : List Bytes) → place_after_of p start (lines_before i i ls) ≡ Standing.At p
+  stops : (p : DP.Place) (start : ℕ) (ls : List Bytes) → place_after_of p start (lines_before i i ls) ≡ Some p
   unfolding place_after_of lines_before
   stops p start [] = refl
   stops p start (l ∷ ls) = rw (eq-eqb i i refl) refl
@@ -65,14 +64,14 @@ module _ (i : ℕ) where
   unfolding place_after_of lines_before
   moves p start j l ls n s q e = rw (ne_eqb j i n, e) refl
 
-  abbrev to-line : (rest : List Bytes) → LineWalk rndf_judging i rest DS.Standing
-  to-line rest = record { walk = λ p start j ls. place_after_of p start (lines_before j i ls); stands = Standing.At; stops = λ p start. stops p start rest; passes = passes; moves = moves }
+  abbrev to-line : (rest : List Bytes) → LineWalk rndf_judging i rest (Option DP.Place)
+  to-line rest = record { walk = λ p start j ls. place_after_of p start (lines_before j i ls); stands = Some; stops = λ p start. stops p start rest; passes = passes; moves = moves }
 
 module _ (e : DE.Edition) (text : Bytes) (size : length text ≤ most) where
   -- the place before line i: it is sound, and statements that say what stands there lead to it
   pub record RndfStands (i : ℕ) (front : List Line) : Type 0 where
     pub place : DP.Place
-    pub found : place_before_of text i ≡ Standing.At place
+    pub found : place_before_of text i ≡ Some place
     pub sound : Sound place
     pub said : List (S (Rndf.lines Field))
     pub is : front ≡ laws (rndf_line_in_of (inner e)) said

@@ -1,4 +1,5 @@
 -- THE THEOREMS of an RNDF: what is told of line i of a text is told of what the law expects there: 5 to 9 and 25 in that line, 10 behind the last; nothing of 2, 3 and 4. Assumes nothing.
+use Rattle.std.specs.Prelude.{Some, None}
 use mathlib.Core.Path.{◌≡◌, refl, sym, ap, subst, ◌∙◌}
 use mathlib.Core.List.{List, [], ◌∷◌, map}
 use mathlib.Core.Option.{Option, none, some}
@@ -48,8 +49,6 @@ use Rattle.columns.proofs.RndfTies.{rndf_locates}
 use Rattle.refusal.specs.Size.{most}
 use Rattle.shown.specs.Shown.{line_in}
 use Rattle.column.specs.Before.{place_before_of}
-use Rattle.column.specs.declared.Standing as DS
-use Rattle.column.specs.declared.Standing.TheVariants as Standing
 use Rattle.expected_law.specs.Expected.{Item, Form, Expectation, lines as told-lines, fields, field, ExpectedBehind, Expected, unknown}
 use Rattle.expected_law.specs.Telling.{told}
 use Rattle.expected_words.specs.Items.{law_item, law_form}
@@ -66,10 +65,11 @@ use Rattle.expected_texts.proofs.Lined.{Lined, lined}
 use Rattle.expected_texts.proofs.ItemOf.{item-is}
 use Rattle.expected_texts.proofs.OfLine.{of-bytes, of_field, of-line, may_stand}
 use Rattle.expected_texts.proofs.RndfTexts.{RndfStands, rndf-line-told, rndf-end-told, rndf-lists-there}
+use Rattle.std.specs.Prelude as Rust
 
 module _ (e : DE.Edition) where
   -- ## The words at a place
-  at_place : (text : Bytes) (i n : ℕ) (p : DP.Place) → place_before_of text i ≡ Standing.At p → rndf_words e text i n ≡ rndf_line_words e (line_in text i) p n
+  at_place : (text : Bytes) (i n : ℕ) (p : DP.Place) → place_before_of text i ≡ Some p → rndf_words e text i n ≡ rndf_line_words e (line_in text i) p n
   unfolding rndf_words
   at_place text i n p q = ap (rndf_behind e (line_in text i) n) q
 
@@ -107,9 +107,9 @@ module _ (e : DE.Edition) where
   unfolding rndf_words
   rndf-no-words text i n a = go (place_before_of text i)
     where
-      go : (x : DS.Standing) → rndf_behind e (line_in text i) n x ≡ []
-      go Standing.No = refl
-      go (Standing.At p) = let q = of-bytes n a in no_fields (line_in text i) p n q.0 q.1 q.2
+      go : (x : Rust.Option DP.Place) → rndf_behind e (line_in text i) n x ≡ []
+      go None = refl
+      go (Some p) = let q = of-bytes n a in no_fields (line_in text i) p n q.0 q.1 q.2
 
   -- ## 7
   seven : (text : Bytes) (i : ℕ) (p : DP.Place) {f : Field} {fs : List Field} (l : Lined text i f fs) (k : Kind) → rndf_kind f.bytes ≡ kind_row k → rndf_line_words e (line_in text i) p 7 ≡ told (fields (law_form (rndf_form_of e p (rndf_kind f.bytes))))

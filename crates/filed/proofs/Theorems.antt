@@ -1,4 +1,6 @@
 -- SAME WRITING, SAME YARD, from the contracts of the writers alone, in each edition. Assumes nothing.
+use Rattle.std.specs.Prelude.{None, Ok, Err}
+use Rattle.writings.specs.Types.{WriteMdfReply, WriteReply}
 use mathlib.Core.Path.{◌≡◌, refl, sym, ap, subst, ◌∙◌}
 use mathlib.Core.Logic.{◌↔◌}
 use Prim.Native.Nat.{ℕ, ◌≤◌, ◌-◌}
@@ -23,15 +25,9 @@ use Rattle.rows.specs.declared.FileRow.{FileRow}
 use Rattle.rows.specs.declared.MissionFileRow.{MissionFileRow}
 use Rattle.counts.specs.declared.Counts.{Counts}
 use Rattle.counts.specs.declared.MissionCounts.{MissionCounts}
-use Rattle.replies.specs.declared.RndfReply.TheVariants as Reply
-use Rattle.replies.specs.declared.PairReply.TheVariants as Pair
 use Rattle.replies.specs.Replies.{rows_used_of, network_file, mission_file_of}
 use Rattle.replies.specs.Short.{AcceptsRndf, AcceptsMdf}
 use Rattle.replies.proofs.Said.{never_both, pair-never-both}
-use Rattle.writings.specs.declared.WriteReply.{WriteReply}
-use Rattle.writings.specs.declared.WriteReply.TheVariants as Write
-use Rattle.writings.specs.declared.WriteMdfReply.{WriteMdfReply}
-use Rattle.writings.specs.declared.WriteMdfReply.TheVariants as WriteMdf
 use Rattle.writings.specs.Writes.{WritesRndf, WritesMdf}
 use Rattle.writings.specs.Writes as W
 use Rattle.writings.proofs.Said.{wrote-or-not, mdf-wrote-or-not}
@@ -43,7 +39,6 @@ use Rattle.promises.proofs.PairPromises.{spelled-pair-accepted}
 use Rattle.return_trip.specs.ReadBack.{RoomFor, MissionRoomFor}
 use Rattle.return_trip.proofs.Written.{RndfWritten, rndf-written, MdfWritten, mdf-written}
 use Rattle.return_trip.proofs.Writings.{rndf-written-again, mdf-written-again}
-use Rattle.compared.specs.declared.Difference.TheVariants.{Nowhere}
 use Rattle.compared.specs.Compared.{first_difference_of}
 use Rattle.compared.proofs.Means.{nowhere-equal}
 use Rattle.filed.specs.Filed.{Alike, Again, Filed, SameYard, WrittenIfFits, WrittenAgain, MdfFiled, SameOrders, MissionWrittenIfFits, MissionWrittenAgain}
@@ -120,12 +115,12 @@ mission-again_anywhere edition edition' mdf writing again w w' =
 
 -- ## The premise: what was written is a writing that fits
 abbrev long_in : WriteReply → ℕ
-long_in (Write.Written c file k) = k
-long_in (Write.Refused why) = 0
+long_in (Ok (c, file, k)) = k
+long_in (Err why) = 0
 
 abbrev mdf-long_in : WriteMdfReply → ℕ
-mdf-long_in (WriteMdf.Written c file d own k) = k
-mdf-long_in (WriteMdf.Refused why) = 0
+mdf-long_in (Ok (c, file, d, own, k)) = k
+mdf-long_in (Err why) = 0
 
 -- an output holds one writing of a length
 one-held : (lent : ℕ) (x y out : Bytes) → length x ≡ length y → out ≡ padded lent x → out ≡ padded lent y → x ≡ y
@@ -133,16 +128,16 @@ one-held lent x y out e p q = sym (take_at x (zero_bytes (lent - length x)) (len
 
 module _ (edition : Edition) (text : Bytes) (t : Lent) (lent : ℕ) where
   fits-written : (reply : WriteReply) (left : Lent) (out writing : Bytes) → WritesRndf (rules_of edition) text t lent reply left out → (n : Network Field) × AcceptsRndf (rules_of edition) text t n × HouseRndf n writing × Fits lent writing
-      → (c : Counts) × (file : FileRow) × (reply ≡ Write.Written c file (length writing)) × (out ≡ padded lent writing)
-  fits-written reply left out writing (W.refused why r e z) (n, a, g, f) = absurd (never_both (sym (spelled-accepted edition text t (Reply.Refused why) left r n a).0))
+      → (c : Counts) × (file : FileRow) × (reply ≡ Ok (c, file, length writing)) × (out ≡ padded lent writing)
+  fits-written reply left out writing (W.refused why r e z) (n, a, g, f) = absurd (never_both (sym (spelled-accepted edition text t (Err why) left r n a).0))
   fits-written reply left out writing (W.too_long y f' e p z) (n, a, g, f) =
       let q : writing ≡ y.writing = house-rndf-only n writing g ∙ ap house_rndf (one-spelled edition text n y.meant a.spelled y.accepted.spelled) ∙ sym (house-rndf-only y.meant y.writing y.wrote) in
       absurd (f' (subst (Fits lent) q f))
   fits-written reply left out writing (W.written y f' e p z) (n, a, g, f) =
       let q : y.writing ≡ writing = house-rndf-only y.meant y.writing y.wrote ∙ ap house_rndf (one-spelled edition text y.meant n y.accepted.spelled a.spelled) ∙ sym (house-rndf-only n writing g) in
-      (rows_used_of y.meant, network_file y.meant, e ∙ ap (λ (x : Bytes). Write.Written (rows_used_of y.meant) (network_file y.meant) (length x)) q, z ∙ ap (padded lent) q)
+      (rows_used_of y.meant, network_file y.meant, e ∙ ap (λ (x : Bytes). Ok (rows_used_of y.meant, network_file y.meant, length x)) q, z ∙ ap (padded lent) q)
 
-  written-fits : (reply : WriteReply) (left : Lent) (out writing : Bytes) → WritesRndf (rules_of edition) text t lent reply left out → (c : Counts) × (file : FileRow) × (reply ≡ Write.Written c file (length writing)) × (out ≡ padded lent writing)
+  written-fits : (reply : WriteReply) (left : Lent) (out writing : Bytes) → WritesRndf (rules_of edition) text t lent reply left out → (c : Counts) × (file : FileRow) × (reply ≡ Ok (c, file, length writing)) × (out ≡ padded lent writing)
       → (n : Network Field) × AcceptsRndf (rules_of edition) text t n × HouseRndf n writing × Fits lent writing
   written-fits reply left out writing (W.refused why r e z) (c, file, p, q) = absurd (wrote-or-not (sym p ∙ e))
   written-fits reply left out writing (W.too_long y f e o z) (c, file, p, q) = absurd (wrote-or-not (sym p ∙ e))
@@ -167,18 +162,18 @@ written_if-fits edition text t lent reply left out h writing = (fits-written edi
 module _ (edition : Edition) (rndf mdf : Bytes) (t : Lent) (u : MissionLent) (lent : ℕ) where
   mission-fits-written : (reply : WriteMdfReply) (left : Lent) (mission_left : MissionLent) (out writing : Bytes) → WritesMdf (rules_of edition) rndf mdf t u lent reply left mission_left out
       → (n : Network Field) × (m : Mission Field) × AcceptsRndf (rules_of edition) rndf t n × AcceptsMdf (rules_of edition) n mdf u m × HouseMdf m writing × Fits lent writing
-      → (c : Counts) × (file : FileRow) × (d : MissionCounts) × (own : MissionFileRow) × (reply ≡ WriteMdf.Written c file d own (length writing)) × (out ≡ padded lent writing)
-  mission-fits-written reply left mission_left out writing (W.refused why r e z) (n, m, a, b, g, f) = absurd (pair-never-both (sym (spelled-pair-accepted edition rndf mdf t u (Pair.Refused why) left mission_left r n m a b).0))
+      → (c : Counts) × (file : FileRow) × (d : MissionCounts) × (own : MissionFileRow) × (reply ≡ Ok (c, file, d, own, length writing)) × (out ≡ padded lent writing)
+  mission-fits-written reply left mission_left out writing (W.refused why r e z) (n, m, a, b, g, f) = absurd (pair-never-both (sym (spelled-pair-accepted edition rndf mdf t u (Err why) left mission_left r n m a b).0))
   mission-fits-written reply left mission_left out writing (W.too_long n' a' y f' e p p' z) (n, m, a, b, g, f) =
       let q : writing ≡ y.writing = house-mdf-only m writing g ∙ ap house_mdf (one-mission edition mdf m y.meant b.spelled y.accepted.spelled) ∙ sym (house-mdf-only y.meant y.writing y.wrote) in
       absurd (f' (subst (Fits lent) q f))
   mission-fits-written reply left mission_left out writing (W.written n' a' y f' e p p' z) (n, m, a, b, g, f) =
       let m' = y.meant in
       let q : y.writing ≡ writing = house-mdf-only m' y.writing y.wrote ∙ ap house_mdf (one-mission edition mdf m' m y.accepted.spelled b.spelled) ∙ sym (house-mdf-only m writing g) in
-      (rows_used_of n', network_file n', mission_rows_used m', mission_file_of m', e ∙ ap (λ (x : Bytes). WriteMdf.Written (rows_used_of n') (network_file n') (mission_rows_used m') (mission_file_of m') (length x)) q, z ∙ ap (padded lent) q)
+      (rows_used_of n', network_file n', mission_rows_used m', mission_file_of m', e ∙ ap (λ (x : Bytes). Ok (rows_used_of n', network_file n', mission_rows_used m', mission_file_of m', length x)) q, z ∙ ap (padded lent) q)
 
   mission-written-fits : (reply : WriteMdfReply) (left : Lent) (mission_left : MissionLent) (out writing : Bytes) → WritesMdf (rules_of edition) rndf mdf t u lent reply left mission_left out
-      → (c : Counts) × (file : FileRow) × (d : MissionCounts) × (own : MissionFileRow) × (reply ≡ WriteMdf.Written c file d own (length writing)) × (out ≡ padded lent writing)
+      → (c : Counts) × (file : FileRow) × (d : MissionCounts) × (own : MissionFileRow) × (reply ≡ Ok (c, file, d, own, length writing)) × (out ≡ padded lent writing)
       → (n : Network Field) × (m : Mission Field) × AcceptsRndf (rules_of edition) rndf t n × AcceptsMdf (rules_of edition) n mdf u m × HouseMdf m writing × Fits lent writing
   mission-written-fits reply left mission_left out writing (W.refused why r e z) (c, file, d, own, p, q) = absurd (mdf-wrote-or-not (sym p ∙ e))
   mission-written-fits reply left mission_left out writing (W.too_long n a y f e o o' z) (c, file, d, own, p, q) = absurd (mdf-wrote-or-not (sym p ∙ e))
@@ -201,13 +196,13 @@ mission-room_for m u d e h = let r = mission-room-back m u h in subst (λ (x : M
 so : (lent k : ℕ) (w out : Bytes) → k ≡ length w → length w ≤ lent → out ≡ padded lent w → (k ≤ lent) × (out ≡ padded lent (take k out))
 so lent k w out e h z = (subst (λ (j : ℕ). j ≤ lent) (sym e) h, z ∙ ap (padded lent) (sym (ap (take k) z ∙ take_at w (zero_bytes (lent - length w)) k (sym e))))
 
-fits-so : (edition : Edition) (text : Bytes) (t left : Lent) (lent : ℕ) (c : Counts) (file : FileRow) (k : ℕ) (out : Bytes) → WritesRndf (rules_of edition) text t lent (Write.Written c file k) left out → (k ≤ lent) × (out ≡ padded lent (take k out))
+fits-so : (edition : Edition) (text : Bytes) (t left : Lent) (lent : ℕ) (c : Counts) (file : FileRow) (k : ℕ) (out : Bytes) → WritesRndf (rules_of edition) text t lent (Ok (c, file, k)) left out → (k ≤ lent) × (out ≡ padded lent (take k out))
 fits-so edition text t left lent c file k out (W.refused why h e z) = absurd (wrote-or-not e)
 fits-so edition text t left lent c file k out (W.too_long y f e p z) = absurd (wrote-or-not e)
 fits-so edition text t left lent c file k out (W.written y f e p z) = so lent k y.writing out (ap long_in e) f.room z
 
 mdf-fits-so : (edition : Edition) (rndf mdf : Bytes) (t left : Lent) (u mission_left : MissionLent) (lent : ℕ) (c : Counts) (file : FileRow) (d : MissionCounts) (own : MissionFileRow) (k : ℕ) (out : Bytes)
-    → WritesMdf (rules_of edition) rndf mdf t u lent (WriteMdf.Written c file d own k) left mission_left out → (k ≤ lent) × (out ≡ padded lent (take k out))
+    → WritesMdf (rules_of edition) rndf mdf t u lent (Ok (c, file, d, own, k)) left mission_left out → (k ≤ lent) × (out ≡ padded lent (take k out))
 mdf-fits-so edition rndf mdf t left u mission_left lent c file d own k out (W.refused why h e z) = absurd (mdf-wrote-or-not e)
 mdf-fits-so edition rndf mdf t left u mission_left lent c file d own k out (W.too_long n a y f e p q z) = absurd (mdf-wrote-or-not e)
 mdf-fits-so edition rndf mdf t left u mission_left lent c file d own k out (W.written n a y f e p q z) = so lent k y.writing out (ap mdf-long_in e) f.room z
@@ -232,7 +227,7 @@ mission-written-again edition mdf writing w reply left' mission-left' out' v =
     (r.0, r.1 ∙ sym p.1)
 
 -- ## What `run-same` goes by: nothing differs exactly where it is the same yard
-pub same-exactly : (edition edition' : Edition) (text text' writing writing' : Bytes) → Filed (rules_of edition) text writing → Filed (rules_of edition') text' writing' → (first_difference_of writing writing' ≡ Nowhere) ↔ SameYard (rules_of edition) (rules_of edition') text text'
+pub same-exactly : (edition edition' : Edition) (text text' writing writing' : Bytes) → Filed (rules_of edition) text writing → Filed (rules_of edition') text' writing' → (first_difference_of writing writing' ≡ None) ↔ SameYard (rules_of edition) (rules_of edition') text text'
 same-exactly edition edition' text text' writing writing' w w' =
     let p = nowhere-equal writing writing' in
     let q = filed_alike edition edition' text text' writing writing' w w' in

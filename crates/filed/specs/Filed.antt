@@ -1,5 +1,6 @@
 -- WHAT A READER MUST BELIEVE. Same writing, same yard: what is promised of house writings, over the contracts of the writers. Document 02, L14. Assumes nothing.
-use Rattle.std.specs.Prelude.{◌↔◌, ◌≡◌}
+use Rattle.writings.specs.Types.{WriteMdfReply, WriteReply}
+use Rattle.std.specs.Prelude.{◌↔◌, ◌≡◌, Ok}
 use Rattle.terms.specs.Words.{ℕ, length, take, Bytes}
 use Rattle.line.specs.Line.{Field}
 use Rattle.law.specs.Network.{Network, Mission, Rules, SpellsNetwork, SpellsMission, SpellsText}
@@ -12,10 +13,6 @@ use Rattle.rows.specs.declared.MissionFileRow.{MissionFileRow}
 use Rattle.counts.specs.declared.Counts.{Counts}
 use Rattle.counts.specs.declared.MissionCounts.{MissionCounts}
 use Rattle.replies.specs.Replies.{an_rndf, an_mdf, Accepts}
-use Rattle.writings.specs.declared.WriteReply.{WriteReply}
-use Rattle.writings.specs.declared.WriteReply.TheVariants as Write
-use Rattle.writings.specs.declared.WriteMdfReply.{WriteMdfReply}
-use Rattle.writings.specs.declared.WriteMdfReply.TheVariants as WriteMdf
 use Rattle.writings.specs.Writes.{WritesRndf, WritesMdf}
 
 -- ## Of any file. Files: the writer wrote this of that text, which these rules accept; Same: two texts, each by its own rules, mean the same
@@ -37,7 +34,7 @@ pub record Filed (rules : Rules) (text writing : Bytes) : Type 0 where
   pub file : FileRow
   pub left : Lent
   pub out : Bytes
-  pub writes : WritesRndf rules text tables lent (Write.Written counts file (length writing)) left out
+  pub writes : WritesRndf rules text tables lent (Ok (counts, file, length writing)) left out
   pub is : writing ≡ take (length writing) out
 
 -- "the same network apart from creation dates": names by their bytes
@@ -51,12 +48,12 @@ SameYard rules rules' text text' = (n : Network Field) × (n' : Network Field) �
 -- "Premise: both writings fit the lent output and the size limit": it was written exactly if the text is accepted, and its house writing is this and fits
 abbrev pub WrittenIfFits : Rules → Type 0
 WrittenIfFits rules = (text : Bytes) (t : Lent) (lent : ℕ) (reply : WriteReply) (left : Lent) (out : Bytes) → WritesRndf rules text t lent reply left out → (writing : Bytes)
-    → ((n : Network Field) × Accepts rules (an_rndf t) text n × HouseRndf n writing × Fits lent writing) ↔ ((c : Counts) × (file : FileRow) × (reply ≡ Write.Written c file (length writing)) × (out ≡ padded lent writing))
+    → ((n : Network Field) × Accepts rules (an_rndf t) text n × HouseRndf n writing × Fits lent writing) ↔ ((c : Counts) × (file : FileRow) × (reply ≡ Ok (c, file, length writing)) × (out ≡ padded lent writing))
 
 -- "writing a house writing again", in the same tables and output: it is accepted, with as many rows, and the whole output is the same
 abbrev pub WrittenAgain : Rules → Type 0
 WrittenAgain rules = (text writing : Bytes) (w : Filed rules text writing) (reply : WriteReply) (left : Lent) (out : Bytes) → WritesRndf rules writing w.tables w.lent reply left out
-    → ((file : FileRow) × (reply ≡ Write.Written w.counts file (length writing))) × (out ≡ w.out)
+    → ((file : FileRow) × (reply ≡ Ok (w.counts, file, length writing))) × (out ≡ w.out)
 
 -- ## "The same for missions.", each with an RNDF of its own
 pub record MdfFiled (rules : Rules) (mdf writing : Bytes) : Type 0 where
@@ -71,7 +68,7 @@ pub record MdfFiled (rules : Rules) (mdf writing : Bytes) : Type 0 where
   pub left : Lent
   pub mission_left : MissionLent
   pub out : Bytes
-  pub writes : WritesMdf rules rndf mdf tables mission_tables lent (WriteMdf.Written counts file mission_counts mission_file_of (length writing)) left mission_left out
+  pub writes : WritesMdf rules rndf mdf tables mission_tables lent (Ok (counts, file, mission_counts, mission_file_of, length writing)) left mission_left out
   pub is : writing ≡ take (length writing) out
 
 abbrev pub SameOrders : (rules rules' : Rules) (mdf mdf' : Bytes) → Type 0
@@ -80,8 +77,8 @@ SameOrders rules rules' mdf mdf' = (m : Mission Field) × (m' : Mission Field) �
 abbrev pub MissionWrittenIfFits : Rules → Type 0
 MissionWrittenIfFits rules = (rndf mdf : Bytes) (t : Lent) (u : MissionLent) (lent : ℕ) (reply : WriteMdfReply) (left : Lent) (mission_left : MissionLent) (out : Bytes) → WritesMdf rules rndf mdf t u lent reply left mission_left out → (writing : Bytes)
     → ((n : Network Field) × (m : Mission Field) × Accepts rules (an_rndf t) rndf n × Accepts rules (an_mdf n u) mdf m × HouseMdf m writing × Fits lent writing)
-    ↔ ((c : Counts) × (file : FileRow) × (d : MissionCounts) × (own : MissionFileRow) × (reply ≡ WriteMdf.Written c file d own (length writing)) × (out ≡ padded lent writing))
+    ↔ ((c : Counts) × (file : FileRow) × (d : MissionCounts) × (own : MissionFileRow) × (reply ≡ Ok (c, file, d, own, length writing)) × (out ≡ padded lent writing))
 
 abbrev pub MissionWrittenAgain : Rules → Type 0
 MissionWrittenAgain rules = (mdf writing : Bytes) (w : MdfFiled rules mdf writing) (reply : WriteMdfReply) (left : Lent) (mission_left : MissionLent) (out : Bytes) → WritesMdf rules w.rndf writing w.tables w.mission_tables w.lent reply left mission_left out
-    → ((file : FileRow) × (own : MissionFileRow) × (reply ≡ WriteMdf.Written w.counts file w.mission_counts own (length writing))) × (out ≡ w.out)
+    → ((file : FileRow) × (own : MissionFileRow) × (reply ≡ Ok (w.counts, file, w.mission_counts, own, length writing))) × (out ≡ w.out)

@@ -46,21 +46,14 @@ pub fn is_argument<R: Env>(rt: &R, i: usize, word: &[u8]) -> bool
     same(first(&given, n), word)
 }
 
-// What came of an argument: so many bytes of it (none where it is missing), or that it is longer than the lent name.
-#[derive(Clone, Copy)]
-pub enum Given {
-    Bytes(usize),
-    TooLong,
-}
-
 // Puts the argument at that place at the front of the lent name.
-pub fn argument<R: Env>(rt: &R, i: usize, name: &mut [u8]) -> Given
+pub fn argument<R: Env>(rt: &R, i: usize, name: &mut [u8]) -> Option<usize>
     ensures { IsGiven name.new result }
 {
     match rt.arg(i, name) {
-        Ok(n) => Given::Bytes(n),
-        Err(FillError::TooLong) => Given::TooLong,
-        Err(FillError::NotPresent) => Given::Bytes(0),
+        Ok(n) => Some(n),
+        Err(FillError::TooLong) => None,
+        Err(FillError::NotPresent) => Some(0),
     }
 }
 

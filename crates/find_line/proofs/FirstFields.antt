@@ -1,4 +1,5 @@
 -- The first field of a line: where the fields end, and what the judge says of a line, by the kind that its fields have. For every file. Assumes nothing.
+use Rattle.std.specs.Prelude.{Ok, Err, Result}
 use mathlib.Core.Path.{◌≡◌, refl, sym, subst}
 use mathlib.Core.List.{[]}
 use mathlib.Core.Option.{Option, none, some}
@@ -16,8 +17,6 @@ use Rattle.scan.proofs.Reach.{up_to_le}
 use Rattle.line.specs.Lines.{trim_of}
 use Rattle.line.specs.Forms.{opens, shut, clean, form_of, span_at_of, filled, count_of, fields_in_of, part}
 use Rattle.line.specs.Content.{longest}
-use Rattle.line.specs.declared.Form as Form
-use Rattle.line.specs.declared.Form.TheVariants.{Bad, Body}
 use Rattle.line.proofs.Ends.{trim_le}
 use Rattle.grammar.specs.Machine.{Out, next, refuse}
 use Rattle.judge.specs.Judging.{Got, bad, blank, said, Judging, taken, valued, of_kind, known, told, formed, content, line}
@@ -37,11 +36,11 @@ module _ (l : Bytes) where
   body_is = take-take (fields_end_of l) (trim_of l) l in-content
 
 -- so says the form of a content
-body-ends : (c : Bytes) (e : ℕ) → form_of c ≡ Body e → up_to opens c ≡ e
+body-ends : (c : Bytes) (e : ℕ) → form_of c ≡ Ok e → up_to opens c ≡ e
 unfolding form_of
 body-ends c e h = go (leb (length c) longest) (shut c) (clean c) h
   where
-    go : (x y z : Bool) → pick x (pick y (pick z (Body (up_to opens c)) (Bad 4)) (Bad 3)) (Bad 2) ≡ Body e → up_to opens c ≡ e
+    go : (x y z : Bool) → ◌≡◌ {A = Result ℕ ℕ} (pick x (pick y (pick z (Ok (up_to opens c)) (Err 4)) (Err 3)) (Err 2)) (Ok e) → up_to opens c ≡ e
     go true true true h = cc
     go true true false h = absurd (let z : ◌≡◌ {A = ℕ} 0 1 = cc in omega arith)
     go true false z h = absurd (let z : ◌≡◌ {A = ℕ} 0 1 = cc in omega arith)
@@ -114,9 +113,9 @@ module _ (J : Judging) (kind-of : J.St → ℕ) where
         (λ _. by-test (key s) (eqb (fields_in_of s).count (needs k)) v (bad 7) (λ c. valued-has (key s) p (cell p k) (made s base (fields_in_of s) k) (λ t m. key-made s base p t l (eqb-true (fields_in_of s).count (needs k) c) m)) (λ _. tt))
         (λ _. tt)) (λ _. tt))
 
-    formed-has : (s : Bytes) (base : ℕ) (p : Pl) (f : Form.Form) → form_of s ≡ f → HasKind (key (take (up_to opens s) s)) (formed J s base p f)
-    formed-has s base p (Bad n) q = tt
-    formed-has s base p (Body e) q = subst (λ (m : ℕ). HasKind (key (take m s)) (told J (take e s) base p)) (sym (body-ends s e q)) (told-has (take e s) base p)
+    formed-has : (s : Bytes) (base : ℕ) (p : Pl) (f : Result ℕ ℕ) → form_of s ≡ f → HasKind (key (take (up_to opens s) s)) (formed J s base p f)
+    formed-has s base p (Err n) q = tt
+    formed-has s base p (Ok e) q = subst (λ (m : ℕ). HasKind (key (take m s)) (told J (take e s) base p)) (sym (body-ends s e q)) (told-has (take e s) base p)
 
     pub line-has : (l : Bytes) (base : ℕ) (p : Pl) → HasKind (key (take (fields_end_of l) l)) (line J l base p)
     unfolding line content fields_end_of

@@ -1,4 +1,7 @@
 -- The file's record (packed_frame::file_at): it says that the record has its length and its names are names; it tells the counts, the file's row and the place behind. Assumes nothing.
+use Rattle.std.specs.Prelude as Rust
+use Rattle.std.proofs.lemmas.Option.{same_Some}
+use Rattle.std.specs.Prelude.{Some, None}
 use mathlib.Core.Path.{◌≡◌, refl, sym, ap, subst, ◌∙◌}
 use mathlib.Core.List.{List, [], ◌∷◌}
 use mathlib.Core.Option.{Option, none, some}
@@ -29,7 +32,6 @@ use Rattle.packed_tables.proofs.Whole.{file-kinds, file-items, behind-file, name
 use Rattle.packed_tables.proofs.Points.{four-value}
 use Rattle.packed_frame.specs.Names.{two_at, name_size_of}
 use Rattle.packed_frame.specs.File.{counts, the_the_stretch_of, second_at, file_end, names_right, the_file_row_of, file_at_of}
-use Rattle.packed_frame.specs.declared.File.TheVariants as Is
 use Rattle.packed_frame.proofs.FileLaws.{missing, given, file-told}
 use Rattle.frame_tables.proofs.Fields.{AreNames, told, two-value, name-so, name-all, there-front, sizes-front}
 
@@ -261,14 +263,14 @@ module _ (b : Bytes) where
     g₁ : name_size_of b 39 ≡ 129 → ⊥
     g₂ : name_size_of b q₂ ≡ 129 → ⊥
 
-  found-told : FileHere → Found → file_at_of b ≡ Is.Told (counts_of items) (the_row_of row) (5 + whole-size file-kinds (drop 5 b))
+  found-told : FileHere → Found → file_at_of b ≡ Some (counts_of items, the_row_of row, 5 + whole-size file-kinds (drop 5 b))
   found-told f g =
       let w = f.first in
       let s₁ = g.s₁ in let s₂ = g.s₂ in
       let e = two-value b 5 (omega arith) in
       sym (file-told b (told b q₁) (sym s₁) g.is-there (λ z. g.g₁ (s₁ ∙ z)) (told b q₂) (sym s₂) (λ z. g.g₂ (s₂ ∙ z)) (told b 5) (sym e) f.long
       (counts_of items) (counts-so (omega arith)) (stretch (some row.name)) (stretch row.version) (first-stretch f g.is-there) (second-stretch f))
-      ∙ (λ i. Is.Told (counts_of items) (record { name = stretch (some row.name); version = stretch row.version; date = sym no-stretch i }) (sym behind-so i))
+      ∙ (λ i. Some (counts_of items, record { name = stretch (some row.name); version = stretch row.version; date = sym no-stretch i }, sym behind-so i))
 
   -- ## The judge
   pub record FileSo (c : Counts) (r : FileRow) (end : ℕ) : Type 0 where
@@ -285,11 +287,11 @@ module _ (b : Bytes) where
     named : names_right b ≡ true
     long : two_at b 5 + 7 ≡ file_end b
 
-  was_read : (c : Counts) (r : FileRow) (end : ℕ) → file_at_of b ≡ Is.Told c r end → Read
+  was_read : (c : Counts) (r : FileRow) (end : ℕ) → file_at_of b ≡ Some (c, r, end) → Read
   unfolding file_at_of
   was_read c r end e = go (names_right b) refl (eqb (two_at b 5 + 7) (file_end b)) refl e
     where
-      go : (x : Bool) → names_right b ≡ x → (y : Bool) → eqb (two_at b 5 + 7) (file_end b) ≡ y → pick x (pick y (Is.Told (counts b) (the_file_row_of b) (file_end b)) Is.Nothing) Is.Nothing ≡ Is.Told c r end → Read
+      go : (x : Bool) → names_right b ≡ x → (y : Bool) → eqb (two_at b 5 + 7) (file_end b) ≡ y → ◌≡◌ {A = Rust.Option (Counts × FileRow × ℕ)} (pick x (pick y (Some (counts b, the_file_row_of b, file_end b)) None) None) (Some (c, r, end)) → Read
       go true p true q h = record { named = p; long = eqb-true (two_at b 5 + 7) (file_end b) q }
       go true p false q h = absurd (let z : ◌≡◌ {A = ℕ} 0 1 = cc in omega arith)
       go false p y q h = absurd (let z : ◌≡◌ {A = ℕ} 0 1 = cc in omega arith)
@@ -310,11 +312,11 @@ module _ (b : Bytes) where
       go false ep false eq true er h = clash (sym h)
       go false ep false eq false er h = record { some = eqb-false (name_size_of b 39) 0 ep; first = eqb-false (name_size_of b 39) 129 eq; second = eqb-false (name_size_of b (second_at b)) 129 er }
 
-  told-so : (c d : Counts) (r s : FileRow) (m n : ℕ) → Is.Told c r m ≡ Is.Told d s n → (c ≡ d) × ((r ≡ s) × (m ≡ n))
-  told-so c d r s m n e = let p : c ≡ d = cc in let q : r ≡ s = cc in let u : m ≡ n = cc in (p, (q, u))
+  told-so : (c d : Counts) (r s : FileRow) (m n : ℕ) → ◌≡◌ {A = Rust.Option (Counts × FileRow × ℕ)} (Some (c, r, m)) (Some (d, s, n)) → (c ≡ d) × ((r ≡ s) × (m ≡ n))
+  told-so c d r s m n e = let p = same_Some (c, r, m) (d, s, n) e in (ap (λ x. x.0) p, (ap (λ x. x.1) p, ap (λ x. x.2) p))
 
   -- THE LAW: what is told is so
-  pub file-so : (c : Counts) (r : FileRow) (end : ℕ) → file_at_of b ≡ Is.Told c r end → FileSo c r end
+  pub file-so : (c : Counts) (r : FileRow) (end : ℕ) → file_at_of b ≡ Some (c, r, end) → FileSo c r end
   file-so c r end h =
       let d = was_read c r end h in
       let n = were-named d.named in
@@ -343,7 +345,7 @@ module _ (b : Bytes) where
 
   -- and all that is so is told
   pub file-all : here file-kinds (drop 5 b) ≡ true → IsName (rows_told (drop 5 b)).file.name → AreNames (rows_told (drop 5 b)).file.version
-      → file_at_of b ≡ Is.Told (counts_of (file-items (drop 5 b))) (the_row_of (rows_told (drop 5 b)).file) (5 + whole-size file-kinds (drop 5 b))
+      → file_at_of b ≡ Some (counts_of (file-items (drop 5 b)), the_row_of (rows_told (drop 5 b)).file, 5 + whole-size file-kinds (drop 5 b))
   file-all h u v =
       let f = here-file h in
       let o = own_name q₁ (told b q₁) (drop 2 (drop q₁ b)) (subst (λ (v : Option Field). IsName (or-none v)) first-name (subst (λ (r : Typed.FileRow Field). IsName r.name) row_is u)) in

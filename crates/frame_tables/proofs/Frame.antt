@@ -1,4 +1,5 @@
 -- The passes over the file's record, segments, zones and spots together: they say exactly these parts of `All-right`, `Consistent` and `TableNames` of the rows told. (The lanes between them are another pass.) Assumes nothing.
+use Rattle.std.specs.Prelude.{Some}
 use mathlib.Core.Path.{◌≡◌, sym, ap, ap₂, subst, ◌∙◌}
 use mathlib.Core.List.{List, map}
 use mathlib.Core.Bool.{true}
@@ -23,9 +24,6 @@ use Rattle.packed_frame.specs.Segments.{segments, segments_told}
 use Rattle.packed_frame.specs.Zones.{zones, zones_told}
 use Rattle.packed_frame.specs.Spots.{all_spots}
 use Rattle.packed_frame.specs.File.{file_at_of}
-use Rattle.packed_frame.specs.declared.File.TheVariants as Is
-use Rattle.packed_frame.specs.declared.Segments.TheVariants as Segments
-use Rattle.packed_frame.specs.declared.Zones.TheVariants as Zones
 use Rattle.frame_tables.proofs.Fields.{AreNames}
 use Rattle.frame_tables.proofs.File.{counts_of, the_row_of, file-so, file-all}
 use Rattle.frame_tables.proofs.Segments.{segment_rows, segments-so, segments-all}
@@ -45,9 +43,9 @@ module _ (b : Bytes) where
   -- ## What code does
   -- point: the first point that zones have, as the pass over lanes tells it
   pub record Passes (c : Counts) (r : FileRow) (point : ℕ) : Type 0 where
-    pub file : file_at_of b ≡ Is.Told c r (segments-at b)
-    pub segments-pass : segments_told (segments c.segments b (segments-at b) 0) ≡ Segments.To (lanes_at b) c.lanes
-    pub zones-pass : zones_told (zones c.zones b (zones-at b) (point, 0)) ≡ Zones.To (spots_at b) c.points c.spots
+    pub file : file_at_of b ≡ Some (c, r, segments-at b)
+    pub segments-pass : segments_told (segments c.segments b (segments-at b) 0) ≡ Some (lanes_at b, c.lanes)
+    pub zones-pass : zones_told (zones c.zones b (zones-at b) (point, 0)) ≡ Some (spots_at b, c.points, c.spots)
     pub spots-pass : all_spots c.zones b (zones-at b) (spots_at b) ≡ true
 
   -- these are the places that code goes to
@@ -56,23 +54,23 @@ module _ (b : Bytes) where
     pub lanes : q ≡ lanes_at b
     pub spots : spots-from ≡ spots_at b
 
-  pub placed : (c : Counts) (r : FileRow) (point p q s : ℕ) → file_at_of b ≡ Is.Told c r p → segments_told (segments c.segments b p 0) ≡ Segments.To q c.lanes → zones_told (zones c.zones b (q + 12 * c.lanes) (point, 0)) ≡ Zones.To s c.points c.spots → all_spots c.zones b (q + 12 * c.lanes) s ≡ true
+  pub placed : (c : Counts) (r : FileRow) (point p q s : ℕ) → file_at_of b ≡ Some (c, r, p) → segments_told (segments c.segments b p 0) ≡ Some (q, c.lanes) → zones_told (zones c.zones b (q + 12 * c.lanes) (point, 0)) ≡ Some (s, c.points, c.spots) → all_spots c.zones b (q + 12 * c.lanes) s ≡ true
       → Passes c r point × Places p q s
   placed c r point p q s hf hs hz ho =
       let f = file-so b c r p hf in
       let e = f.counts-told in
       let p₁ = f.place_so in
-      let h₁ = subst (λ (x : ℕ). segments_told (segments c.segments b x 0) ≡ Segments.To q c.lanes) p₁ hs in
+      let h₁ = subst (λ (x : ℕ). segments_told (segments c.segments b x 0) ≡ Some (q, c.lanes)) p₁ hs in
       let n₁ = segments-so (segments-at b) c.segments b (segments-at b) q c.lanes h₁ in
       let p₂ : q ≡ lanes_at b = n₁.place_so ∙ (λ i. place_after (segments-at b) (e i).segments segment-kinds (drop (segments-at b) b)) in
       let p₃ : q + 12 * c.lanes ≡ zones-at b = (λ i. p₂ i + 12 * (e i).lanes) ∙ sym (zones-place b) in
-      let h₂ = subst (λ (x : ℕ). zones_told (zones c.zones b x (point, 0)) ≡ Zones.To s c.points c.spots) p₃ hz in
+      let h₂ = subst (λ (x : ℕ). zones_told (zones c.zones b x (point, 0)) ≡ Some (s, c.points, c.spots)) p₃ hz in
       let n₂ = zones-so (zones-at b) c.zones b (zones-at b) point s c.points c.spots h₂ in
       let p₄ : s ≡ spots_at b = n₂.place_so ∙ (λ i. place_after (zones-at b) (e i).zones zone-kinds (drop (zones-at b) b)) in (
         record {
-          file = subst (λ (x : ℕ). file_at_of b ≡ Is.Told c r x) p₁ hf;
-          segments-pass = subst (λ (x : ℕ). segments_told (segments c.segments b (segments-at b) 0) ≡ Segments.To x c.lanes) p₂ h₁;
-          zones-pass = subst (λ (x : ℕ). zones_told (zones c.zones b (zones-at b) (point, 0)) ≡ Zones.To x c.points c.spots) p₄ h₂;
+          file = subst (λ (x : ℕ). file_at_of b ≡ Some (c, r, x)) p₁ hf;
+          segments-pass = subst (λ (x : ℕ). segments_told (segments c.segments b (segments-at b) 0) ≡ Some (x, c.lanes)) p₂ h₁;
+          zones-pass = subst (λ (x : ℕ). zones_told (zones c.zones b (zones-at b) (point, 0)) ≡ Some (x, c.points, c.spots)) p₄ h₂;
           spots-pass = ap₂ (all_spots c.zones b) (sym p₃) (sym p₄) ∙ ho;
         },
         record { segments = p₁; lanes = p₂; spots = p₄ },
@@ -119,14 +117,14 @@ module _ (b : Bytes) where
 
   -- the counts of the file's record
   record Counted (c : Counts) (point : ℕ) : Type 0 where
-    segments-pass : segments_told (segments (at 0 (items b)) b (segments-at b) 0) ≡ Segments.To (lanes_at b) (at 1 (items b))
-    zones-pass : zones_told (zones (at 2 (items b)) b (zones-at b) (point, 0)) ≡ Zones.To (spots_at b) (at 4 (items b)) (at 3 (items b))
+    segments-pass : segments_told (segments (at 0 (items b)) b (segments-at b) 0) ≡ Some (lanes_at b, at 1 (items b))
+    zones-pass : zones_told (zones (at 2 (items b)) b (zones-at b) (point, 0)) ≡ Some (spots_at b, at 4 (items b), at 3 (items b))
     spots-pass : all_spots (at 2 (items b)) b (zones-at b) (spots_at b) ≡ true
 
   counted : (c : Counts) (r : FileRow) (point : ℕ) → c ≡ counts_of (items b) → Passes c r point → Counted c point
   counted c r point e p = record {
-    segments-pass = subst (λ (c : Counts). segments_told (segments c.segments b (segments-at b) 0) ≡ Segments.To (lanes_at b) c.lanes) e p.segments-pass;
-    zones-pass = subst (λ (c : Counts). zones_told (zones c.zones b (zones-at b) (point, 0)) ≡ Zones.To (spots_at b) c.points c.spots) e p.zones-pass;
+    segments-pass = subst (λ (c : Counts). segments_told (segments c.segments b (segments-at b) 0) ≡ Some (lanes_at b, c.lanes)) e p.segments-pass;
+    zones-pass = subst (λ (c : Counts). zones_told (zones c.zones b (zones-at b) (point, 0)) ≡ Some (spots_at b, c.points, c.spots)) e p.zones-pass;
     spots-pass = subst (λ (c : Counts). all_spots c.zones b (zones-at b) (spots_at b) ≡ true) e p.spots-pass;
   }
 
@@ -180,7 +178,7 @@ module _ (b : Bytes) where
       record {
         file = file-all b f.file-here f.names.name f.names.version;
         segments-pass = segments-all (segments-at b) (at 0 (items b)) b (segments-at b) f.segments-here (subst (Each (λ r. Between 1 largest r.lanes)) se f.segments-right) (subst (Running (λ r. r.first_lane) (λ r. r.lanes) 0) se f.segments_running) (subst (Each (λ r. AreNames r.name)) se f.names.segments)
-            ∙ ap (Segments.To (lanes_at b)) lanes;
-        zones-pass = zones-all (zones-at b) (at 2 (items b)) b (zones-at b) point f.zones_here (subst (Each ZoneRowRight) ze f.zones-right) running (subst (FirstSpots 0) ze f.first_spots) names ∙ (λ i. Zones.To (spots_at b) (points i) (spots i));
+            ∙ ap ((λ z. Some ((lanes_at b), z))) lanes;
+        zones-pass = zones-all (zones-at b) (at 2 (items b)) b (zones-at b) point f.zones_here (subst (Each ZoneRowRight) ze f.zones-right) running (subst (FirstSpots 0) ze f.first_spots) names ∙ (λ i. Some (spots_at b, points i, spots i));
         spots-pass = spots-all (zones-at b) (spots_at b) (at 2 (items b)) b (zones-at b) (spots_at b) point f.zones_here names running (record { all_so = w.0; each = w.1.0; running = w.1.1 });
       }

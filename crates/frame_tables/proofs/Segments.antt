@@ -1,4 +1,5 @@
 -- The pass over segments (packed_frame::segments_at): it says that every record has its length, lanes are in range, each first lane is the sum so far, and names are names. Assumes nothing.
+use Rattle.std.specs.Prelude.{Some}
 use mathlib.Core.Path.{◌≡◌, refl, sym, ap, subst, ◌∙◌}
 use mathlib.Core.List.{List, [], ◌∷◌, map}
 use mathlib.Core.Option.{Option, none, some}
@@ -22,7 +23,6 @@ use Rattle.packed_tables.proofs.Records.{here, all_here, after, place_after, rec
 use Rattle.packed_tables.proofs.Whole.{segment-kinds}
 use Rattle.packed_frame.specs.Names.{two_at, named_end}
 use Rattle.packed_frame.specs.Segments.{segment_end_of, segment_next, segments, segments_told}
-use Rattle.packed_frame.specs.declared.Segments.TheVariants as Are
 use Rattle.packed_frame.proofs.RowLaws.{segment_told_of, segment-is}
 use Rattle.frame_tables.proofs.Fields.{AreNames, third-field, first-number, second-number, Fits, fits-so, so-fits, here-named, FoundNamed, found-so, found_all}
 use Rattle.frame_tables.proofs.Passes.{InRow, behind-rows, OneRow, pass-so, pass_all}
@@ -106,12 +106,12 @@ pub record SegmentsSo (place k : ℕ) (b : Bytes) (at end lanes : ℕ) : Type 0 
   pub left_so : drop end b ≡ after k segment-kinds (drop at b)
   pub lanes_so : lanes ≡ total (λ r. r.lanes) (segment_rows place k (drop at b))
 
-from_told : (o : Option (ℕ × ℕ)) (end lanes : ℕ) → segments_told o ≡ Are.To end lanes → o ≡ some (end, lanes)
+from_told : (o : Option (ℕ × ℕ)) (end lanes : ℕ) → segments_told o ≡ Some (end, lanes) → o ≡ some (end, lanes)
 from_told none end lanes e = absurd (let z : ◌≡◌ {A = ℕ} 0 1 = cc in omega arith)
 from_told (some x) end lanes e = let p : x.0 ≡ end = cc in let q : x.1 ≡ lanes = cc in λ i. some (p i, q i)
 
 -- THE LAW: what passes is so
-pub segments-so : (place k : ℕ) (b : Bytes) (at end lanes : ℕ) → segments_told (segments k b at 0) ≡ Are.To end lanes → SegmentsSo place k b at end lanes
+pub segments-so : (place k : ℕ) (b : Bytes) (at end lanes : ℕ) → segments_told (segments k b at 0) ≡ Some (end, lanes) → SegmentsSo place k b at end lanes
 segments-so place k b at end lanes h =
     let p = pass-so segment-kinds segment-back segment_end_of segment_next SegmentRight lanes-behind (λ place b at s. segment-so b at s place) place k b at 0 (end, lanes) (from_told (segments k b at 0) end lanes h) in
     let r = rows-so 0 (segment_rows place k (drop at b)) p.right in
@@ -120,8 +120,8 @@ segments-so place k b at end lanes h =
 
 -- and all that is so passes
 pub segments-all : (place k : ℕ) (b : Bytes) (at : ℕ) → all_here k segment-kinds (drop at b) ≡ true → Each (λ r. Between 1 largest r.lanes) (segment_rows place k (drop at b)) → Running (λ r. r.first_lane) (λ r. r.lanes) 0 (segment_rows place k (drop at b)) → Each (λ r. AreNames r.name) (segment_rows place k (drop at b))
-    → segments_told (segments k b at 0) ≡ Are.To (place_after at k segment-kinds (drop at b)) (total (λ r. r.lanes) (segment_rows place k (drop at b)))
+    → segments_told (segments k b at 0) ≡ Some (place_after at k segment-kinds (drop at b), total (λ r. r.lanes) (segment_rows place k (drop at b)))
 segments-all place k b at h e r n =
     let p = pass_all segment-kinds segment-back segment_end_of segment_next SegmentRight lanes-behind (λ place b at s. segment-all b at s place) place k b at 0 h (so-rows 0 (segment_rows place k (drop at b)) e r n) in
     let t : 0 + total (λ r. r.lanes) (segment_rows place k (drop at b)) ≡ total (λ r. r.lanes) (segment_rows place k (drop at b)) = omega arith in
-    ap segments_told p ∙ ap (Are.To (place_after at k segment-kinds (drop at b))) (lanes-total 0 (segment_rows place k (drop at b)) ∙ t)
+    ap segments_told p ∙ ap ((λ z. Some ((place_after at k segment-kinds (drop at b)), z))) (lanes-total 0 (segment_rows place k (drop at b)) ∙ t)

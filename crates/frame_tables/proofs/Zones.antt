@@ -1,4 +1,6 @@
 -- The pass over zones (packed_frame::zones_at): it says that every record has its length, points and spots are in range, each first point and first spot is the sum so far, and names are names. Assumes nothing.
+use Rattle.std.specs.Prelude.{Some}
+use Rattle.std.proofs.lemmas.Option.{same_Some}
 use mathlib.Core.Path.{◌≡◌, refl, sym, ap, subst, ◌∙◌}
 use mathlib.Core.List.{List, [], ◌∷◌, map}
 use mathlib.Core.Option.{Option, none, some}
@@ -25,7 +27,6 @@ use Rattle.packed_tables.proofs.Records.{here, all_here, after, place_after, rec
 use Rattle.packed_tables.proofs.Whole.{zone-kinds}
 use Rattle.packed_frame.specs.Names.{two_at, named_end}
 use Rattle.packed_frame.specs.Zones.{spot_fits_of, spots_fit_of, zone_end_of, zone_next, zones, zones_told}
-use Rattle.packed_frame.specs.declared.Zones.TheVariants as Are
 use Rattle.packed_frame.proofs.RowLaws.{zone_told_of, zone-is}
 use Rattle.frame_tables.proofs.Fields.{AreNames, fifth-field, first-number, second-number, third-number, fourth-number, Fits, fits-so, so-fits, here-named, FoundNamed, found-so, found_all}
 use Rattle.frame_tables.proofs.Passes.{InRow, behind-rows, OneRow, pass-so, pass_all}
@@ -170,12 +171,12 @@ pub record ZonesSo (place k : ℕ) (b : Bytes) (at point end points spots : ℕ)
   pub points_so : points ≡ point + total zone_span (zone_rows place k (drop at b))
   pub spots_so : spots ≡ total (λ r. r.spots) (zone_rows place k (drop at b))
 
-from_told : (o : Option (ℕ × (ℕ × ℕ))) (end points spots : ℕ) → zones_told o ≡ Are.To end points spots → o ≡ some (end, (points, spots))
+from_told : (o : Option (ℕ × (ℕ × ℕ))) (end points spots : ℕ) → zones_told o ≡ Some (end, points, spots) → o ≡ some (end, (points, spots))
 from_told none end points spots e = absurd (let z : ◌≡◌ {A = ℕ} 0 1 = cc in omega arith)
-from_told (some x) end points spots e = let p : x.0 ≡ end = cc in let q : x.1.0 ≡ points = cc in let r : x.1.1 ≡ spots = cc in λ i. some (p i, (q i, r i))
+from_told (some x) end points spots e = let q = same_Some (x.0, x.1.0, x.1.1) (end, points, spots) e in λ i. some ((q i).0, ((q i).1, (q i).2))
 
 -- THE LAW: what passes is so
-pub zones-so : (place k : ℕ) (b : Bytes) (at point end points spots : ℕ) → zones_told (zones k b at (point, 0)) ≡ Are.To end points spots → ZonesSo place k b at point end points spots
+pub zones-so : (place k : ℕ) (b : Bytes) (at point end points spots : ℕ) → zones_told (zones k b at (point, 0)) ≡ Some (end, points, spots) → ZonesSo place k b at point end points spots
 zones-so place k b at point end points spots h =
     let l = zone_rows place k (drop at b) in
     let p = pass-so zone-kinds zone-back zone_end_of zone_next ZoneRight zone_behind (λ place b at s. zone-so b at s place) place k b at (point, 0) (end, (points, spots)) (from_told (zones k b at (point, 0)) end points spots h) in
@@ -186,10 +187,10 @@ zones-so place k b at point end points spots h =
 
 -- and all that is so passes
 pub zones-all : (place k : ℕ) (b : Bytes) (at point : ℕ) → all_here k zone-kinds (drop at b) ≡ true → Each ZoneRowRight (zone_rows place k (drop at b)) → Running (λ r. r.first_point_of) zone_span point (zone_rows place k (drop at b)) → FirstSpots 0 (zone_rows place k (drop at b)) → Each (λ r. AreNames r.name) (zone_rows place k (drop at b))
-    → zones_told (zones k b at (point, 0)) ≡ Are.To (place_after at k zone-kinds (drop at b)) (point + total zone_span (zone_rows place k (drop at b))) (total (λ r. r.spots) (zone_rows place k (drop at b)))
+    → zones_told (zones k b at (point, 0)) ≡ Some (place_after at k zone-kinds (drop at b), point + total zone_span (zone_rows place k (drop at b)), total (λ r. r.spots) (zone_rows place k (drop at b)))
 zones-all place k b at point h e r f n =
     let l = zone_rows place k (drop at b) in
     let p = pass_all zone-kinds zone-back zone_end_of zone_next ZoneRight zone_behind (λ place b at s. zone-all b at s place) place k b at (point, 0) h (so-rows point 0 l (record { each = e; running = r; first_spots = f; names = n })) in
     let t : 0 + total (λ r. r.spots) l ≡ total (λ r. r.spots) l = omega arith in
     let x = rows-total point 0 l in
-    ap zones_told p ∙ (λ i. Are.To (place_after at k zone-kinds (drop at b)) (x i).0 ((ap (λ (y : ℕ × ℕ). y.1) x ∙ t) i))
+    ap zones_told p ∙ (λ i. Some (place_after at k zone-kinds (drop at b), (x i).0, ((ap (λ (y : ℕ × ℕ). y.1) x ∙ t) i)))

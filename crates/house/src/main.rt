@@ -28,13 +28,6 @@ enum Loaded {
     NoFile,
 }
 
-// What came of a writing: so many bytes, or a refusal.
-#[derive(Clone, Copy)]
-enum Ended {
-    Bytes(usize),
-    Refused(Refusal),
-}
-
 fn put_count<W: Write>(to: &mut W, n: u32) -> io::Result<()> {
     put(to, b" ")?;
     put_decimal(to, n as u64)
@@ -80,7 +73,7 @@ fn load<R: Files>(rt: &R, path: &str, text: &mut [u8]) -> Loaded {
 
 // ## The two writers, with room for 256 points and 128 rows of every other table, by their strides
 
-fn write_network(rndf: &[u8], out: &mut [u8]) -> Ended {
+fn write_network(rndf: &[u8], out: &mut [u8]) -> Result<usize, Refusal> {
     let mut segments = [0u32; 512];
     let mut lanes = [0u32; 640];
     let mut zones = [0u32; 768];
@@ -103,12 +96,12 @@ fn write_network(rndf: &[u8], out: &mut [u8]) -> Ended {
         out,
     );
     match reply {
-        WriteReply::Written(_, _, n) => Ended::Bytes(n as usize),
-        WriteReply::Refused(why) => Ended::Refused(why),
+        Ok((_, _, n)) => Ok(n as usize),
+        Err(why) => Err(why),
     }
 }
 
-fn write_mission(rndf: &[u8], mdf: &[u8], out: &mut [u8]) -> Ended {
+fn write_mission(rndf: &[u8], mdf: &[u8], out: &mut [u8]) -> Result<usize, Refusal> {
     let mut segments = [0u32; 512];
     let mut lanes = [0u32; 640];
     let mut zones = [0u32; 768];
@@ -136,8 +129,8 @@ fn write_mission(rndf: &[u8], mdf: &[u8], out: &mut [u8]) -> Ended {
         out,
     );
     match reply {
-        WriteMdfReply::Written(_, _, _, _, n) => Ended::Bytes(n as usize),
-        WriteMdfReply::Refused(why) => Ended::Refused(why),
+        Ok((_, _, _, _, n)) => Ok(n as usize),
+        Err(why) => Err(why),
     }
 }
 
@@ -148,11 +141,11 @@ fn show_network<W: Write>(to: &mut W, rndf: &[u8], behind: &[u8]) -> io::Result<
     let mut out = [0u8; MOST_WRITTEN];
     let reply = write_network(rndf, &mut out);
     match reply {
-        Ended::Bytes(n) => {
+        Ok(n) => {
             put(to, first(&out, n))?;
             put(to, behind)
         }
-        Ended::Refused(why) => put_refused(to, why),
+        Err(why) => put_refused(to, why),
     }
 }
 
@@ -161,8 +154,8 @@ fn show_pair<W: Write>(to: &mut W, rndf: &[u8], mdf: &[u8]) -> io::Result<()> {
     let mut out = [0u8; MOST_WRITTEN];
     let reply = write_mission(rndf, mdf, &mut out);
     match reply {
-        Ended::Bytes(n) => show_network(to, rndf, first(&out, n)),
-        Ended::Refused(why) => put_refused(to, why),
+        Ok(n) => show_network(to, rndf, first(&out, n)),
+        Err(why) => put_refused(to, why),
     }
 }
 

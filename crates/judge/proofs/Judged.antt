@@ -1,4 +1,5 @@
 -- A program that tells kinds, fields, statements and places of a file as its machine does judges every line as `text` does. For every file. Assumes nothing.
+use Rattle.std.specs.Prelude.{Ok, Err, Result}
 use mathlib.Core.Path.{◌≡◌, refl, sym, ap, ap₂, subst, ◌∙◌}
 use mathlib.Core.List.{List, [], ◌∷◌}
 use mathlib.Core.Option.{Option, none, some}
@@ -15,8 +16,6 @@ use Rattle.terms.specs.Words.{pick}
 use Rattle.line.specs.Content.{Field}
 use Rattle.line.specs.Lines.{drop_cr, trim_of}
 use Rattle.line.specs.Forms.{form_of, fields_at, fields_in_of, field_in, listed, part}
-use Rattle.line.specs.declared.Form as Form
-use Rattle.line.specs.declared.Form.TheVariants.{Bad, Body}
 use Rattle.line.specs.declared.Fields.{Fields}
 use Rattle.line.proofs.Spans.{fields-listed, count-le, count_exact, count-more}
 use Rattle.line.proofs.Ends.{trim-take}
@@ -194,9 +193,9 @@ module _ {L : Lang} (A : Machine L) (X : Lexis L) (J : Judging) where
             let e : fields_at base s ≡ field_in base s (fields_in_of s).a ∷ gs = fields-listed base s ∙ ap (listed base s (fields_in_of s)) q ∙ l in
             rw (ne_eqb (suc c) 0 (λ q. omega arith), e) (known_is p i base s (field_in base s (fields_in_of s).a) gs e (kind_of p (part s (fields_in_of s).a)) (kind_at A X (abs p) (field_in base s (fields_in_of s).a)) (kind-is p i (field_in base s (fields_in_of s).a)))
 
-    formed-is : (p : Pl) → Sound p → (base : ℕ) (s : Bytes) (f : Form.Form) → view p (formed J s base p f) ≡ renamed (T.formed A X (abs p) base s f)
-    formed-is p i base s (Bad n) = refl
-    formed-is p i base s (Body e) = told_is p i base (take e s)
+    formed-is : (p : Pl) → Sound p → (base : ℕ) (s : Bytes) (f : Result ℕ ℕ) → view p (formed J s base p f) ≡ renamed (T.formed A X (abs p) base s f)
+    formed-is p i base s (Err n) = refl
+    formed-is p i base s (Ok e) = told_is p i base (take e s)
 
     -- THE LINE: what the program says of it is what `text` says of it
     pub line-is : (p : Pl) → Sound p → (base : ℕ) (s : Bytes) → view p (line J s base p) ≡ renamed (judge A X (abs p) base s)
@@ -244,6 +243,6 @@ module _ {L : Lang} (A : Machine L) (X : Lexis L) (J : Judging) where
     unfolding line content
     line-sound p i base s = go (form_of (take (trim_of s) s))
       where
-        go : (f : Form.Form) → SoundGot (formed J (take (trim_of s) s) base p f)
-        go (Bad n) = tt
-        go (Body e) = told-sound p i base (take e (take (trim_of s) s))
+        go : (f : Result ℕ ℕ) → SoundGot (formed J (take (trim_of s) s) base p f)
+        go (Err n) = tt
+        go (Ok e) = told-sound p i base (take e (take (trim_of s) s))

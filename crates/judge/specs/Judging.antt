@@ -1,12 +1,10 @@
 -- Executable: what a line gets at a place, in document 01's order of faults, over a program's own statements and places. For every file. Assumes nothing.
 use Rattle.std.proofs.Math.Option.{Option, none, some}
-use Rattle.std.specs.Prelude.{ℕ, take, eqb, ltb}
+use Rattle.std.specs.Prelude.{ℕ, take, eqb, ltb, Ok, Err, Result}
 use Rattle.terms.specs.Ascii.{Bytes}
 use Rattle.terms.specs.Words.{pick}
 use Rattle.line.specs.Lines.{trim_of}
 use Rattle.line.specs.Forms.{form_of, fields_in_of, part}
-use Rattle.line.specs.declared.Form as Form
-use Rattle.line.specs.declared.Form.TheVariants.{Bad, Body}
 use Rattle.line.specs.declared.Fields.{Fields}
 use Rattle.grammar.specs.Machine.{Out, next, refuse}
 
@@ -56,9 +54,9 @@ module _ (J : Judging) where
   told s base p = pick (eqb (fields_in_of s).count 0) blank (known s base (fields_in_of s) p (kind_of p (part s (fields_in_of s).a)))
 
   -- 01: 2, 3 and 4 by the line's form
-  abbrev pub formed : Bytes → ℕ → Pl → Form.Form → Got St Pl
-  formed s base p (Bad n) = bad n
-  formed s base p (Body e) = told (take e s) base p
+  abbrev pub formed : Bytes → ℕ → Pl → Result ℕ ℕ → Got St Pl
+  formed s base p (Err n) = bad n
+  formed s base p (Ok e) = told (take e s) base p
 
   unfoldable pub content : Bytes → ℕ → Pl → Got St Pl
   content s base p = formed s base p (form_of s)

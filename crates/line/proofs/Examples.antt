@@ -1,4 +1,5 @@
 -- Contents that document 01 names, through the definitions by computation. Assumes nothing.
+use Rattle.std.specs.Prelude.{Ok, Err}
 use mathlib.Core.Path.{◌≡◌, refl}
 use mathlib.Core.List.{[], ◌∷◌}
 use Rattle.terms.specs.Ascii.{ascii}
@@ -7,33 +8,32 @@ use Rattle.scan.specs.Reach.{up_to, first, two, stops_by}
 use Rattle.line.specs.Content.{at, parted, parted-by}
 use Rattle.line.specs.Lines.{lines_of, drop_cr}
 use Rattle.line.specs.Forms.{outer_of, note_of, closes, form_of, fields_at}
-use Rattle.line.specs.declared.Form.TheVariants.{Bad, Body}
 
 -- 01: "`/*/` is not closed"
-not-closed : form_of (ascii "/*/") ≡ Bad 3
+not-closed : form_of (ascii "/*/") ≡ Err 3
 unfolding ascii separates all up_to first two stops_by outer_of note_of closes form_of
 not-closed = refl
 
-closed : form_of (ascii "/**/") ≡ Body 0
+closed : form_of (ascii "/**/") ≡ Ok 0
 unfolding ascii separates all up_to first two stops_by outer_of note_of closes form_of
 closed = refl
 
 -- a comment directly behind a field that ends in `/`
-behind-a_slash : form_of (ascii "abc//* x */") ≡ Body 4
+behind-a_slash : form_of (ascii "abc//* x */") ≡ Ok 4
 unfolding ascii separates all up_to first two stops_by outer_of note_of closes form_of
 behind-a_slash = refl
 
 -- 01: "must close with the first `*/` after those two bytes"
-two_closings : form_of (ascii "/* a */ b */") ≡ Bad 3
+two_closings : form_of (ascii "/* a */ b */") ≡ Err 3
 unfolding ascii separates all up_to first two stops_by outer_of note_of closes form_of
 two_closings = refl
 
-backslash : form_of (ascii "a\\b") ≡ Bad 4
+backslash : form_of (ascii "a\\b") ≡ Err 4
 unfolding ascii separates all up_to first two stops_by outer_of note_of closes form_of
 backslash = refl
 
 -- L3: "a separator shall be any run of tabs and spaces, and such a run is nothing at a line's start and end, also before and behind a comment"
-spaces : form_of (ascii " a\t b /* x */ \t ") ≡ Body 6
+spaces : form_of (ascii " a\t b /* x */ \t ") ≡ Ok 6
 unfolding ascii separates all up_to first two stops_by outer_of note_of closes form_of
 spaces = refl
 

@@ -1,4 +1,5 @@
 -- Refusals 2, 3 and 4: what `form_of` answers is the fault, and there is no other; no fault is the same as a content. Assumes nothing.
+use Rattle.std.specs.Prelude.{Ok, Err, Result}
 use mathlib.Core.Path.{◌≡◌, refl, sym, ap, subst, ◌∙◌}
 use mathlib.Core.List.{List, ◌∷◌}
 use mathlib.Core.Bool.{Bool, true, false, ◌&&◌, and-false}
@@ -17,8 +18,6 @@ use Rattle.scan.proofs.Reach.{up_to_le}
 use Rattle.line.specs.Content.{Field, longest, Content}
 use Rattle.line.specs.Faults.{Opened, Unclosed, never, more, BadComment, BadByte, plain, before, in_comment, FormFault, long, comment, byte}
 use Rattle.line.specs.Forms.{opens, shuts, outer_of, note_of, closes, shut, clean, form_of, fields_at}
-use Rattle.line.specs.declared.Form.{Form}
-use Rattle.line.specs.declared.Form.TheVariants.{Bad, Body}
 use Rattle.line.proofs.Finds.{find-here, find-is, find_first, find_none}
 use Rattle.line.proofs.Comments.{outer-at, note-at, closes-some, shut-some, shut_none}
 use Rattle.line.proofs.Contents.{opened-outer, opened-note, opened-shut, plain-outer, plain-note, closed-closes, never-closes, content-at, content-shut, content-clean, content-fields, is-content}
@@ -90,25 +89,25 @@ module _ (c : Bytes) where
       ap (◌&&◌ (all outside (outer_of c))) n ∙ and-false (all outside (outer_of c))
 
   -- ## The form
-  -- what `Bad` says
-  pub form-fault : (n : ℕ) → form_of c ≡ Bad n → FormFault c n
+  -- what `Err` says
+  pub form-fault : (n : ℕ) → form_of c ≡ Err n → FormFault c n
   unfolding form_of
   form-fault n e = go (leb (length c) longest) (shut c) (clean c) refl refl refl e
     where
-      go : (x y z : Bool) → leb (length c) longest ≡ x → shut c ≡ y → clean c ≡ z → pick x (pick y (pick z (Body (up_to opens c)) (Bad 4)) (Bad 3)) (Bad 2) ≡ Bad n → FormFault c n
+      go : (x y z : Bool) → leb (length c) longest ≡ x → shut c ≡ y → clean c ≡ z → pick x (pick y (pick z (Ok (up_to opens c)) (Err 4)) (Err 3)) (Err 2) ≡ Err n → FormFault c n
       go false y z p q r e = let m : 2 ≡ n = cc in subst (FormFault c) m (long (leb-false (length c) longest p))
       go true false z p q r e = let m : 3 ≡ n = cc in subst (FormFault c) m (comment (leb-true (length c) longest p) (bad-comment q))
       go true true false p q r e = let m : 4 ≡ n = cc in subst (FormFault c) m (byte (leb-true (length c) longest p) (λ b. clash (sym q ∙ comment-bad b)) (bad-byte r))
       go true true true p q r e = absurd (let z : ◌≡◌ {A = ℕ} 0 1 = cc in omega arith)
 
   -- and when it is answered
-  pub fault-form : {n : ℕ} → FormFault c n → form_of c ≡ Bad n
+  pub fault-form : {n : ℕ} → FormFault c n → form_of c ≡ Err n
   unfolding form_of
   fault-form (long h) = rw (lt-leb (length c) longest h)
   fault-form (comment h b) = rw (le-leb (length c) longest h, comment-bad b)
   fault-form (byte h n b) = go (shut c) refl
     where
-      go : (x : Bool) → shut c ≡ x → pick (leb (length c) longest) (pick x (pick (clean c) (Body (up_to opens c)) (Bad 4)) (Bad 3)) (Bad 2) ≡ Bad 4
+      go : (x : Bool) → shut c ≡ x → ◌≡◌ {A = Result ℕ ℕ} (pick (leb (length c) longest) (pick x (pick (clean c) (Ok (up_to opens c)) (Err 4)) (Err 3)) (Err 2)) (Err 4)
       go true q = rw (le-leb (length c) longest h, byte-bad b)
       go false q = absurd (n (bad-comment q))
 
@@ -122,7 +121,7 @@ module _ (c : Bytes) where
   fault-is (comment h b) = inr (inl (refl, h, b))
   fault-is (byte h n b) = inr (inr (refl, h, n, b))
 
-  pub bad-number : (n : ℕ) → form_of c ≡ Bad n → (n ≡ 2) ⊎ ((n ≡ 3) ⊎ (n ≡ 4))
+  pub bad-number : (n : ℕ) → form_of c ≡ Err n → (n ≡ 2) ⊎ ((n ≡ 3) ⊎ (n ≡ 4))
   bad-number n e = go (fault-is (form-fault n e))
     where
       go : ((n ≡ 2) × (longest < length c)) ⊎ (((n ≡ 3) × (length c ≤ longest) × BadComment c) ⊎ ((n ≡ 4) × (length c ≤ longest) × (BadComment c → ⊥) × BadByte c)) → (n ≡ 2) ⊎ ((n ≡ 3) ⊎ (n ≡ 4))
@@ -130,7 +129,7 @@ module _ (c : Bytes) where
       go (inr (inl p)) = inr (inl p.0)
       go (inr (inr p)) = inr (inr p.0)
 
-  pub bad_2 : form_of c ≡ Bad 2 → longest < length c
+  pub bad_2 : form_of c ≡ Err 2 → longest < length c
   bad_2 e = go (fault-is (form-fault 2 e))
     where
       go : (◌≡◌ {A = ℕ} 2 2 × (longest < length c)) ⊎ ((◌≡◌ {A = ℕ} 2 3 × (length c ≤ longest) × BadComment c) ⊎ (◌≡◌ {A = ℕ} 2 4 × (length c ≤ longest) × (BadComment c → ⊥) × BadByte c)) → longest < length c
@@ -138,7 +137,7 @@ module _ (c : Bytes) where
       go (inr (inl p)) = absurd (let q = p.0 in omega arith)
       go (inr (inr p)) = absurd (let q = p.0 in omega arith)
 
-  pub bad_3 : form_of c ≡ Bad 3 → (length c ≤ longest) × BadComment c
+  pub bad_3 : form_of c ≡ Err 3 → (length c ≤ longest) × BadComment c
   bad_3 e = go (fault-is (form-fault 3 e))
     where
       go : (◌≡◌ {A = ℕ} 3 2 × (longest < length c)) ⊎ ((◌≡◌ {A = ℕ} 3 3 × (length c ≤ longest) × BadComment c) ⊎ (◌≡◌ {A = ℕ} 3 4 × (length c ≤ longest) × (BadComment c → ⊥) × BadByte c)) → (length c ≤ longest) × BadComment c
@@ -146,7 +145,7 @@ module _ (c : Bytes) where
       go (inr (inl p)) = (p.1, p.2)
       go (inr (inr p)) = absurd (let q = p.0 in omega arith)
 
-  pub bad_4 : form_of c ≡ Bad 4 → (length c ≤ longest) × (BadComment c → ⊥) × BadByte c
+  pub bad_4 : form_of c ≡ Err 4 → (length c ≤ longest) × (BadComment c → ⊥) × BadByte c
   bad_4 e = go (fault-is (form-fault 4 e))
     where
       go : (◌≡◌ {A = ℕ} 4 2 × (longest < length c)) ⊎ ((◌≡◌ {A = ℕ} 4 3 × (length c ≤ longest) × BadComment c) ⊎ (◌≡◌ {A = ℕ} 4 4 × (length c ≤ longest) × (BadComment c → ⊥) × BadByte c)) → (length c ≤ longest) × (BadComment c → ⊥) × BadByte c
@@ -154,43 +153,43 @@ module _ (c : Bytes) where
       go (inr (inl p)) = absurd (let q = p.0 in omega arith)
       go (inr (inr p)) = (p.1, p.2, p.3)
 
-  passed : (e : ℕ) → form_of c ≡ Body e → (length c ≤ longest) × (shut c ≡ true) × (clean c ≡ true) × (up_to opens c ≡ e)
+  passed : (e : ℕ) → form_of c ≡ Ok e → (length c ≤ longest) × (shut c ≡ true) × (clean c ≡ true) × (up_to opens c ≡ e)
   unfolding form_of
   passed e h = go (leb (length c) longest) (shut c) (clean c) refl refl refl h
     where
-      go : (x y z : Bool) → leb (length c) longest ≡ x → shut c ≡ y → clean c ≡ z → pick x (pick y (pick z (Body (up_to opens c)) (Bad 4)) (Bad 3)) (Bad 2) ≡ Body e → (length c ≤ longest) × (shut c ≡ true) × (clean c ≡ true) × (up_to opens c ≡ e)
+      go : (x y z : Bool) → leb (length c) longest ≡ x → shut c ≡ y → clean c ≡ z → ◌≡◌ {A = Result ℕ ℕ} (pick x (pick y (pick z (Ok (up_to opens c)) (Err 4)) (Err 3)) (Err 2)) (Ok e) → (length c ≤ longest) × (shut c ≡ true) × (clean c ≡ true) × (up_to opens c ≡ e)
       go true true true p q r h = let k : up_to opens c ≡ e = cc in (leb-true (length c) longest p, q, r, k)
       go true true false p q r h = absurd (let z : ◌≡◌ {A = ℕ} 0 1 = cc in omega arith)
       go true false z p q r h = absurd (let z : ◌≡◌ {A = ℕ} 0 1 = cc in omega arith)
       go false y z p q r h = absurd (let z : ◌≡◌ {A = ℕ} 0 1 = cc in omega arith)
 
-  -- what `Body` says: the fields end within the content, and it is a content with the fields that stand before that end
-  pub body-within : (e : ℕ) → form_of c ≡ Body e → e ≤ length c
+  -- what `Ok` says: the fields end within the content, and it is a content with the fields that stand before that end
+  pub body-within : (e : ℕ) → form_of c ≡ Ok e → e ≤ length c
   body-within e h = omega (arith, (passed e h).3, up_to_le opens c)
 
-  pub body-content : (e : ℕ) → form_of c ≡ Body e → (a : ℕ) → Content a c (fields_at a (take e c))
+  pub body-content : (e : ℕ) → form_of c ≡ Ok e → (a : ℕ) → Content a c (fields_at a (take e c))
   body-content e h a =
       let p = passed e h in
       subst (λ (l : Bytes). Content a c (fields_at a l)) (outer-at c ∙ ap (λ (k : ℕ). take k c) p.3) (is-content a c p.0 p.1 p.2)
 
   -- and when it is answered
-  pub content-form : {a : ℕ} {fs : List Field} → (h : Content a c fs) → form_of c ≡ Body (length h.outer)
+  pub content-form : {a : ℕ} {fs : List Field} → (h : Content a c fs) → form_of c ≡ Ok (length h.outer)
   unfolding form_of
   content-form h = rw (le-leb (length c) longest h.short, content-shut h, content-clean h, content-at h)
 
-  pub content-body : {a : ℕ} {fs : List Field} → Content a c fs → (e : ℕ) → form_of c ≡ Body e → fields_at a (take e c) ≡ fs
+  pub content-body : {a : ℕ} {fs : List Field} → Content a c fs → (e : ℕ) → form_of c ≡ Ok e → fields_at a (take e c) ≡ fs
   content-body {a} h e f = ap (fields_at a) (sym (outer-at c ∙ ap (λ (k : ℕ). take k c) (passed e f).3)) ∙ content-fields h
 
   -- ## No fault is the same as a content
   pub content_faultless : {a : ℕ} {fs : List Field} → Content a c fs → (n : ℕ) → FormFault c n → ⊥
   content_faultless h n f =
-      let p : Body (length h.outer) ≡ Bad n = sym (content-form h) ∙ fault-form f in
+      let p : Ok (length h.outer) ≡ Err n = sym (content-form h) ∙ fault-form f in
       let z : ◌≡◌ {A = ℕ} 0 1 = cc in
       omega arith
 
   pub faultless_content : ((n : ℕ) → FormFault c n → ⊥) → (a : ℕ) → Content a c (fields_at a (outer_of c))
   faultless_content none a = go (form_of c) refl
     where
-      go : (f : Form) → form_of c ≡ f → Content a c (fields_at a (outer_of c))
-      go (Bad n) e = absurd (none n (form-fault n e))
-      go (Body k) e = subst (λ (l : Bytes). Content a c (fields_at a l)) (sym (outer-at c ∙ ap (λ (j : ℕ). take j c) (passed k e).3)) (body-content k e a)
+      go : (f : Result ℕ ℕ) → form_of c ≡ f → Content a c (fields_at a (outer_of c))
+      go (Err n) e = absurd (none n (form-fault n e))
+      go (Ok k) e = subst (λ (l : Bytes). Content a c (fields_at a l)) (sym (outer-at c ∙ ap (λ (j : ℕ). take j c) (passed k e).3)) (body-content k e a)

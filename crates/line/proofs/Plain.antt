@@ -1,4 +1,5 @@
 -- The bytes of a content up to the first that is not plain: no comment opens among them, and each is allowed there. Assumes nothing.
+use Rattle.std.specs.Prelude.{Ok}
 use mathlib.Core.Path.{◌≡◌, refl, sym, ap, subst, ◌∙◌}
 use mathlib.Core.List.{[], ◌∷◌}
 use mathlib.Core.Bool.{Bool, true, false, not, ◌&&◌}
@@ -18,7 +19,6 @@ use Rattle.scan.proofs.Reach.{from_start, up_to_le, reach-end, reach-from, all-b
 use Rattle.scan.proofs.Eights.{all-joined, reach-over, two_none}
 use Rattle.line.specs.Content.{longest}
 use Rattle.line.specs.Forms.{opens, outer_of, note_of, closed_note, form_of}
-use Rattle.line.specs.declared.Form.TheVariants.{Body}
 use Rattle.line.proofs.Comments.{outer-at, note-at}
 
 module _ (s : Bytes) where
@@ -47,7 +47,7 @@ module _ (s : Bytes) where
       ap (λ x. x && all outside (take (m - p) (drop p s))) (sym outside-before) ∙ ap (λ (k : ℕ). all outside (take p s) && all outside (take (m - p) (drop k s))) (sym (zero-add p)) ∙ j ∙ ap (λ (k : ℕ). all outside (take k s)) e ∙ ap (all outside) (sym (outer-at s))
 
   -- a content that is plain throughout has no comment and no fault of 3 or 4
-  pub plain_form : up_to (fails plain) s ≡ length s → length s ≤ longest → form_of s ≡ Body (length s)
+  pub plain_form : up_to (fails plain) s ≡ length s → length s ≤ longest → form_of s ≡ Ok (length s)
   unfolding form_of all
   plain_form e h =
       let m : up_to opens s ≡ length s = sym opens-from ∙ ap (reach opens s) e ∙ reach-end opens s (length s) (omega arith) in

@@ -1,5 +1,5 @@
 -- Executable: the form of a line's content (2, 3, 4, or where its fields end) and its fields. Assumes nothing.
-use Rattle.std.specs.Prelude.{List, [], ◌∷◌, Bool, true, false, ◌&&◌, ℕ, zero, suc, ◌+◌, ◌-◌, ◌≤◌, length, take, drop, ltb, leb}
+use Rattle.std.specs.Prelude.{List, [], ◌∷◌, Bool, true, false, ◌&&◌, ℕ, zero, suc, ◌+◌, ◌-◌, ◌≤◌, length, take, drop, ltb, leb, Ok, Err, Result}
 use Prim.Native.Char.{code}
 use Rattle.terms.specs.Ascii.{Bytes}
 use Rattle.terms.specs.Words.{pick}
@@ -9,8 +9,6 @@ use Rattle.scan.specs.declared.Until.TheVariants.{Two, Separator, NotSeparator}
 use Rattle.line.specs.Content.{Field, at, longest}
 pub use Rattle.line.specs.Cutting.{glue}
 unfoldable pub use Rattle.line.specs.Cutting.{outer_of, fields_at}
-use Rattle.line.specs.declared.Form.{Form}
-use Rattle.line.specs.declared.Form.TheVariants.{Bad, Body}
 use Rattle.line.specs.declared.Span.{Span}
 use Rattle.line.specs.declared.Fields.{Fields}
 
@@ -44,8 +42,8 @@ abbrev pub clean : Bytes → Bool
 clean content = all outside (outer_of content) && all inside (note_of content)
 
 -- ## The form
-unfoldable pub form_of : Bytes → Form
-form_of content = pick (leb (length content) longest) (pick (shut content) (pick (clean content) (Body (up_to opens content)) (Bad 4)) (Bad 3)) (Bad 2)
+unfoldable pub form_of : Bytes → Result ℕ ℕ
+form_of content = pick (leb (length content) longest) (pick (shut content) (pick (clean content) (Ok (up_to opens content)) (Err 4)) (Err 3)) (Err 2)
 
 -- ## The fields
 -- the first field from a place on; an empty stretch where there is none

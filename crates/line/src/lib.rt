@@ -83,33 +83,26 @@ fn is_clean(s: &[u8], stop: usize, mark: usize) -> bool
     }
 }
 
-// What a line's content is before its fields are looked at: refused with 2, 3 or 4, or where its fields end.
-#[derive(Clone, Copy)]
-pub enum Form {
-    Bad(u8),
-    Body(usize),
-}
-
-pub fn form_of(s: &[u8]) -> Form
+pub fn form_of(s: &[u8]) -> Result<usize, u8>
     ensures { result ≡ form_of s.now }
 {
     if 512 < s.len() {
-        return Form::Bad(2);
+        return Err(2);
     }
     // most lines are plain throughout: they have no comment, and no byte that is not allowed
     let stop = plain_from(s, 0);
     if stop == s.len() {
-        return Form::Body(stop);
+        return Ok(stop);
     }
     let mark = two_from(s, stop, b'/', b'*');
     if is_shut(s, mark) {
         if is_clean(s, stop, mark) {
-            Form::Body(mark)
+            Ok(mark)
         } else {
-            Form::Bad(4)
+            Err(4)
         }
     } else {
-        Form::Bad(3)
+        Err(3)
     }
 }
 
@@ -156,7 +149,7 @@ fn count_of(a: Span, b: Span, c: Span, d: Span) -> u8
     }
 }
 
-// The fields of a content up to where they end (`Form::Body`).
+// The fields of a content up to where they end (`Ok`).
 pub fn fields_of(s: &[u8]) -> Fields
     ensures { result ≡ fields_in_of s.now }
 {

@@ -1,4 +1,5 @@
 -- The last field of a line, and what stands behind it in the text: a separator, a comment, the line's end, or nothing. Assumes nothing.
+use Rattle.std.specs.Prelude.{Ok, Err, Result}
 use mathlib.Core.Path.{◌≡◌, refl, sym, ap, subst, ◌∙◌}
 use mathlib.Core.List.{List, [], ◌∷◌, ◌++◌, append_assoc, append-nil, nil≢cons, head-eq_of_cons-eq}
 use mathlib.Core.Bool.{Bool, true, false}
@@ -24,8 +25,6 @@ use Rattle.line.specs.Located.{Within}
 use Rattle.line.specs.Lines.{drop_cr}
 use Rattle.line.specs.Forms.{form_of, fields_at}
 use Rattle.line_fields.specs.LineFields.{fields_by, line_fields_of, last_of, last_start_of}
-use Rattle.line.specs.declared.Form as Form
-use Rattle.line.specs.declared.Form.TheVariants.{Bad, Body}
 use Rattle.line.proofs.Ends.{ended, ended_is}
 use Rattle.line.proofs.Spelled.{fields-are}
 use Rattle.line.proofs.Faults.{body-content, content-form}
@@ -42,9 +41,9 @@ pub content-of-line : (a : ℕ) (l : Bytes) (f : Field) (fs : List Field) → li
 unfolding line_fields_of
 content-of-line a l f fs e = go (form_of (drop_cr l)) refl e
   where
-    go : (m : Form.Form) → form_of (drop_cr l) ≡ m → fields_by a (drop_cr l) m ≡ f ∷ fs → Content a (drop_cr l) (f ∷ fs)
-    go (Bad n) q e = absurd (nil≢cons e)
-    go (Body k) q e = subst (Content a (drop_cr l)) e (body-content (drop_cr l) k q a)
+    go : (m : Result ℕ ℕ) → form_of (drop_cr l) ≡ m → fields_by a (drop_cr l) m ≡ f ∷ fs → Content a (drop_cr l) (f ∷ fs)
+    go (Err n) q e = absurd (nil≢cons e)
+    go (Ok k) q e = subst (Content a (drop_cr l)) e (body-content (drop_cr l) k q a)
 
 -- ## A scan over bytes that pass a test
 stops : (test : ℕ → Bool) (r : Bytes) → begins test r ≡ false → up_to (fails test) r ≡ 0

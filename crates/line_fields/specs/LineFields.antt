@@ -1,16 +1,14 @@
 -- Executable: the fields of a line, and where the last of them starts in the text. Assumes nothing.
-use Rattle.std.specs.Prelude.{List, [], ◌∷◌, ℕ, take}
+use Rattle.std.specs.Prelude.{List, [], ◌∷◌, ℕ, take, Ok, Err, Result}
 use Rattle.terms.specs.Ascii.{Bytes}
 use Rattle.line.specs.Content.{Field}
 use Rattle.line.specs.Lines.{drop_cr}
 use Rattle.line.specs.Forms.{form_of, fields_at}
-use Rattle.line.specs.declared.Form.{Form}
-use Rattle.line.specs.declared.Form.TheVariants.{Bad, Body}
 
 -- of a content that starts at a place of the text: those before a comment; none where its form is refused
-abbrev pub fields_by : ℕ → Bytes → Form → List Field
-fields_by start content (Bad n) = []
-fields_by start content (Body e) = fields_at start (take e content)
+abbrev pub fields_by : ℕ → Bytes → Result ℕ ℕ → List Field
+fields_by start content (Err n) = []
+fields_by start content (Ok e) = fields_at start (take e content)
 
 -- of a line that starts there
 unfoldable pub line_fields_of : ℕ → Bytes → List Field

@@ -11,7 +11,7 @@ ghost use Rattle.std.specs.Prelude.{◌+◌, ◌≤◌, length};
 ghost use Rattle.line.specs.Forms.{SpanWithin};
 
 use console::{put, put_decimal, read_full};
-use line::{Form, Span, fields_of, form_of, trimmed};
+use line::{Span, fields_of, form_of, trimmed};
 use scan::{Until, scan};
 use std::io;
 use std::io::Write;
@@ -69,11 +69,11 @@ fn put_content<W: Write>(to: &mut W, s: &[u8], from: usize) -> io::Result<()>
 {
     let f = form_of(s);
     match f {
-        Form::Bad(n) => {
+        Err(n) => {
             put(to, b"refused ")?;
             put_number(to, n as usize)
         }
-        Form::Body(e) => put_fields(to, &s[..e], from),
+        Ok(e) => put_fields(to, &s[..e], from),
     }
 }
 

@@ -1,4 +1,6 @@
 -- The contract of the look-up of a list settles the reply and every element: at most one (`settled`), and one there is (`some-answer`). And the law of its loop. Assumes nothing.
+use Rattle.std.specs.Prelude.{Ok, Err}
+use Rattle.look_up.specs.Types.{ListReply}
 use mathlib.Core.Path.{◌≡◌, refl, sym, ◌∙◌}
 use mathlib.Core.List.{List, [], ◌∷◌, ◌++◌}
 use mathlib.Core.Bool.{Bool, true, false}
@@ -11,8 +13,6 @@ use lib.Seq.{take-suc, take-suc-set}
 use borrow.Author.Tests.{eqb-true, eqb-false}
 use Rattle.look_up.specs.LookUp.{PointOf}
 use Rattle.look_up.specs.Listed.{Paired, PointsOf, refused, answered}
-use Rattle.look_up.specs.declared.ListReply.{ListReply}
-use Rattle.look_up.specs.declared.ListReply.TheVariants as Reply
 use Rattle.look_up.proofs.Answers.{point-one, point-some}
 
 -- ## At most one
@@ -48,8 +48,8 @@ pub some-answer : (t numbers : List ℕ) (lent : ℕ) → Some t numbers lent
 some-answer t numbers lent = go (eqb (length numbers) lent) refl
   where
     go : (b : Bool) → eqb (length numbers) lent ≡ b → Some t numbers lent
-    go true e = let a = all-points t numbers in record { reply = Reply.Answered; left = a.points; right = answered (eqb-true (length numbers) lent e) refl a.right }
-    go false e = record { reply = Reply.Refused (record { file = 0; line = 0; number = 20; column = 0 }); left = replicate lent 0; right = refused (eqb-false (length numbers) lent e) refl refl }
+    go true e = let a = all-points t numbers in record { reply = (Ok tt); left = a.points; right = answered (eqb-true (length numbers) lent e) refl a.right }
+    go false e = record { reply = Err (record { file = 0; line = 0; number = 20; column = 0 }); left = replicate lent 0; right = refused (eqb-false (length numbers) lent e) refl refl }
 
 -- ## The loop: the first i numbers have their answers, and one more
 paired-more : {A B : Type 0} (R : A → B → Type 0) (l : List A) (m : List B) (a : A) (b : B) → Paired R l m → R a b → Paired R (l ++ (a ∷ [])) (m ++ (b ∷ []))

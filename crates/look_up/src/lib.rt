@@ -87,11 +87,7 @@ pub fn point_of(checkpoints: &[u32], number: CheckpointNumber) -> u32
 
 // ## A list of numbers
 // Every number has its answer; or the two lists differ in length.
-#[derive(Clone, Copy)]
-pub enum ListReply {
-    Answered,
-    Refused(Refusal),
-}
+pub type ListReply = Result<(), Refusal>;
 
 // The points of a list of numbers, as plain words, over any checkpoint table.
 pub fn points_of(checkpoints: &[u32], numbers: &[u32], points: &mut [u32]) -> ListReply
@@ -99,7 +95,7 @@ pub fn points_of(checkpoints: &[u32], numbers: &[u32], points: &mut [u32]) -> Li
 {
     if numbers.len() != points.len() {
         clear(points);
-        return ListReply::Refused(Refusal {
+        return Err(Refusal {
             file: 0,
             line: 0,
             number: 20,
@@ -109,5 +105,5 @@ pub fn points_of(checkpoints: &[u32], numbers: &[u32], points: &mut [u32]) -> Li
     for i in 0..numbers.len() {
         points[i] = point_of_word(checkpoints, numbers[i]);
     }
-    ListReply::Answered
+    Ok(())
 }

@@ -21,8 +21,8 @@ fn put_all<W: Write>(to: &mut W, numbers: &[u32]) -> io::Result<()> {
 
 fn put_reply<W: Write>(to: &mut W, reply: ListReply) -> io::Result<()> {
     match reply {
-        ListReply::Answered => put(to, b"answered"),
-        ListReply::Refused(why) => {
+        Ok(()) => put(to, b"answered"),
+        Err(why) => {
             put(to, b"refused")?;
             put_number(to, why.file as u32)?;
             put_number(to, why.line)?;

@@ -1,4 +1,5 @@
 -- What is made of fields is what `text` reads of them, kind by kind of an MDF. Assumes nothing.
+use Rattle.std.specs.Prelude.{Some, None}
 use mathlib.Core.Path.{◌≡◌, refl}
 use mathlib.Core.Option.{Option, none, some}
 use mathlib.Core.Bool.{Bool, true, false}
@@ -10,8 +11,6 @@ use Rattle.line.specs.Forms.{part, field_in, listed}
 use Rattle.line.specs.declared.Span.{Span}
 use Rattle.line.specs.declared.Fields.{Fields}
 use Rattle.number.specs.Executable.{the_integer_of, is_name_length_of}
-use Rattle.number.specs.declared.Number as DN
-use Rattle.number.specs.declared.Number.TheVariants as Number
 use Rattle.grammar.specs.MissionStatements.{Kind, MDF_name_of, RNDF, format_version_of, creation_date_of, checkpoints, num_checkpoints, end_checkpoints, speed_limits, num_speed_limits, end_speed_limits, end_file_of, goal, limit}
 use Rattle.grammar.specs.PlaceRows.{mission_kind_row}
 use Rattle.grammar.specs.Renamed.{orders_named}
@@ -20,29 +19,29 @@ use Rattle.text.specs.MdfWords.{word_at, mdf_sorts, mdf_make}
 use Rattle.statement.specs.declared.Order.{Order}
 use Rattle.statement.specs.declared.Order.TheVariants as or
 use Rattle.statement.specs.MissionKinds.{of_kind}
-use Rattle.made_out.specs.declared.MadeOrder.TheVariants.{Is, No}
 use Rattle.made_out.specs.Names.{the_the_stretch_of, behind, told_as}
 use Rattle.made_out.specs.MadeOrders.{order_shapes, order_needs, bare_order_of, named_order_of, numbered_order_of, name_ordered_of, number_ordered_of, limit_ordered_of, order_made_of, order_from}
+use Rattle.std.specs.Prelude as Rust
 
 -- ## By shape
 names : (mk : ℕ → ℕ → Order) (base : ℕ) (s : Bytes) (f : Span)
-    → order_from (pick (is_name_length_of (length (part s f))) (Is (mk (base + f.start) (length (part s f)))) No) ≡ told_as (λ v. mk v.0.start (length v.0.bytes)) (both (read a_name (field_in base s f)) (some (tt {0})))
+    → order_from (pick (is_name_length_of (length (part s f))) (Some (mk (base + f.start) (length (part s f)))) None) ≡ told_as (λ v. mk v.0.start (length v.0.bytes)) (both (read a_name (field_in base s f)) (some (tt {0})))
 unfolding read
 names mk base s f = go (is_name_length_of (length (part s f)))
   where
-    go : (b : Bool) → order_from (pick b (Is (mk (base + f.start) (length (part s f)))) No) ≡ told_as (λ v. mk v.0.start (length v.0.bytes)) (both (pick b (some (field_in base s f)) none) (some (tt {0})))
+    go : (b : Bool) → order_from (pick b (Some (mk (base + f.start) (length (part s f)))) None) ≡ told_as (λ v. mk v.0.start (length v.0.bytes)) (both (pick b (some (field_in base s f)) none) (some (tt {0})))
     go true = refl
     go false = refl
 
-numbers : (k : ℕ) (n : DN.Number) → order_from (number_ordered_of k n) ≡ told_as (λ v. numbered_order_of k v.0) (both (number n) (some (tt {0})))
-numbers k (Number.Is n) = refl
-numbers k Number.No = refl
+numbers : (k : ℕ) (n : Rust.Option ℕ) → order_from (number_ordered_of k n) ≡ told_as (λ v. numbered_order_of k v.0) (both (number n) (some (tt {0})))
+numbers k (Some n) = refl
+numbers k None = refl
 
-limits : (i a b : DN.Number) → order_from (limit_ordered_of i a b) ≡ told_as (λ v. of_kind limit (mdf_make limit v)) (both (number i) (both (number a) (both (number b) (some (tt {0})))))
-limits (Number.Is i) (Number.Is a) (Number.Is b) = refl
-limits (Number.Is i) (Number.Is a) Number.No = refl
-limits (Number.Is i) Number.No b = refl
-limits Number.No a b = refl
+limits : (i a b : Rust.Option ℕ) → order_from (limit_ordered_of i a b) ≡ told_as (λ v. of_kind limit (mdf_make limit v)) (both (number i) (both (number a) (both (number b) (some (tt {0})))))
+limits (Some i) (Some a) (Some b) = refl
+limits (Some i) (Some a) None = refl
+limits (Some i) None b = refl
+limits None a b = refl
 
 -- ## Every kind
 module _ (base : ℕ) (s : Bytes) (f : Fields) where

@@ -1,4 +1,5 @@
 -- What is made of fields is what `text` reads of them, kind by kind; names are then known by start and length. Assumes nothing.
+use Rattle.std.specs.Prelude.{ℤ, Some, None}
 use mathlib.Core.Path.{◌≡◌, refl}
 use mathlib.Core.Option.{Option, none, some}
 use mathlib.Core.Bool.{Bool, true, false}
@@ -11,15 +12,7 @@ use Rattle.line.specs.Forms.{part, field_in, listed}
 use Rattle.line.specs.declared.Span.{Span}
 use Rattle.line.specs.declared.Fields.{Fields}
 use Rattle.number.specs.Executable.{the_integer_of, the_pair_of, triple_of, is_name_length_of}
-use Rattle.number.specs.declared.Number as DN
-use Rattle.number.specs.declared.Number.TheVariants as Number
-use Rattle.number.specs.declared.Pair as DP
-use Rattle.number.specs.declared.Pair.TheVariants as Pair
-use Rattle.number.specs.declared.Triple as DT
-use Rattle.number.specs.declared.Triple.TheVariants as Triple
 use Rattle.coordinate.specs.Executable.{the_coordinate_of}
-use Rattle.coordinate.specs.declared.Degrees as DD
-use Rattle.coordinate.specs.declared.Degrees.TheVariants as Degrees
 use Rattle.word.specs.Number.{boundary_number}
 use Rattle.word.proofs.Boundary.{boundary-most}
 use Rattle.grammar.specs.Statements.{Kind, Boundary, RNDF_name_of, num_segments, num_zones, format_version_of, creation_date_of, segment, num_lanes, segment_name_of, end_segment, lane, num_waypoints, lane_width_of, left_boundary_of, right_boundary_of, checkpoint, stop, exit, end_lane_of, zone, num_spots, zone_name_of, end_zone, perimeter, num_perimeterpoints, end_perimeter, spot, spot_width_of, end_spot, end_file_of, point}
@@ -30,27 +23,28 @@ use Rattle.text.specs.RndfWords.{word_at, rndf_sorts, rndf_make}
 use Rattle.statement.specs.declared.Statement.{Statement}
 use Rattle.statement.specs.declared.Statement.TheVariants as st
 use Rattle.statement.specs.Kinds.{of_kind, boundary_row}
-use Rattle.made_out.specs.declared.Made.TheVariants.{Is, No}
 use Rattle.made_out.specs.Names.{the_the_stretch_of, behind, told_as}
 use Rattle.made_out.specs.Made.{shapes, needs_of, bare_of, named_of, numbered_of, paired_of, sided_of, name_made_of, number_made_of, pair_made_of, side_made_of, checkpoint_made_of, stop_made_of, exit_made_of, point_made_of, made_of, made_from}
+use Rattle.std.specs.Prelude as Rust
+use Rattle.number.specs.declared.Id.{Id}
 
 -- ## By shape
 names : (mk : ℕ → ℕ → Statement) (base : ℕ) (s : Bytes) (f : Span)
-    → made_from (pick (is_name_length_of (length (part s f))) (Is (mk (base + f.start) (length (part s f)))) No) ≡ told_as (λ v. mk v.0.start (length v.0.bytes)) (both (read a_name (field_in base s f)) (some (tt {0})))
+    → made_from (pick (is_name_length_of (length (part s f))) (Some (mk (base + f.start) (length (part s f)))) None) ≡ told_as (λ v. mk v.0.start (length v.0.bytes)) (both (read a_name (field_in base s f)) (some (tt {0})))
 unfolding read
 names mk base s f = go (is_name_length_of (length (part s f)))
   where
-    go : (b : Bool) → made_from (pick b (Is (mk (base + f.start) (length (part s f)))) No) ≡ told_as (λ v. mk v.0.start (length v.0.bytes)) (both (pick b (some (field_in base s f)) none) (some (tt {0})))
+    go : (b : Bool) → made_from (pick b (Some (mk (base + f.start) (length (part s f)))) None) ≡ told_as (λ v. mk v.0.start (length v.0.bytes)) (both (pick b (some (field_in base s f)) none) (some (tt {0})))
     go true = refl
     go false = refl
 
-numbers : (k : ℕ) (n : DN.Number) → made_from (number_made_of k n) ≡ told_as (λ v. numbered_of k v.0) (both (number n) (some (tt {0})))
-numbers k (Number.Is n) = refl
-numbers k Number.No = refl
+numbers : (k : ℕ) (n : Rust.Option ℕ) → made_from (number_made_of k n) ≡ told_as (λ v. numbered_of k v.0) (both (number n) (some (tt {0})))
+numbers k (Some n) = refl
+numbers k None = refl
 
-pairs : (k : ℕ) (n : DP.Pair) → made_from (pair_made_of k n) ≡ told_as (λ v. paired_of k v.0.m v.0.n) (both (pair_from n) (some (tt {0})))
-pairs k (Pair.Is m n) = refl
-pairs k Pair.No = refl
+pairs : (k : ℕ) (n : Rust.Option (ℕ × ℕ)) → made_from (pair_made_of k n) ≡ told_as (λ v. paired_of k v.0.m v.0.n) (both (pair_from n) (some (tt {0})))
+pairs k (Some (m, n)) = refl
+pairs k None = refl
 
 sides : (k b : ℕ) → b ≤ 4 → made_from (side_made_of k b) ≡ told_as (λ v. sided_of k (boundary_row v.0)) (both (boundary_from b) (some (tt {0})))
 unfolding side_made_of
@@ -61,25 +55,25 @@ sides k (suc (suc (suc zero))) h = refl
 sides k (suc (suc (suc (suc zero)))) h = refl
 sides k (suc (suc (suc (suc (suc b))))) h = absurd (omega arith)
 
-checkpoints : (i : DT.Triple) (n : DN.Number) → made_from (checkpoint_made_of i n) ≡ told_as (λ v. of_kind checkpoint (rndf_make checkpoint v)) (both (triple_from i) (both (number n) (some (tt {0}))))
-checkpoints (Triple.Is i) (Number.Is n) = refl
-checkpoints (Triple.Is i) Number.No = refl
-checkpoints Triple.No n = refl
+checkpoints : (i : Rust.Option Id) (n : Rust.Option ℕ) → made_from (checkpoint_made_of i n) ≡ told_as (λ v. of_kind checkpoint (rndf_make checkpoint v)) (both (triple_from i) (both (number n) (some (tt {0}))))
+checkpoints (Some i) (Some n) = refl
+checkpoints (Some i) None = refl
+checkpoints None n = refl
 
-stops : (i : DT.Triple) → made_from (stop_made_of i) ≡ told_as (λ v. of_kind stop (rndf_make stop v)) (both (triple_from i) (some (tt {0})))
-stops (Triple.Is i) = refl
-stops Triple.No = refl
+stops : (i : Rust.Option Id) → made_from (stop_made_of i) ≡ told_as (λ v. of_kind stop (rndf_make stop v)) (both (triple_from i) (some (tt {0})))
+stops (Some i) = refl
+stops None = refl
 
-exits : (i e : DT.Triple) → made_from (exit_made_of i e) ≡ told_as (λ v. of_kind exit (rndf_make exit v)) (both (triple_from i) (both (triple_from e) (some (tt {0}))))
-exits (Triple.Is i) (Triple.Is e) = refl
-exits (Triple.Is i) Triple.No = refl
-exits Triple.No e = refl
+exits : (i e : Rust.Option Id) → made_from (exit_made_of i e) ≡ told_as (λ v. of_kind exit (rndf_make exit v)) (both (triple_from i) (both (triple_from e) (some (tt {0}))))
+exits (Some i) (Some e) = refl
+exits (Some i) None = refl
+exits None e = refl
 
-points : (i : DT.Triple) (a o : DD.Degrees) → made_from (point_made_of i a o) ≡ told_as (λ v. of_kind point (rndf_make point v)) (both (triple_from i) (both (degrees a) (both (degrees o) (some (tt {0})))))
-points (Triple.Is i) (Degrees.Is a) (Degrees.Is o) = refl
-points (Triple.Is i) (Degrees.Is a) Degrees.No = refl
-points (Triple.Is i) Degrees.No o = refl
-points Triple.No a o = refl
+points : (i : Rust.Option Id) (a o : Rust.Option ℤ) → made_from (point_made_of i a o) ≡ told_as (λ v. of_kind point (rndf_make point v)) (both (triple_from i) (both (degrees a) (both (degrees o) (some (tt {0})))))
+points (Some i) (Some a) (Some o) = refl
+points (Some i) (Some a) None = refl
+points (Some i) None o = refl
+points None a o = refl
 
 -- ## Every kind
 module _ (base : ℕ) (s : Bytes) (f : Fields) where

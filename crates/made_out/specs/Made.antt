@@ -1,5 +1,5 @@
 -- Executable: the statement that fields make, by the shape of its kind. Assumes nothing.
-use Rattle.std.specs.Prelude.{◌≡◌, List, [], ◌∷◌, Bool, true, false, ℕ, ◌+◌, length, get_or, eqb, ltb, ℤ}
+use Rattle.std.specs.Prelude.{◌≡◌, List, [], ◌∷◌, Bool, true, false, ℕ, ◌+◌, length, get_or, eqb, ltb, ℤ, Some, None}
 use Rattle.std.proofs.Math.Option.{Option, none, some}
 use Rattle.terms.specs.Ascii.{Bytes}
 use Rattle.terms.specs.Words.{pick}
@@ -7,22 +7,12 @@ use Rattle.line.specs.Forms.{part}
 use Rattle.line.specs.declared.Span.{Span}
 use Rattle.line.specs.declared.Fields.{Fields}
 use Rattle.number.specs.Executable.{the_integer_of, the_pair_of, triple_of, is_name_length_of}
-use Rattle.number.specs.declared.Number as DN
-use Rattle.number.specs.declared.Number.TheVariants as Number
-use Rattle.number.specs.declared.Pair as DP
-use Rattle.number.specs.declared.Pair.TheVariants as Pair
-use Rattle.number.specs.declared.Triple as DT
-use Rattle.number.specs.declared.Triple.TheVariants as Triple
-use Rattle.number.specs.declared.Id as NId
 use Rattle.coordinate.specs.Executable.{the_coordinate_of}
-use Rattle.coordinate.specs.declared.Degrees as DD
-use Rattle.coordinate.specs.declared.Degrees.TheVariants as Degrees
 use Rattle.word.specs.Number.{boundary_number}
-use Rattle.statement.specs.declared.Id.{Id}
+use Rattle.number.specs.declared.Id.{Id}
 use Rattle.statement.specs.declared.Statement.{Statement}
 use Rattle.statement.specs.declared.Statement.TheVariants as st
-use Rattle.made_out.specs.declared.Made.{Made}
-use Rattle.made_out.specs.declared.Made.TheVariants.{Is, No}
+use Rattle.std.specs.Prelude as Rust
 
 -- ## The shape of each kind, by its row
 abbrev pub shapes : List ℕ
@@ -49,48 +39,44 @@ paired_of k m n = pick (eqb k 9) (st.Lane m n) (pick (eqb k 22) (st.Perimeter m 
 unfoldable pub sided_of : ℕ → ℕ → Statement
 sided_of k b = pick (eqb k 12) (st.LeftBoundary b) (st.RightBoundary b)
 
--- ## What the values of each shape make
-abbrev pub the_id_of : NId.Id → Id
-the_id_of i = record { x = i.x; y = i.y; z = i.z }
+unfoldable pub name_made_of : ℕ → ℕ → Bytes → Span → Rust.Option Statement
+name_made_of k base s f = pick (is_name_length_of (length (part s f))) (Some (named_of k (base + f.start) (length (part s f)))) None
 
-unfoldable pub name_made_of : ℕ → ℕ → Bytes → Span → Made
-name_made_of k base s f = pick (is_name_length_of (length (part s f))) (Is (named_of k (base + f.start) (length (part s f)))) No
+abbrev pub number_made_of : ℕ → Rust.Option ℕ → Rust.Option Statement
+number_made_of k (Some v) = Some (numbered_of k v)
+number_made_of k None = None
 
-abbrev pub number_made_of : ℕ → DN.Number → Made
-number_made_of k (Number.Is v) = Is (numbered_of k v)
-number_made_of k Number.No = No
+abbrev pub pair_made_of : ℕ → Rust.Option (ℕ × ℕ) → Rust.Option Statement
+pair_made_of k (Some (m, n)) = Some (paired_of k m n)
+pair_made_of k None = None
 
-abbrev pub pair_made_of : ℕ → DP.Pair → Made
-pair_made_of k (Pair.Is m n) = Is (paired_of k m n)
-pair_made_of k Pair.No = No
+unfoldable pub side_made_of : ℕ → ℕ → Rust.Option Statement
+side_made_of k b = pick (eqb b 0) None (Some (sided_of k b))
 
-unfoldable pub side_made_of : ℕ → ℕ → Made
-side_made_of k b = pick (eqb b 0) No (Is (sided_of k b))
+abbrev pub checkpoint_made_of : Rust.Option Id → Rust.Option ℕ → Rust.Option Statement
+checkpoint_made_of (Some i) (Some v) = Some (st.Checkpoint i v)
+checkpoint_made_of (Some i) None = None
+checkpoint_made_of None n = None
 
-abbrev pub checkpoint_made_of : DT.Triple → DN.Number → Made
-checkpoint_made_of (Triple.Is i) (Number.Is v) = Is (st.Checkpoint (the_id_of i) v)
-checkpoint_made_of (Triple.Is i) Number.No = No
-checkpoint_made_of Triple.No n = No
+abbrev pub stop_made_of : Rust.Option Id → Rust.Option Statement
+stop_made_of (Some i) = Some (st.Stop i)
+stop_made_of None = None
 
-abbrev pub stop_made_of : DT.Triple → Made
-stop_made_of (Triple.Is i) = Is (st.Stop (the_id_of i))
-stop_made_of Triple.No = No
+abbrev pub exit_made_of : Rust.Option Id → Rust.Option Id → Rust.Option Statement
+exit_made_of (Some i) (Some e) = Some (st.Exit i e)
+exit_made_of (Some i) None = None
+exit_made_of None e = None
 
-abbrev pub exit_made_of : DT.Triple → DT.Triple → Made
-exit_made_of (Triple.Is i) (Triple.Is e) = Is (st.Exit (the_id_of i) (the_id_of e))
-exit_made_of (Triple.Is i) Triple.No = No
-exit_made_of Triple.No e = No
-
-abbrev pub point_made_of : DT.Triple → DD.Degrees → DD.Degrees → Made
-point_made_of (Triple.Is i) (Degrees.Is a) (Degrees.Is o) = Is (st.Point (the_id_of i) a o)
-point_made_of (Triple.Is i) (Degrees.Is a) Degrees.No = No
-point_made_of (Triple.Is i) Degrees.No o = No
-point_made_of Triple.No a o = No
+abbrev pub point_made_of : Rust.Option Id → Rust.Option ℤ → Rust.Option ℤ → Rust.Option Statement
+point_made_of (Some i) (Some a) (Some o) = Some (st.Point i a o)
+point_made_of (Some i) (Some a) None = None
+point_made_of (Some i) None o = None
+point_made_of None a o = None
 
 -- ## By the shape of the kind
-abbrev pub by_shape : ℕ → Bytes → ℕ → Fields → ℕ → Made
+abbrev pub by_shape : ℕ → Bytes → ℕ → Fields → ℕ → Rust.Option Statement
 by_shape shape s base f k =
-    pick (eqb shape 0) (Is (bare_of k))
+    pick (eqb shape 0) (Some (bare_of k))
     (pick (eqb shape 1) (name_made_of k base s f.b)
     (pick (eqb shape 2) (number_made_of k (the_integer_of (part s f.b)))
     (pick (eqb shape 3) (pair_made_of k (the_pair_of (part s f.b)))
@@ -100,7 +86,7 @@ by_shape shape s base f k =
     (pick (eqb shape 7) (exit_made_of (triple_of (part s f.b)) (triple_of (part s f.c)))
     (point_made_of (triple_of (part s f.a)) (the_coordinate_of (part s f.b)) (the_coordinate_of (part s f.c))))))))))
 
-unfoldable pub made_of : Bytes → ℕ → Fields → ℕ → Made
+unfoldable pub made_of : Bytes → ℕ → Fields → ℕ → Rust.Option Statement
 made_of s base f k = by_shape (get_or shapes k 0) s base f k
 
 -- ## As the program answers, which has an answer for every number: a row that is no kind has no fields, and nothing is made of it,
@@ -108,9 +94,9 @@ made_of s base f k = by_shape (get_or shapes k 0) s base f k
 abbrev pub fields_needed_of : ℕ → ℕ
 fields_needed_of k = pick (ltb k 30) (needs_of (get_or shapes k 0)) 0
 
-unfoldable pub made_within : Bytes → ℕ → Fields → ℕ → Made
-made_within s base f k = pick (ltb k 30) (pick (ltb (base + length s) 4294967296) (made_of s base f k) No) No
+unfoldable pub made_within : Bytes → ℕ → Fields → ℕ → Rust.Option Statement
+made_within s base f k = pick (ltb k 30) (pick (ltb (base + length s) 4294967296) (made_of s base f k) None) None
 
-abbrev pub made_from : Made → Option Statement
-made_from (Is s) = some s
-made_from No = none
+abbrev pub made_from : Rust.Option Statement → Option Statement
+made_from (Some s) = some s
+made_from None = none

@@ -15,18 +15,11 @@ ghost use Rattle.word.specs.Number.{boundary_number};
 ghost use Rattle.made_out.specs.Made.{shapes, fields_needed_of, bare_of, named_of, numbered_of, paired_of, sided_of, name_made_of, number_made_of, pair_made_of, side_made_of, checkpoint_made_of, stop_made_of, exit_made_of, point_made_of, made_of, made_within};
 ghost use Rattle.made_out.specs.MadeOrders.{order_shapes, order_fields_needed_of, bare_order_of, named_order_of, numbered_order_of, name_ordered_of, number_ordered_of, limit_ordered_of, order_made_of, order_made_within};
 
-use coordinate::{Degrees, coordinate_of};
+use coordinate::coordinate_of;
 use line::{Fields, Span};
-use number::{Number, Pair, Triple, integer_of, is_name_length, pair_of, triple_of};
-use statement::{Id, Order, Statement, kinds, orders};
+use number::{Id, integer_of, is_name_length, pair_of, triple_of};
+use statement::{Order, Statement, kinds, orders};
 use word::boundary_word;
-
-// What the fields are, as one statement.
-#[derive(Clone, Copy)]
-pub enum Made {
-    Is(Statement),
-    No,
-}
 
 // What stands behind the keyword of each kind, in the order of kinds: 0 nothing, 1 a name, 2 an integer, 3 an identifier m.n, 4 a boundary,
 // 5 an identifier x.y.z and an integer, 6 an identifier x.y.z, 7 two of them; 8: no keyword, an identifier x.y.z and two coordinates.
@@ -132,123 +125,89 @@ pub fn line_fits(base: usize, length: usize) -> bool
 }
 
 // The statement of each shape.
-fn name_made(kind: u8, base: usize, s: &[u8], f: Span) -> Made
+fn name_made(kind: u8, base: usize, s: &[u8], f: Span) -> Option<Statement>
     requires { base + length s.now < 4294967296 }
     ensures { result ≡ name_made_of kind base s.now f }
 {
     let name = field(s, f);
     let n = name.len();
     if is_name_length(n) {
-        Made::Is(named(kind, (base + f.start) as u32, n as u32))
+        Some(named(kind, (base + f.start) as u32, n as u32))
     } else {
-        Made::No
+        None
     }
 }
 
-fn number_made(kind: u8, n: Number) -> Made
+fn number_made(kind: u8, n: Option<u32>) -> Option<Statement>
     ensures { result ≡ number_made_of kind n }
 {
-    let Number::Is(v) = n else {
-        return Made::No;
+    let Some(v) = n else {
+        return None;
     };
-    Made::Is(numbered(kind, v))
+    Some(numbered(kind, v))
 }
 
-fn pair_made(kind: u8, p: Pair) -> Made
+fn pair_made(kind: u8, p: Option<(u32, u32)>) -> Option<Statement>
     ensures { result ≡ pair_made_of kind p }
 {
-    let Pair::Is(m, n) = p else {
-        return Made::No;
+    let Some((m, n)) = p else {
+        return None;
     };
-    Made::Is(paired(kind, m, n))
+    Some(paired(kind, m, n))
 }
 
-fn side_made(kind: u8, b: u8) -> Made
+fn side_made(kind: u8, b: u8) -> Option<Statement>
     ensures { result ≡ side_made_of kind b }
 {
-    if b == 0 {
-        Made::No
-    } else {
-        Made::Is(sided(kind, b))
-    }
+    if b == 0 { None } else { Some(sided(kind, b)) }
 }
 
-fn checkpoint_made(i: Triple, n: Number) -> Made
+fn checkpoint_made(i: Option<Id>, n: Option<u32>) -> Option<Statement>
     ensures { result ≡ checkpoint_made_of i n }
 {
-    let Triple::Is(w) = i else {
-        return Made::No;
+    let Some(w) = i else {
+        return None;
     };
-    let Number::Is(v) = n else {
-        return Made::No;
+    let Some(v) = n else {
+        return None;
     };
-    Made::Is(Statement::Checkpoint(
-        Id {
-            x: w.x,
-            y: w.y,
-            z: w.z,
-        },
-        v,
-    ))
+    Some(Statement::Checkpoint(w, v))
 }
 
-fn stop_made(i: Triple) -> Made
+fn stop_made(i: Option<Id>) -> Option<Statement>
     ensures { result ≡ stop_made_of i }
 {
-    let Triple::Is(w) = i else {
-        return Made::No;
+    let Some(w) = i else {
+        return None;
     };
-    Made::Is(Statement::Stop(Id {
-        x: w.x,
-        y: w.y,
-        z: w.z,
-    }))
+    Some(Statement::Stop(w))
 }
 
-fn exit_made(i: Triple, j: Triple) -> Made
+fn exit_made(i: Option<Id>, j: Option<Id>) -> Option<Statement>
     ensures { result ≡ exit_made_of i j }
 {
-    let Triple::Is(w) = i else {
-        return Made::No;
+    let Some(w) = i else {
+        return None;
     };
-    let Triple::Is(e) = j else {
-        return Made::No;
+    let Some(e) = j else {
+        return None;
     };
-    Made::Is(Statement::Exit(
-        Id {
-            x: w.x,
-            y: w.y,
-            z: w.z,
-        },
-        Id {
-            x: e.x,
-            y: e.y,
-            z: e.z,
-        },
-    ))
+    Some(Statement::Exit(w, e))
 }
 
-fn point_made(i: Triple, a: Degrees, o: Degrees) -> Made
+fn point_made(i: Option<Id>, a: Option<i32>, o: Option<i32>) -> Option<Statement>
     ensures { result ≡ point_made_of i a o }
 {
-    let Triple::Is(w) = i else {
-        return Made::No;
+    let Some(w) = i else {
+        return None;
     };
-    let Degrees::Is(latitude) = a else {
-        return Made::No;
+    let Some(latitude) = a else {
+        return None;
     };
-    let Degrees::Is(longitude) = o else {
-        return Made::No;
+    let Some(longitude) = o else {
+        return None;
     };
-    Made::Is(Statement::Point(
-        Id {
-            x: w.x,
-            y: w.y,
-            z: w.z,
-        },
-        latitude,
-        longitude,
-    ))
+    Some(Statement::Point(w, latitude, longitude))
 }
 
 // How many fields a line of the kind has, its keyword among them; none for a row that is no kind.
@@ -269,7 +228,7 @@ pub fn fields_needed(kind: u8) -> u8
     }
 }
 
-fn made_of_kind(s: &[u8], base: usize, f: Fields, kind: u8) -> Made
+fn made_of_kind(s: &[u8], base: usize, f: Fields, kind: u8) -> Option<Statement>
     requires { (base + length s.now < 4294967296) × (kind < 30) }
     ensures { result ≡ made_of s.now base f kind }
 {
@@ -278,7 +237,7 @@ fn made_of_kind(s: &[u8], base: usize, f: Fields, kind: u8) -> Made
     let c = f.c;
     let shape = shape_of(kind as usize);
     match shape {
-        0 => Made::Is(bare(kind)),
+        0 => Some(bare(kind)),
         1 => name_made(kind, base, s, b),
         2 => number_made(kind, integer_of(field(s, b))),
         3 => pair_made(kind, pair_of(field(s, b))),
@@ -295,7 +254,7 @@ fn made_of_kind(s: &[u8], base: usize, f: Fields, kind: u8) -> Made
 }
 
 // The statement that the fields of a line make, given that there are as many as its kind needs.
-pub fn made_out(s: &[u8], base: usize, f: Fields, kind: u8) -> Made
+pub fn made_out(s: &[u8], base: usize, f: Fields, kind: u8) -> Option<Statement>
     ensures { result ≡ made_within s.now base f kind }
 {
     if kind < 30 {
@@ -303,14 +262,7 @@ pub fn made_out(s: &[u8], base: usize, f: Fields, kind: u8) -> Made
             return made_of_kind(s, base, f, kind);
         }
     }
-    Made::No
-}
-
-// ## Orders of an MDF
-#[derive(Clone, Copy)]
-pub enum MadeOrder {
-    Is(Order),
-    No,
+    None
 }
 
 // What stands behind the keyword: 0 nothing, 1 a name, 2 an integer; 3 and 4: no keyword, one integer, three.
@@ -356,41 +308,41 @@ fn numbered_order(kind: u8, n: u32) -> Order
     }
 }
 
-fn name_ordered(kind: u8, base: usize, s: &[u8], f: Span) -> MadeOrder
+fn name_ordered(kind: u8, base: usize, s: &[u8], f: Span) -> Option<Order>
     requires { base + length s.now < 4294967296 }
     ensures { result ≡ name_ordered_of kind base s.now f }
 {
     let name = field(s, f);
     let n = name.len();
     if is_name_length(n) {
-        MadeOrder::Is(named_order(kind, (base + f.start) as u32, n as u32))
+        Some(named_order(kind, (base + f.start) as u32, n as u32))
     } else {
-        MadeOrder::No
+        None
     }
 }
 
-fn number_ordered(kind: u8, n: Number) -> MadeOrder
+fn number_ordered(kind: u8, n: Option<u32>) -> Option<Order>
     ensures { result ≡ number_ordered_of kind n }
 {
-    let Number::Is(v) = n else {
-        return MadeOrder::No;
+    let Some(v) = n else {
+        return None;
     };
-    MadeOrder::Is(numbered_order(kind, v))
+    Some(numbered_order(kind, v))
 }
 
-fn limit_ordered(i: Number, a: Number, b: Number) -> MadeOrder
+fn limit_ordered(i: Option<u32>, a: Option<u32>, b: Option<u32>) -> Option<Order>
     ensures { result ≡ limit_ordered_of i a b }
 {
-    let Number::Is(id) = i else {
-        return MadeOrder::No;
+    let Some(id) = i else {
+        return None;
     };
-    let Number::Is(minimum) = a else {
-        return MadeOrder::No;
+    let Some(minimum) = a else {
+        return None;
     };
-    let Number::Is(maximum) = b else {
-        return MadeOrder::No;
+    let Some(maximum) = b else {
+        return None;
     };
-    MadeOrder::Is(Order::Limit(id, minimum, maximum))
+    Some(Order::Limit(id, minimum, maximum))
 }
 
 pub fn order_fields_needed(kind: u8) -> u8
@@ -409,7 +361,7 @@ pub fn order_fields_needed(kind: u8) -> u8
     }
 }
 
-fn order_of_kind(s: &[u8], base: usize, f: Fields, kind: u8) -> MadeOrder
+fn order_of_kind(s: &[u8], base: usize, f: Fields, kind: u8) -> Option<Order>
     requires { (base + length s.now < 4294967296) × (kind < 13) }
     ensures { result ≡ order_made_of s.now base f kind }
 {
@@ -418,7 +370,7 @@ fn order_of_kind(s: &[u8], base: usize, f: Fields, kind: u8) -> MadeOrder
     let c = f.c;
     let shape = order_shape(kind as usize);
     match shape {
-        0 => MadeOrder::Is(bare_order(kind)),
+        0 => Some(bare_order(kind)),
         1 => name_ordered(kind, base, s, b),
         2 => number_ordered(kind, integer_of(field(s, b))),
         3 => number_ordered(kind, integer_of(field(s, a))),
@@ -431,7 +383,7 @@ fn order_of_kind(s: &[u8], base: usize, f: Fields, kind: u8) -> MadeOrder
 }
 
 // The order that the fields of a line make, given that there are as many as its kind needs.
-pub fn order_made_out(s: &[u8], base: usize, f: Fields, kind: u8) -> MadeOrder
+pub fn order_made_out(s: &[u8], base: usize, f: Fields, kind: u8) -> Option<Order>
     ensures { result ≡ order_made_within s.now base f kind }
 {
     if kind < 13 {
@@ -439,5 +391,5 @@ pub fn order_made_out(s: &[u8], base: usize, f: Fields, kind: u8) -> MadeOrder
             return order_of_kind(s, base, f, kind);
         }
     }
-    MadeOrder::No
+    None
 }

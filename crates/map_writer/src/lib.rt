@@ -19,7 +19,7 @@ ghost use Rattle.writings.specs.Writes.{WritesMap};
 use counts::Counts;
 use edition::Edition;
 use features::put_map;
-use output::{Finished, clear_output, finish};
+use output::{clear_output, finish};
 use reader::read_rndf;
 use refusal::Refusal;
 use replies::RndfReply;
@@ -39,7 +39,7 @@ fn put_whole(
     checkpoints: &[u32],
     counts: Counts,
     out: &mut [u8],
-) -> Finished
+) -> Option<usize>
     ensures { Finishes (whole text.now segments.now lanes.now zones.now spots.now points.now checkpoints.now (length out.old) counts).out (whole text.now segments.now lanes.now zones.now spots.now points.now checkpoints.now (length out.old) counts).at out.new result }
 {
     clear_output(out);
@@ -73,7 +73,7 @@ fn write_read(
     ensures { Answers read (length out.old) (whole text.now segments.now lanes.now zones.now spots.now points.now checkpoints.now (length out.old)) out.new result }
 {
     match read {
-        RndfReply::Accepted(c, file) => {
+        Ok((c, file)) => {
             let ended = put_whole(
                 text,
                 segments,
@@ -86,8 +86,8 @@ fn write_read(
                 out,
             );
             match ended {
-                Finished::Written(n) => WriteReply::Written(c, file, n as u32),
-                Finished::TooLong => WriteReply::Refused(Refusal {
+                Some(n) => Ok((c, file, n as u32)),
+                None => Err(Refusal {
                     file: 1,
                     line: 0,
                     number: 19,
@@ -95,9 +95,9 @@ fn write_read(
                 }),
             }
         }
-        RndfReply::Refused(why) => {
+        Err(why) => {
             clear_output(out);
-            WriteReply::Refused(why)
+            Err(why)
         }
     }
 }
@@ -143,8 +143,8 @@ pub fn write_map(
         out,
     );
     match reply {
-        WriteReply::Written(c, file, n) => WriteReply::Written(c, file, n),
-        WriteReply::Refused(why) => {
+        Ok((c, file, n)) => Ok((c, file, n)),
+        Err(why) => {
             clear_tables(
                 segments,
                 lanes,
@@ -155,7 +155,7 @@ pub fn write_map(
                 stops,
                 exits,
             );
-            WriteReply::Refused(why)
+            Err(why)
         }
     }
 }

@@ -5,9 +5,9 @@ use Rattle.std.specs.Int.Bits.{bit_or}
 use Rattle.terms.specs.Words.{pick}
 use Rattle.units.specs.Made.{within}
 use Rattle.fill.specs.FirstFaults.{fault_if, first_fault}
-use Rattle.marks.specs.declared.FirstRow.{FirstRow}
 use Rattle.marks.specs.Rows.{said}
 use Rattle.marks.specs.Tests.{row_of}
+use Rattle.std.specs.Prelude as Rust
 
 -- ## How marks are kept: mark i is bit i % 8, the lowest first, of byte i / 8
 -- 02, L6: "Keep eight to a byte inside the part that answers "seen already?"."
@@ -39,5 +39,5 @@ mark_all marks (a ∷ l) = mark_all (with_mark marks a) l
 abbrev pub unmarked : Marks → List ℕ → ℕ → Option ℕ
 unmarked marks front a = fault_if (not (is_marked_of marks a)) 15
 
-abbrev pub first_unmarked_of : Marks → (ℕ → ℕ) → ℕ → FirstRow
+abbrev pub first_unmarked_of : Marks → (ℕ → ℕ) → ℕ → Rust.Option ℕ
 first_unmarked_of marks says n = row_of (first_fault (unmarked marks) [] (said says n))

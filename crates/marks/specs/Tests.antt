@@ -1,31 +1,30 @@
 -- Executable: the tests, over the numbers that were there. Document 01, "Refusal numbers", 13 and 15 to 17.
 -- That they are `fill`'s first faults over the tables of a network and of a mission are laws (`references`, proofs/Repeats; `mission_references`, proofs/Laws). Assumes nothing.
-use Rattle.std.specs.Prelude.{List, [], Bool, false, not, ℕ, min, eqb}
+use Rattle.std.specs.Prelude.{List, [], Bool, false, not, ℕ, min, eqb, Some, None}
 use Rattle.std.proofs.Math.Option.{Option, none, some}
 use Rattle.terms.specs.Words.{pick}
 use Rattle.units.specs.Range.{largest}
 use Rattle.units.specs.Made.{within}
 use Rattle.fill.specs.FirstFaults.{Fault, fault_if, or_else, is_among, in_parts, first_fault}
-use Rattle.marks.specs.declared.FirstRow.{FirstRow}
-use Rattle.marks.specs.declared.FirstRow.TheVariants as R
 use Rattle.marks.specs.declared.BadLimit.{BadLimit}
 use Rattle.marks.specs.declared.BadLimit.TheVariants as Limit
 use Rattle.marks.specs.Rows.{checkpoint_says, goal_says, limit_says, said}
+use Rattle.std.specs.Prelude as Rust
 
 -- Is the number among these? A lent table may hold any number; one that is no number of a checkpoint or of a part (0, or above 32,768) is never there
 abbrev pub seen : List ℕ → ℕ → Bool
 seen numbers a = pick (within 1 a) (is_among a numbers) false
 
-abbrev pub row_of : Option Fault → FirstRow
-row_of none = R.Nothing
-row_of (some f) = R.At f.row
+abbrev pub row_of : Option Fault → Rust.Option ℕ
+row_of none = None
+row_of (some f) = Some f.row
 
 -- ## Checkpoint numbers
 -- 01, 13: "checkpoint number already declared"
 abbrev pub repeated : List ℕ → ℕ → Option ℕ
 repeated front a = fault_if (seen front a) 13
 
-unfoldable pub first_repeat_of : (checkpoints : List ℕ) (count : ℕ) → FirstRow
+unfoldable pub first_repeat_of : (checkpoints : List ℕ) (count : ℕ) → Rust.Option ℕ
 first_repeat_of t n = row_of (first_fault repeated [] (said (checkpoint_says t) n))
 
 -- ## Goals
@@ -33,7 +32,7 @@ first_repeat_of t n = row_of (first_fault repeated [] (said (checkpoint_says t) 
 abbrev pub foreign : List ℕ → List ℕ → ℕ → Option ℕ
 foreign numbers front a = fault_if (not (seen numbers a)) 15
 
-unfoldable pub first_foreign_goal_of : (checkpoints : List ℕ) (checkpointCount : ℕ) (goals : List ℕ) (goalCount : ℕ) → FirstRow
+unfoldable pub first_foreign_goal_of : (checkpoints : List ℕ) (checkpointCount : ℕ) (goals : List ℕ) (goalCount : ℕ) → Rust.Option ℕ
 first_foreign_goal_of checkpoints m goals n = row_of (first_fault (foreign (said (checkpoint_says checkpoints) m)) [] (said (goal_says goals) n))
 
 -- ## Limits

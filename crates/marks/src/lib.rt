@@ -20,13 +20,6 @@ ghost use Rattle.marks.specs.Marks.{is_marked_of, with_mark, mark_all, first_unm
 use read_rows::{checkpoint_at, goal_at, limit_at};
 use units::{CheckpointNumber, SegmentId};
 
-// The first row at fault.
-#[derive(Clone, Copy)]
-pub enum FirstRow {
-    At(u32),
-    Nothing,
-}
-
 // The first limit at fault: 16 or 17, at this row.
 #[derive(Clone, Copy)]
 pub enum BadLimit {
@@ -66,18 +59,18 @@ pub fn mark(marks: &mut [u8; 4096], number: u16)
 
 // ## Checkpoint numbers
 // 13: the first row whose checkpoint number stood before it.
-pub fn first_repeat(checkpoints: &[u32], count: u32) -> FirstRow
+pub fn first_repeat(checkpoints: &[u32], count: u32) -> Option<u32>
     ensures { result ≡ first_repeat_of checkpoints.now count }
 {
     let mut marks = [0; 4096];
     for row in 0..count {
         let checkpoint = checkpoint_at(checkpoints, row as usize);
         if is_marked(&marks, checkpoint.number.0) {
-            return FirstRow::At(row);
+            return Some(row);
         }
         mark(&mut marks, checkpoint.number.0);
     }
-    FirstRow::Nothing
+    None
 }
 
 // ## Goals
@@ -92,16 +85,16 @@ fn mark_checkpoints(marks: &mut [u8; 4096], checkpoints: &[u32], count: u32)
 }
 
 // The first goal whose number has no mark.
-fn first_unmarked_goal(marks: &[u8; 4096], goals: &[u32], count: u32) -> FirstRow
+fn first_unmarked_goal(marks: &[u8; 4096], goals: &[u32], count: u32) -> Option<u32>
     ensures { result ≡ first_unmarked_of marks.now (goal_says goals.now) count }
 {
     for row in 0..count {
         let goal = goal_at(goals, row as usize);
         if !is_marked(marks, goal.number.0) {
-            return FirstRow::At(row);
+            return Some(row);
         }
     }
-    FirstRow::Nothing
+    None
 }
 
 // 15: the first goal that is no checkpoint of the RNDF. Of each table the first rows count, as many as it is said to have.
@@ -110,7 +103,7 @@ pub fn first_foreign_goal(
     checkpoint_count: u32,
     goals: &[u32],
     goal_count: u32,
-) -> FirstRow
+) -> Option<u32>
     ensures { result ≡ first_foreign_goal_of checkpoints.now checkpoint_count goals.now goal_count }
 {
     let mut marks = [0; 4096];

@@ -5,7 +5,7 @@
 #![tactic(auto)]
 
 use console::{put, put_decimal};
-use marks::{BadLimit, FirstRow, first_bad_limit, first_foreign_goal, first_repeat};
+use marks::{BadLimit, first_bad_limit, first_foreign_goal, first_repeat};
 use std::io;
 use std::io::Write;
 
@@ -20,10 +20,10 @@ fn say<W: Write>(to: &mut W, letter: &[u8], row: u32) -> io::Result<()> {
     put_decimal(to, row as u64)
 }
 
-fn say_row<W: Write>(to: &mut W, letter: &[u8], answer: FirstRow) -> io::Result<()> {
+fn say_row<W: Write>(to: &mut W, letter: &[u8], answer: Option<u32>) -> io::Result<()> {
     match answer {
-        FirstRow::At(row) => say(to, letter, row),
-        FirstRow::Nothing => { put(to, b" -") }
+        Some(row) => say(to, letter, row),
+        None => { put(to, b" -") }
     }
 }
 

@@ -1,4 +1,5 @@
 -- What the tool finds over the given text tells whether a reader with room enough accepts the mended one (`mend_good`, over `mend_walk`). Assumes nothing.
+use Rattle.std.specs.Prelude.{Some, None, Option}
 use mathlib.Core.Path.{◌≡◌, refl, sym, ap, subst, ◌∙◌}
 use mathlib.Core.List.{List, [], ◌∷◌, ◌++◌}
 use mathlib.Core.Bool.{Bool, true, false}
@@ -24,7 +25,6 @@ use Rattle.progress.specs.After.{no_progress}
 use Rattle.network.specs.Storing.{Memory}
 use Rattle.network.specs.Reading.{put}
 use Rattle.network.specs.Reaching.{WalkEnd, stopped, reached, goes, reaching}
-use Rattle.marks.specs.declared.FirstRow.TheVariants as R
 use Rattle.marks.specs.Tests.{first_repeat_of}
 use Rattle.references.specs.Finding.{look_in}
 use Rattle.refusal.specs.Size.{most}
@@ -41,8 +41,6 @@ use Rattle.mend_told.proofs.Recounted.{kind-kept, no-exit}
 use Rattle.mend_alike.proofs.Stored.{Alike, same-segments, same-lanes, same-zones, same-checkpoints, looks-alike}
 use Rattle.mend_alike.proofs.Walks.{EndAlike, stops, ends}
 use Rattle.mend_good.proofs.Deciding as Told
-use Rattle.mend.specs.declared.Formed as DF
-use Rattle.mend.specs.declared.Formed.TheVariants.{Rows, No}
 use Rattle.mend_passes.specs.Passes.{exit_right_at, are_exits_right_of}
 use Rattle.mend.specs.Mending.{walk_with, segment_words_of, lane_words_of, row_words_of, EntriesTold, FormTold}
 use Rattle.mend.proofs.Natural.{mended-alike}
@@ -96,10 +94,10 @@ no-other-fault e (l ∷ ls) p m d start i q x j k n a b = go (line (judging_in e
     go (said s r) f a b = f r (put (place start i l) s m) (put (place start i l) s d) a b
 
 -- the list is not refused and has rows
-rows-or-no : {g : Progress} {X : Type 0} → ◌≡◌ {A = DF.Formed} (Rows g) No → X
+rows-or-no : {g : Progress} {X : Type 0} → ◌≡◌ {A = Option Progress} (Some g) None → X
 rows-or-no e = absurd (let z : ◌≡◌ {A = ℕ} 0 1 = cc in omega arith)
 
-rows_same : {g h : Progress} → ◌≡◌ {A = DF.Formed} (Rows g) (Rows h) → g ≡ h
+rows_same : {g h : Progress} → ◌≡◌ {A = Option Progress} (Some g) (Some h) → g ≡ h
 rows_same e = cc
 
 module _ (ε : Edition) (text : Bytes) where
@@ -116,19 +114,19 @@ module _ (ε : Edition) (text : Bytes) where
     mended : text_walk ε (mended_text text) sg ln zn ck ≡ reached at there behind
     alike : Alike here there
 
-  pub form-past : (t left : List ℕ) → FormTold (walk_with ε text [] [] [] t) No left → Good → ⊥
+  pub form-past : (t left : List ℕ) → FormTold (walk_with ε text [] [] [] t) None left → Good → ⊥
   form-past t left f g = go (both_ends (mended-alike ε text (few no_progress [] [] [] t)))
     where
       go : Ends (walk_with ε text [] [] [] t) (text_walk ε (mended_text text) [] [] [] t) → ⊥
       go (inl (i, n, x, y)) = Told.fault_past ε (mended_text text) [] [] [] t i n y g
-      go (inr (p, m, d, i, x, y, h)) = short (over_of p) refl (subst (λ (w : WalkEnd). FormTold w No left) x f)
+      go (inr (p, m, d, i, x, y, h)) = short (over_of p) refl (subst (λ (w : WalkEnd). FormTold w None left) x f)
         where
-          short : (o : Bool) → over_of p ≡ o → pick o ((No ≡ Rows m.so_far) × (left ≡ m.checkpoints)) (◌≡◌ {A = DF.Formed} No No) → ⊥
+          short : (o : Bool) → over_of p ≡ o → pick o ((◌≡◌ {A = Option Progress} None (Some m.so_far)) × (left ≡ m.checkpoints)) (◌≡◌ {A = Option Progress} None None) → ⊥
           short true q v = rows-or-no (sym v.0)
           short false q v = Told.short-past ε (mended_text text) [] [] [] t p d i y q g
 
   -- the list has so many words, a row for each line
-  module _ (words : ℕ) (room : length (lines_of text) ≤ words / 2) (g : Progress) (left : List ℕ) (f : FormTold (walk_with ε text [] [] [] (nought words)) (Rows g) left) (size : length (mended_text text) ≤ most) where
+  module _ (words : ℕ) (room : length (lines_of text) ≤ words / 2) (g : Progress) (left : List ℕ) (f : FormTold (walk_with ε text [] [] [] (nought words)) (Some g) left) (size : length (mended_text text) ≤ most) where
     -- the walk that told the form
     record Form : Type 0 where
       walks : Walks [] [] [] (nought words)
@@ -140,10 +138,10 @@ module _ (ε : Edition) (text : Bytes) where
     form = go (both_ends (mended-alike ε text (few no_progress [] [] [] (nought words))))
       where
         go : Ends (walk_with ε text [] [] [] (nought words)) (text_walk ε (mended_text text) [] [] [] (nought words)) → Form
-        go (inl (i, n, x, y)) = rows-or-no (subst (λ (w : WalkEnd). FormTold w (Rows g) left) x f)
-        go (inr (p, m, d, i, x, y, h)) = over-so (over_of p) refl (subst (λ (w : WalkEnd). FormTold w (Rows g) left) x f)
+        go (inl (i, n, x, y)) = rows-or-no (subst (λ (w : WalkEnd). FormTold w (Some g) left) x f)
+        go (inr (p, m, d, i, x, y, h)) = over-so (over_of p) refl (subst (λ (w : WalkEnd). FormTold w (Some g) left) x f)
           where
-            over-so : (o : Bool) → over_of p ≡ o → pick o ((Rows g ≡ Rows m.so_far) × (left ≡ m.checkpoints)) (◌≡◌ {A = DF.Formed} (Rows g) No) → Form
+            over-so : (o : Bool) → over_of p ≡ o → pick o ((Some g ≡ Some m.so_far) × (left ≡ m.checkpoints)) (◌≡◌ {A = Option Progress} (Some g) None) → Form
             over-so true q v = record { walks = record { at = p; behind = i; here = m; there = d; walked = x; mended = y; alike = h }; over = q; rows = rows_same v.0; checkpoints = v.1 }
             over-so false q v = rows-or-no v
 
@@ -194,7 +192,7 @@ module _ (ε : Edition) (text : Bytes) where
     repeat-so : first_repeat_of left g.checkpoints ≡ first_repeat_of end.checkpoints end.so_far.checkpoints
     repeat-so = let c = form.checkpoints ∙ form.walks.alike.checkpoints in λ i. first_repeat_of (c i) (checkpoints-so i)
 
-    pub repeat_past : (row : ℕ) → first_repeat_of left g.checkpoints ≡ R.At row → Good → ⊥
+    pub repeat_past : (row : ℕ) → first_repeat_of left g.checkpoints ≡ Some row → Good → ⊥
     repeat_past row r = Told.repeat_past ε (mended_text text) size words form.walks.at end form.walks.behind form.walks.mended form.over checkpoints-fit row (sym repeat-so ∙ r)
 
     -- 12
@@ -226,7 +224,7 @@ module _ (ε : Edition) (text : Bytes) where
         let z = zones-so in
         Told.entry_past ε (mended_text text) size words form.walks.at end form.walks.behind form.walks.mended form.over (segment_words_of g) (lane_words_of g) zone_room in-segments.at in-lanes.at in-zones.at in-segments.there in-lanes.there in-zones.there in-segments.behind in-lanes.behind in-zones.behind in-segments.mended in-lanes.mended in-zones.mended (omega arith) (omega arith) (omega arith) (sym (entries-so false t))
 
-    pub all-good : first_repeat_of left g.checkpoints ≡ R.Nothing → EntriesTold ε text words g true → Good
+    pub all-good : first_repeat_of left g.checkpoints ≡ None → EntriesTold ε text words g true → Good
     all-good r t =
         let fit = rows_fit in
         let s = segments-so in

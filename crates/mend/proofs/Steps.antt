@@ -1,4 +1,6 @@
 -- What the inner functions learn of their calls, said as their contracts say it. Assumes nothing.
+use Rattle.std.specs.Prelude.{Some, None, Ok, Err, Option, Result}
+use Rattle.mend_law.specs.Types.{MendReply}
 use mathlib.Core.Path.{◌≡◌, refl, sym, ap, ap₂, subst, ◌∙◌}
 use mathlib.Core.List.{List, ◌++◌}
 use mathlib.Core.Bool.{Bool, true, false}
@@ -14,8 +16,6 @@ use Rattle.terms.specs.Words.{Bytes, pick}
 use Rattle.terms.proofs.Tests.{clash}
 use Rattle.line.specs.Lines.{lines_of}
 use Rattle.rows.specs.Table.{put_rows}
-use Rattle.output.specs.declared.Finished as DF
-use Rattle.output.specs.declared.Finished.TheVariants.{Written, TooLong}
 use Rattle.output.specs.Ended.{Output}
 use Rattle.output.specs.Output.{zero_bytes}
 use Rattle.output.specs.Output as Out
@@ -29,21 +29,16 @@ use Rattle.place.specs.Step.{over_of}
 use Rattle.progress.specs.declared.Progress.{Progress}
 use Rattle.refusal.specs.declared.Fault.{Fault}
 use Rattle.network.specs.Storing.{Memory}
-use Rattle.network.specs.declared.Walked as DW
-use Rattle.network.specs.declared.Walked.TheVariants as Walked
 use Rattle.network.specs.Reaching.{WalkEnd, stopped, reached, stood}
 use Rattle.replies.specs.Replies.{refusal}
 use Rattle.mend_law.specs.Mend.{mended_text, listed_rows}
 use Rattle.law.specs.Tables.{gather, holding}
 use Rattle.refusal.specs.Size.{most}
 use Rattle.mend_law.specs.Mends.{AcceptedWithRoom, Mends, no_output, refused, done}
-use Rattle.mend_law.specs.declared.MendReply.{MendReply}
-use Rattle.mend_law.specs.declared.MendReply.TheVariants.{Mended, Refused}
 use Rattle.mend_lines.specs.Forward.{none_before_of}
 use Rattle.mend_pieces.specs.Pieces.{mended_bytes, changed_rows}
 use Rattle.mend_told.proofs.Told.{bytes-told, rows_told}
 use Rattle.mend_passes.specs.Passes.{list_row}
-use Rattle.mend.specs.declared.Formed.TheVariants.{Rows, No}
 use Rattle.mend.specs.Mending.{EntriesTold, FormTold, GoodTold, PutOut}
 use Rattle.mend.proofs.Leaving.{listed-left}
 
@@ -57,36 +52,36 @@ memory_in d (stopped i n) = d
 memory_in d (reached p m i) = m
 
 -- f: the table's place in the memory; t: what it then holds
-pub table-so : (w : DW.Walked) (tables : Progress → Memory) (f : Memory → List ℕ) (t : List ℕ) → ((g : Progress) → f (tables g) ≡ t) → (p : Place) (m : Memory) (i : ℕ) → stood w tables ≡ reached p m i → t ≡ f m
+pub table-so : (w : Result (Place × Progress × ℕ) Fault) (tables : Progress → Memory) (f : Memory → List ℕ) (t : List ℕ) → ((g : Progress) → f (tables g) ≡ t) → (p : Place) (m : Memory) (i : ℕ) → stood w tables ≡ reached p m i → t ≡ f m
 unfolding end-kind
-table-so (Walked.Fault x) tables f t h p m i e = absurd (let z : ◌≡◌ {A = ℕ} 0 1 = ap end-kind e in omega arith)
-table-so (Walked.Ended q g j) tables f t h p m i e = sym (h g) ∙ ap (λ (w : WalkEnd). f (memory_in m w)) e
+table-so (Err x) tables f t h p m i e = absurd (let z : ◌≡◌ {A = ℕ} 0 1 = ap end-kind e in omega arith)
+table-so (Ok (q, g, j)) tables f t h p m i e = sym (h g) ∙ ap (λ (w : WalkEnd). f (memory_in m w)) e
 
 -- ## The form
-pub form-fault : (end : WalkEnd) (x : Fault) (tables : Progress → Memory) (left : List ℕ) → stood (Walked.Fault x) tables ≡ end → FormTold end No left
-form-fault end x tables left e = subst (λ (w : WalkEnd). FormTold w No left) e refl
+pub form-fault : (end : WalkEnd) (x : Fault) (tables : Progress → Memory) (left : List ℕ) → stood (Err x) tables ≡ end → FormTold end None left
+form-fault end x tables left e = subst (λ (w : WalkEnd). FormTold w None left) e refl
 
-pub form-over : (end : WalkEnd) (p : Place) (g : Progress) (i : ℕ) (tables : Progress → Memory) (left : List ℕ) → stood (Walked.Ended p g i) tables ≡ end → over_of p ≡ true → (tables g).so_far ≡ g → (tables g).checkpoints ≡ left → FormTold end (Rows g) left
-form-over end p g i tables left e o s k = subst (λ (w : WalkEnd). FormTold w (Rows g) left) e (subst (λ (b : Bool). pick b ((Rows g ≡ Rows (tables g).so_far) × (left ≡ (tables g).checkpoints)) (Rows g ≡ No)) (sym o) (ap Rows (sym s), sym k))
+pub form-over : (end : WalkEnd) (p : Place) (g : Progress) (i : ℕ) (tables : Progress → Memory) (left : List ℕ) → stood (Ok (p, g, i)) tables ≡ end → over_of p ≡ true → (tables g).so_far ≡ g → (tables g).checkpoints ≡ left → FormTold end (Some g) left
+form-over end p g i tables left e o s k = subst (λ (w : WalkEnd). FormTold w (Some g) left) e (subst (λ (b : Bool). pick b ((Some g ≡ Some (tables g).so_far) × (left ≡ (tables g).checkpoints)) (◌≡◌ {A = Option Progress} (Some g) None)) (sym o) (ap Some (sym s), sym k))
 
-pub form-short : (end : WalkEnd) (p : Place) (g : Progress) (i : ℕ) (tables : Progress → Memory) (left : List ℕ) → stood (Walked.Ended p g i) tables ≡ end → over_of p ≡ false → FormTold end No left
-form-short end p g i tables left e o = subst (λ (w : WalkEnd). FormTold w No left) e (subst (λ (b : Bool). pick b ((No ≡ Rows (tables g).so_far) × (left ≡ (tables g).checkpoints)) (No ≡ No)) (sym o) refl)
+pub form-short : (end : WalkEnd) (p : Place) (g : Progress) (i : ℕ) (tables : Progress → Memory) (left : List ℕ) → stood (Ok (p, g, i)) tables ≡ end → over_of p ≡ false → FormTold end None left
+form-short end p g i tables left e o = subst (λ (w : WalkEnd). FormTold w None left) e (subst (λ (b : Bool). pick b ((None ≡ Some (tables g).so_far) × (left ≡ (tables g).checkpoints)) (◌≡◌ {A = Option Progress} None None)) (sym o) refl)
 
 -- ## What comes out
 module _ (text : Bytes) (list : List ℕ) (lent : ℕ) where
   -- cleared, put and finished
-  pub output-so : {cleared full left : Bytes} {at : ℕ} {answer : DF.Finished} → cleared ≡ zero_bytes lent → Wrote (pen cleared 0) (mended_bytes none_before_of text (lines_of text)) (pen full at) → Finishes full at left answer → Output lent (mended_text text) left answer
+  pub output-so : {cleared full left : Bytes} {at : ℕ} {answer : Option ℕ} → cleared ≡ zero_bytes lent → Wrote (pen cleared 0) (mended_bytes none_before_of text (lines_of text)) (pen full at) → Finishes full at left answer → Output lent (mended_text text) left answer
   output-so z w f = written z (same (bytes-told text) w) f
 
-  pub put-good : (n rows : ℕ) (left : List ℕ) (out : Bytes) → Output lent (mended_text text) out (Written n) → length (lines_of text) ≤ length list / 2 → rows ≡ length (changed_rows 1 none_before_of (lines_of text))
-      → left ≡ put_rows 2 list_row (replicate (length list) 0) 0 (changed_rows 1 none_before_of (lines_of text)) → PutOut text list lent (Mended rows n) left out
+  pub put-good : (n rows : ℕ) (left : List ℕ) (out : Bytes) → Output lent (mended_text text) out (Some n) → length (lines_of text) ≤ length list / 2 → rows ≡ length (changed_rows 1 none_before_of (lines_of text))
+      → left ≡ put_rows 2 list_row (replicate (length list) 0) 0 (changed_rows 1 none_before_of (lines_of text)) → PutOut text list lent (Ok (rows, n)) left out
   put-good n rows left out o room r l =
       let w = answered-written o in
       let a : rows ≡ length (listed_rows text) = r ∙ ap (λ (x : List (List ℕ)). length x) (rows_told text) in
-      record { fits = λ f. (ap₂ (λ (x y : ℕ). Mended x y) a w.1, l ∙ listed-left text list room, w.2); long = λ never. absurd (never w.0) }
+      record { fits = λ f. (ap₂ (λ (x y : ℕ). Ok (x, y)) a w.1, l ∙ listed-left text list room, w.2); long = λ never. absurd (never w.0) }
 
   -- 19
-  pub put-long : (reply : MendReply) (left : List ℕ) (short out : Bytes) → Output lent (mended_text text) short TooLong → reply ≡ Refused (refusal 1 0 19 0) → left ≡ replicate (length list) 0 → out ≡ zero_bytes lent → PutOut text list lent reply left out
+  pub put-long : (reply : MendReply) (left : List ℕ) (short out : Bytes) → Output lent (mended_text text) short None → reply ≡ Err (refusal 1 0 19 0) → left ≡ replicate (length list) 0 → out ≡ zero_bytes lent → PutOut text list lent reply left out
   put-long reply left short out o r l z = record { fits = λ f. absurd ((answered_too-long o).0 f); long = λ never. (r, l, z) }
 
 -- ## 26
@@ -99,7 +94,7 @@ module _ (edition : Asked.Edition) (text : Bytes) where
       → (EntriesTold (inner edition) text words g false → AcceptedWithRoom (rules_of edition) (mended_text text) → ⊥) → GoodTold edition text r
   good-told words g r t right wrong = record { good = λ e. right (subst (EntriesTold (inner edition) text words g) e t); past = λ e. wrong (subst (EntriesTold (inner edition) text words g) e t) }
 
-pub fits_word : {lent n : ℕ} {x out : Bytes} → Output lent x out (Written n) → Fits w32 n
+pub fits_word : {lent n : ℕ} {x out : Bytes} → Output lent x out (Some n) → Fits w32 n
 fits_word o = let w = answered-written o in let s = w.0.size in let e = w.1 in record { fits = omega arith }
 
 -- ## The tool

@@ -1,5 +1,6 @@
 -- What the inner functions of the mending tool answer. Executable but for the tables that walks leave: these are told by where a walk ended, if it had no fault. Assumes nothing.
-use Rattle.std.specs.Prelude.{◌≡◌, List, [], Bool, true, false, ℕ, ◌+◌, ◌*◌, ◌≤◌, ◌<◌, length, replicate}
+use Rattle.mend_law.specs.Types.{MendReply}
+use Rattle.std.specs.Prelude.{◌≡◌, List, [], Bool, true, false, ℕ, ◌+◌, ◌*◌, ◌≤◌, ◌<◌, length, replicate, Some, None, Ok, Err, Option}
 use Rattle.terms.specs.Words.{Bytes, pick}
 use Rattle.line.specs.Lines.{lines_of}
 use Rattle.references.specs.Finding.{look_in}
@@ -17,14 +18,10 @@ use Rattle.output.specs.Output.{zero_bytes, Fits, padded}
 use Rattle.replies.specs.Replies.{refusal}
 use Rattle.mend_law.specs.Mend.{mended_text, listed_rows}
 use Rattle.mend_law.specs.Mends.{AcceptedWithRoom}
-use Rattle.mend_law.specs.declared.MendReply.{MendReply}
-use Rattle.mend_law.specs.declared.MendReply.TheVariants.{Mended, Refused}
 use Rattle.mend_lines.specs.Forward.{none_before_of}
 use Rattle.mend_passes.specs.Passes.{are_exits_right_of}
 use Rattle.mend_tests.specs.Tests.{few, nought}
 use Rattle.mend_walk.specs.Walking.{mended_walk}
-use Rattle.mend.specs.declared.Formed as DF
-use Rattle.mend.specs.declared.Formed.TheVariants.{Rows, No}
 
 -- ## The walk over what comes out
 abbrev pub walk_with : Edition → Bytes → (segments lanes zones checkpoints : List ℕ) → WalkEnd
@@ -62,9 +59,9 @@ pub record EntriesTold (e : Edition) (text : Bytes) (words : ℕ) (g : Progress)
       → r ≡ are_exits_right_of (look_in sm.segments lm.lanes zm.zones) g.segments none_before_of (lines_of text)
 
 -- ## The form; the list then holds the checkpoints
-abbrev pub FormTold : WalkEnd → DF.Formed → (left : List ℕ) → Type 0
-FormTold (stopped i n) r left = r ≡ No
-FormTold (reached p m i) r left = pick (over_of p) ((r ≡ Rows m.so_far) × (left ≡ m.checkpoints)) (r ≡ No)
+abbrev pub FormTold : WalkEnd → Option Progress → (left : List ℕ) → Type 0
+FormTold (stopped i n) r left = r ≡ None
+FormTold (reached p m i) r left = pick (over_of p) ((r ≡ Some m.so_far) × (left ≡ m.checkpoints)) (r ≡ None)
 
 -- ## 26
 pub record GoodTold (edition : Asked.Edition) (text : Bytes) (r : Bool) : Type 0 where
@@ -73,5 +70,5 @@ pub record GoodTold (edition : Asked.Edition) (text : Bytes) (r : Bool) : Type 0
 
 -- ## 19, or what comes out and what is listed. lent: the length of the lent output
 pub record PutOut (text : Bytes) (list : List ℕ) (lent : ℕ) (reply : MendReply) (left : List ℕ) (out : Bytes) : Type 0 where
-  pub fits : Fits lent (mended_text text) → (reply ≡ Mended (length (listed_rows text)) (length (mended_text text))) × (left ≡ holding 0 (listed_rows text) list) × (out ≡ padded lent (mended_text text))
-  pub long : (Fits lent (mended_text text) → ⊥) → (reply ≡ Refused (refusal 1 0 19 0)) × (left ≡ replicate (length list) 0) × (out ≡ zero_bytes lent)
+  pub fits : Fits lent (mended_text text) → (reply ≡ Ok (length (listed_rows text), length (mended_text text))) × (left ≡ holding 0 (listed_rows text) list) × (out ≡ padded lent (mended_text text))
+  pub long : (Fits lent (mended_text text) → ⊥) → (reply ≡ Err (refusal 1 0 19 0)) × (left ≡ replicate (length list) 0) × (out ≡ zero_bytes lent)

@@ -10,13 +10,12 @@
 // Rests on `mend_walk`, `mend_passes`, `mend_good`, `mend_told`, `mend_alike`, `mend_law`, `marks`, `output`, `rows` and what they rest on.
 #![tactic(auto)]
 
-ghost use Rattle.std.specs.Prelude.{◌≡◌, [], ◌-◌, ◌/◌, ◌≤◌, length, take, drop, replicate};
+ghost use Rattle.std.specs.Prelude.{◌≡◌, [], ◌-◌, ◌/◌, ◌≤◌, length, take, drop, replicate, Err};
 ghost use Rattle.refusal.specs.Size.{most};
 ghost use Rattle.edition.specs.Editions.{inner, rules_of};
 ghost use Rattle.line.specs.Lines.{lines_of};
 ghost use Rattle.replies.specs.Replies.{refusal};
 ghost use Rattle.output.specs.Output.{zero_bytes};
-ghost use Rattle.mend_law.specs.declared.MendReply.TheVariants as reply;
 ghost use Rattle.mend_law.specs.Mends.{Mends};
 ghost use Rattle.references.specs.Finding.{look_in};
 ghost use Rattle.mend_lines.specs.Forward.{none_before_of};
@@ -24,24 +23,23 @@ ghost use Rattle.mend_passes.specs.Passes.{are_exits_right_of};
 ghost use Rattle.mend.specs.Mending.{walk_with, SegmentsIn, LanesIn, ZonesIn, EntriesTold, FormTold, GoodTold, PutOut};
 
 use edition::Edition;
-use marks::{FirstRow, first_repeat};
+use marks::first_repeat;
 use mend_law::MendReply;
 use mend_passes::{are_exits_right, lines_in, list_changes, mended_length, put_mended};
 use mend_walk::walk_mended;
-use network::Walked;
-use output::{Finished, MOST, clear_output, finish};
+use output::{MOST, clear_output, finish};
 use progress::Progress;
 use refusal::{LONGEST_TEXT, Refusal};
 use rows::{clear, rows_of};
 
-// ## Tables for the references, each by a walk of its own
+// ## Tables for the references, each by a walk of its own. What a walk answers is known by then (`form_of`).
 fn fill_segments(edition: Edition, text: &[u8], segments: &mut [u32])
     ensures { length text.now ≤ most → SegmentsIn (inner edition) text.now segments.old segments.new }
 {
     let mut lanes: [u32; 0] = [0; 0];
     let mut zones: [u32; 0] = [0; 0];
     let mut checkpoints: [u32; 0] = [0; 0];
-    walk_mended(
+    let _ = walk_mended(
         edition,
         text,
         segments,
@@ -57,7 +55,7 @@ fn fill_lanes(edition: Edition, text: &[u8], lanes: &mut [u32])
     let mut segments: [u32; 0] = [0; 0];
     let mut zones: [u32; 0] = [0; 0];
     let mut checkpoints: [u32; 0] = [0; 0];
-    walk_mended(
+    let _ = walk_mended(
         edition,
         text,
         &mut segments,
@@ -73,7 +71,7 @@ fn fill_zones(edition: Edition, text: &[u8], zones: &mut [u32])
     let mut segments: [u32; 0] = [0; 0];
     let mut lanes: [u32; 0] = [0; 0];
     let mut checkpoints: [u32; 0] = [0; 0];
-    walk_mended(
+    let _ = walk_mended(
         edition,
         text,
         &mut segments,
@@ -115,16 +113,8 @@ fn are_entries_right(edition: Edition, text: &[u8], list: &mut [u32], gained: Pr
     are_entries_declared(text, list, a, b, gained.segments)
 }
 
-// ## 26
-// The lines that come out have no fault of form, and so many rows; or they have one.
-#[derive(Clone, Copy)]
-enum Formed {
-    Rows(Progress),
-    No,
-}
-
 // The list then holds the checkpoints.
-fn form_of(edition: Edition, text: &[u8], list: &mut [u32]) -> Formed
+fn form_of(edition: Edition, text: &[u8], list: &mut [u32]) -> Option<Progress>
     requires { length text.now ≤ most }
     ensures { FormTold (walk_with (inner edition) text.now [] [] [] list.old) result list.new }
 {
@@ -133,14 +123,8 @@ fn form_of(edition: Edition, text: &[u8], list: &mut [u32]) -> Formed
     let mut zones: [u32; 0] = [0; 0];
     let walked = walk_mended(edition, text, &mut segments, &mut lanes, &mut zones, list);
     match walked {
-        Walked::Fault(_) => Formed::No,
-        Walked::Ended(place, gained, _) => {
-            if place.is_over() {
-                Formed::Rows(gained)
-            } else {
-                Formed::No
-            }
-        }
+        Err(_) => None,
+        Ok((place, gained, _)) => { if place.is_over() { Some(gained) } else { None } }
     }
 }
 
@@ -151,7 +135,7 @@ fn is_good(edition: Edition, text: &[u8], list: &mut [u32]) -> bool
     ensures { GoodTold edition text.now result }
 {
     clear(list);
-    let Formed::Rows(gained) = form_of(edition, text, list) else {
+    let Some(gained) = form_of(edition, text, list) else {
         return false;
     };
     if MOST < mended_length(text) {
@@ -159,20 +143,20 @@ fn is_good(edition: Edition, text: &[u8], list: &mut [u32]) -> bool
     }
     let repeated = first_repeat(list, gained.checkpoints);
     match repeated {
-        FirstRow::At(_) => false,
-        FirstRow::Nothing => are_entries_right(edition, text, list, gained),
+        Some(_) => false,
+        None => are_entries_right(edition, text, list, gained),
     }
 }
 
 // ## The tool
 fn refused(list: &mut [u32], out: &mut [u8], file: u8, number: u8) -> MendReply
-    ensures value { result ≡ reply.Refused (refusal file 0 number 0) }
+    ensures value { result ≡ Err (refusal file 0 number 0) }
     ensures list_after { list.new ≡ replicate (length list.old) 0 }
     ensures out_after { out.new ≡ zero_bytes (length out.old) }
 {
     clear(list);
     clear_output(out);
-    MendReply::Refused(Refusal {
+    Err(Refusal {
         file,
         line: 0,
         number,
@@ -190,12 +174,12 @@ fn put_out(list: &mut [u32], out: &mut [u8], text: &[u8]) -> MendReply
     let at = put_mended(out, text);
     let finished = finish(out, at);
     match finished {
-        Finished::Written(bytes) => {
+        Some(bytes) => {
             clear(list);
             let rows = list_changes(list, text);
-            MendReply::Mended(rows, bytes as u32)
+            Ok((rows, bytes as u32))
         }
-        Finished::TooLong => refused(list, out, 1, 19),
+        None => refused(list, out, 1, 19),
     }
 }
 

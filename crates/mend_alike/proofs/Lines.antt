@@ -1,4 +1,5 @@
 -- THE LAW of a line: wherever it starts, it gets the same of the judge but for where its name starts (`line-alike`). Assumes nothing.
+use Rattle.std.specs.Prelude.{Some, None, Ok, Err, Result}
 use mathlib.Core.Path.{◌≡◌, refl, sym, ap, ◌∙◌}
 use mathlib.Core.Bool.{Bool, true, false}
 use mathlib.Core.Option.{Option, none, some}
@@ -8,8 +9,6 @@ use lib.Dec.{eqb, ltb}
 use Rattle.terms.specs.Words.{Bytes, pick}
 use Rattle.line.specs.Forms.{form_of, fields_in_of, part}
 use Rattle.line.specs.Lines.{trim_of}
-use Rattle.line.specs.declared.Form as Form
-use Rattle.line.specs.declared.Form.TheVariants.{Bad, Body}
 use Rattle.line.specs.declared.Fields.{Fields}
 use Rattle.line.specs.declared.Span.{Span}
 use Rattle.number.specs.Executable.{is_name_length_of}
@@ -18,8 +17,6 @@ use Rattle.grammar.specs.Machine.{Out, next, refuse}
 use Rattle.grammar.specs.PlaceTable.{rndf_table_of}
 use Rattle.statement.specs.declared.Statement.{Statement}
 use Rattle.statement.specs.declared.Statement.TheVariants as st
-use Rattle.made_out.specs.declared.Made.{Made}
-use Rattle.made_out.specs.declared.Made.TheVariants.{Is, No}
 use Rattle.made_out.specs.Made.{shapes, needs_of, named_of, name_made_of, made_of, made_from}
 use Rattle.place.specs.declared.Place.{Place}
 use Rattle.place.specs.Step.{cell_of, refuses_by, due_of, option_of, by_cell, Outcome}
@@ -28,6 +25,7 @@ use Rattle.judge.specs.Judging.{Got, bad, blank, said, taken, valued, of_kind, k
 use Rattle.judge.specs.RndfLine.{rndf_kind}
 use Rattle.edition_judge.specs.EditionLine.{bars_of, only_had, judging_in}
 use Rattle.mend_alike.specs.Plain.{plain, plain_said}
+use Rattle.std.specs.Prelude as Rust
 
 -- ## A statement
 plain-twice : (s : Statement) → plain (plain s) ≡ plain s
@@ -143,9 +141,9 @@ abbrev plainly-told : Option Statement → Option Statement
 plainly-told none = none
 plainly-told (some s) = some (plain s)
 
-abbrev plainly-made : Made → Made
-plainly-made No = No
-plainly-made (Is s) = Is (plain s)
+abbrev plainly-made : Rust.Option Statement → Rust.Option Statement
+plainly-made None = None
+plainly-made (Some s) = Some (plain s)
 
 named-alike : (k a b l : ℕ) → plain (named_of k a l) ≡ plain (named_of k b l)
 unfolding named_of plain
@@ -163,12 +161,12 @@ name-alike : (k a b : ℕ) (s : Bytes) (f : Span) → plainly-made (name_made_of
 unfolding name_made_of
 name-alike k a b s f = go (is_name_length_of (length (part s f)))
   where
-    go : (x : Bool) → plainly-made (pick x (Is (named_of k (a + f.start) (length (part s f)))) No) ≡ plainly-made (pick x (Is (named_of k (b + f.start) (length (part s f)))) No)
-    go true = ap (λ (t : Statement). Is t) (named-alike k (a + f.start) (b + f.start) (length (part s f)))
+    go : (x : Bool) → plainly-made (pick x (Some (named_of k (a + f.start) (length (part s f)))) None) ≡ plainly-made (pick x (Some (named_of k (b + f.start) (length (part s f)))) None)
+    go true = ap (λ (t : Statement). Some t) (named-alike k (a + f.start) (b + f.start) (length (part s f)))
     go false = refl
 
 -- only a name knows where its line starts
-shape-alike : (x y : Bool) (u v w r : Made) → plainly-made v ≡ plainly-made w → plainly-made (pick x u (pick y v r)) ≡ plainly-made (pick x u (pick y w r))
+shape-alike : (x y : Bool) (u v w r : Rust.Option Statement) → plainly-made v ≡ plainly-made w → plainly-made (pick x u (pick y v r)) ≡ plainly-made (pick x u (pick y w r))
 shape-alike true y u v w r h = refl
 shape-alike false true u v w r h = h
 shape-alike false false u v w r h = refl
@@ -177,12 +175,12 @@ made_alike : (s : Bytes) (a b : ℕ) (f : Fields) (k : ℕ) → plainly-made (ma
 unfolding made_of
 made_alike s a b f k = shape-alike (eqb (get_or shapes k 0) 0) (eqb (get_or shapes k 0) 1) _ (name_made_of k a s f.b) (name_made_of k b s f.b) _ (name-alike k a b s f.b)
 
-told-alike : (x y : Made) → plainly-made x ≡ plainly-made y → plainly-told (made_from x) ≡ plainly-told (made_from y)
+told-alike : (x y : Rust.Option Statement) → plainly-made x ≡ plainly-made y → plainly-told (made_from x) ≡ plainly-told (made_from y)
 told-alike x y h = through x ∙ ap made_from h ∙ sym (through y)
   where
-    through : (x : Made) → plainly-told (made_from x) ≡ made_from (plainly-made x)
-    through No = refl
-    through (Is s) = refl
+    through : (x : Rust.Option Statement) → plainly-told (made_from x) ≡ made_from (plainly-made x)
+    through None = refl
+    through (Some s) = refl
 
 -- ## A line
 module _ (e : Edition) (p : Place) where
@@ -222,9 +220,9 @@ module _ (e : Edition) (p : Place) where
       go true = refl
       go false = known_alike s a b (fields_in_of s) (rndf_kind (part s (fields_in_of s).a))
 
-  formed-alike : (s : Bytes) (a b : ℕ) (o : Form.Form) → plain_said (formed (judging_in e) s a p o) ≡ plain_said (formed (judging_in e) s b p o)
-  formed-alike s a b (Bad n) = refl
-  formed-alike s a b (Body k) = body_alike (take k s) a b
+  formed-alike : (s : Bytes) (a b : ℕ) (o : Result ℕ ℕ) → plain_said (formed (judging_in e) s a p o) ≡ plain_said (formed (judging_in e) s b p o)
+  formed-alike s a b (Err n) = refl
+  formed-alike s a b (Ok k) = body_alike (take k s) a b
 
 pub line-alike : (e : Edition) (l : Bytes) (a b : ℕ) (p : Place) → plain_said (line (judging_in e) l a p) ≡ plain_said (line (judging_in e) l b p)
 unfolding line content

@@ -1,4 +1,5 @@
 -- Memories that differ in where names start alone (`Alike`) stay so behind a statement (`put-alike`). Of the tables, those that the references need: what is read of segments, lanes and zones, and the checkpoints. Assumes nothing.
+use Rattle.std.specs.Prelude.{Some, None}
 use mathlib.Core.Path.{◌≡◌, refl, sym, ap, subst, ◌∙◌}
 use mathlib.Core.Bool.{Bool, true, false}
 use mathlib.Core.List.{List}
@@ -15,8 +16,6 @@ use Rattle.rows.specs.Strides.{segment_stride, lane_stride, zone_stride, checkpo
 use Rattle.rows.specs.declared.SegmentRow.{SegmentRow}
 use Rattle.rows.specs.declared.LaneRow.{LaneRow}
 use Rattle.rows.specs.declared.ZoneRow.{ZoneRow}
-use Rattle.units.specs.declared.CheckpointNumberRead.{CheckpointNumberRead}
-use Rattle.units.specs.declared.CheckpointNumberRead.TheVariants as C
 use Rattle.rows.specs.declared.CheckpointRow.{CheckpointRow}
 use Rattle.rows.proofs.Lay.{put-outside, length-put, put_same, put_other}
 use Rattle.statement.specs.declared.Statement.{Statement}
@@ -31,6 +30,8 @@ use Rattle.references.specs.Finding.{look_in}
 use Rattle.network.specs.Storing.{Memory, store_numbered_of, stored}
 use Rattle.network.specs.Reading.{put}
 use Rattle.mend_alike.specs.Plain.{plain, plainly, plain_row}
+use Rattle.std.specs.Prelude as Rust
+use Rattle.units.specs.declared.CheckpointNumber.{CheckpointNumber}
 
 -- ## Memories
 -- tables of segments, of which the same is read but for names
@@ -116,9 +117,9 @@ zone_in (Row.Checkpoint read k) = none
 zone_in (Row.Stop a) = none
 zone_in (Row.Exit a) = none
 
-abbrev made : CheckpointNumberRead → ℕ → Option CheckpointRow
-made (C.Is number) k = some (record { number = number; point = k })
-made C.Refused k = none
+abbrev made : Rust.Option CheckpointNumber → ℕ → Option CheckpointRow
+made (Some number) k = some (record { number = number; point = k })
+made None k = none
 
 abbrev checkpoint_in : Row → Option CheckpointRow
 checkpoint_in Row.Nothing = none
@@ -180,8 +181,8 @@ module _ (m : Memory) where
   checkpoints_stored (Row.Zone a) = refl
   checkpoints_stored (Row.Spot a) = refl
   checkpoints_stored (Row.Point a) = refl
-  checkpoints_stored (Row.Checkpoint (C.Is number) k) = refl
-  checkpoints_stored (Row.Checkpoint C.Refused k) = refl
+  checkpoints_stored (Row.Checkpoint (Some number) k) = refl
+  checkpoints_stored (Row.Checkpoint None k) = refl
   checkpoints_stored (Row.Stop a) = refl
   checkpoints_stored (Row.Exit a) = refl
 

@@ -1,7 +1,9 @@
 -- THE THEOREM: walks with few tables, the test of repeated numbers and that of each exit's line tell whether a reader with room enough accepts a text. Assumes nothing.
+use Rattle.std.specs.Prelude.{Some, None}
 use mathlib.Core.Path.{◌≡◌, refl, sym, ap, subst, ◌∙◌}
 use mathlib.Core.List.{List, []}
 use mathlib.Core.Bool.{true, false}
+use Rattle.std.specs.Prelude as Rust
 use mathlib.Core.Option.{Option, none, some}
 use Prim.Native.Nat.{ℕ, ◌+◌, ◌*◌, ◌≤◌, ◌<◌}
 use native.Mathlib.Omega.{arith}
@@ -26,7 +28,6 @@ use Rattle.fault_lines.proofs.RndfFaults.{undeclared_in, repeated_in}
 use Rattle.place.specs.declared.Place.{Place}
 use Rattle.place.specs.Step.{over_of}
 use Rattle.progress.specs.After.{no_progress}
-use Rattle.marks.specs.declared.FirstRow.TheVariants as R
 use Rattle.marks.specs.Tests.{first_repeat_of, row_of}
 use Rattle.references.specs.Finding.{look_in}
 use Rattle.refusal.specs.Size.{most}
@@ -42,7 +43,7 @@ use Rattle.mend_good.proofs.Entries.{right-declared, declared-right}
 use Rattle.mend_good.proofs.Room as Rows
 
 -- no row, no number that repeats
-no_row : (o : Option Fault) → row_of o ≡ R.Nothing → o ≡ none
+no_row : (o : Option Fault) → row_of o ≡ None → o ≡ none
 no_row none e = refl
 no_row (some f) e = absurd (let z : ◌≡◌ {A = ℕ} 0 1 = cc in omega arith)
 
@@ -111,9 +112,9 @@ module _ (ε : Edition) (text : Bytes) where
         subst (λ (x : Memory). first_repeat_of x.checkpoints x.so_far.checkpoints ≡ row_of (repeated_in n)) (left_so ε text size n s 0 0 0 d p m i e) (repeated ε n text size s d (subst (λ (x : ℕ). x * 2 ≤ d) k.checkpoints h))
 
     -- 13
-    pub repeat_past : m.so_far.checkpoints * 2 ≤ d → (row : ℕ) → first_repeat_of m.checkpoints m.so_far.checkpoints ≡ R.At row → Good → ⊥
+    pub repeat_past : m.so_far.checkpoints * 2 ≤ d → (row : ℕ) → first_repeat_of m.checkpoints m.so_far.checkpoints ≡ Some row → Good → ⊥
     repeat_past h row r g =
-        let q : R.At row ≡ R.Nothing = sym r ∙ repeat-is g.1 (spelled g) h ∙ ap row_of (sound-only g.1 g.2.right).1 in
+        let q : ◌≡◌ {A = Rust.Option ℕ} (Some row) None = sym r ∙ repeat-is g.1 (spelled g) h ∙ ap row_of (sound-only g.1 g.2.right).1 in
         let z : ◌≡◌ {A = ℕ} 0 1 = cc in
         omega arith
 
@@ -136,7 +137,7 @@ module _ (ε : Edition) (text : Bytes) where
       pub entry_past : all_right_of (look_in sm.segments lm.lanes zm.zones) m.so_far.segments (lines_of text) ≡ false → Good → ⊥
       entry_past r g = clash (sym (declared-right g.1 text (later ε g.1 text (spelled g)) (sound-only g.1 g.2.right).0) ∙ sym (entries-are g.1 (spelled g)) ∙ r)
 
-      pub all-good : m.so_far.checkpoints * 2 ≤ d → first_repeat_of m.checkpoints m.so_far.checkpoints ≡ R.Nothing → all_right_of (look_in sm.segments lm.lanes zm.zones) m.so_far.segments (lines_of text) ≡ true → Good
+      pub all-good : m.so_far.checkpoints * 2 ≤ d → first_repeat_of m.checkpoints m.so_far.checkpoints ≡ None → all_right_of (look_in sm.segments lm.lanes zm.zones) m.so_far.segments (lines_of text) ≡ true → Good
       all-good h r t =
           let n = found.0 in
           let s = found.1 in

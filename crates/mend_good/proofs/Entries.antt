@@ -1,4 +1,5 @@
 -- THE LAW of 12, line by line: of a text that spells a network every exit's line has a declared entry exactly if no entry of the network is undeclared. Assumes nothing.
+use Rattle.std.specs.Prelude.{Some, None}
 use mathlib.Core.Path.{◌≡◌, refl, sym, ap, subst, subst_refl, path_j, ◌∙◌}
 use mathlib.Core.List.{List, [], ◌∷◌, ◌++◌, map}
 use mathlib.Core.Bool.{Bool, true, false, ◌&&◌, and-true, and_assoc}
@@ -19,8 +20,6 @@ use Rattle.line.specs.Lines.{lines_of}
 use Rattle.line.specs.Forms.{fields_in_of, part}
 use Rattle.line.specs.declared.Fields.{Fields}
 use Rattle.number.specs.Executable.{triple_of}
-use Rattle.number.specs.declared.Triple as DT
-use Rattle.number.specs.declared.Triple.TheVariants as Triple
 use Rattle.grammar.specs.Language.{as_dec, as_kind}
 use Rattle.grammar.specs.Statements.{Kind, Kind-discrete, Says, Statement, PointId, ExitLine, lines, of_kind, exit}
 use Rattle.grammar.specs.Network.{Network, SpellsNetwork}
@@ -49,7 +48,7 @@ use Rattle.statement.specs.Kinds.{written}
 use Rattle.statement.proofs.Laws.{means}
 use Rattle.made_out.specs.Names.{the_the_stretch_of, behind}
 use Rattle.made_out.specs.Names as Names
-use Rattle.made_out.specs.Made.{the_id_of, exit_made_of, made_of, made_from}
+use Rattle.made_out.specs.Made.{exit_made_of, made_of, made_from}
 use Rattle.references.specs.Entry.{id_from_of}
 use Rattle.place.specs.declared.Place.{Place}
 use Rattle.place.specs.Step.{first_place, over_of}
@@ -62,6 +61,8 @@ use Rattle.find_line.specs.FoundLines.{fields_end_of, first_of, rndf_line_kind_o
 use Rattle.find_line.proofs.FirstFields.{first-is, no-first, HasKind, line-has}
 use Rattle.find_line.proofs.RndfLines.{made-of-kind}
 use Rattle.mend_tests.specs.Tests.{third_id_of, entry_on_of, is_there_of, is_exit_right_of, all_right_of}
+use Rattle.std.specs.Prelude as Rust
+use Rattle.number.specs.declared.Id.{Id}
 
 -- a test behind another
 picked : (a b : Bool) → pick a b false ≡ (a && b)
@@ -164,12 +165,12 @@ module _ (k : Look) (m : ℕ) where
   unfolding made_of
   exit-made s base f t e = go (triple_of (part s f.b)) (triple_of (part s f.c)) e
     where
-      go : (a b : DT.Triple) → made_from (exit_made_of a b) ≡ some t → there (the_the_point_of (id_from_of b)) ≡ right (meant t)
-      go (Triple.Is i) (Triple.Is j) e =
-          let q : st.Exit (the_id_of i) (the_id_of j) ≡ t = cc in
-          sym (ap entry-there (as_same (lines Stretch) exit (record { waypoint = the_the_point_of (the_id_of i); entry = the_the_point_of (the_id_of j) }))) ∙ ap (λ (u : Told.Statement). right (meant u)) q
-      go (Triple.Is i) Triple.No e = nothing e
-      go Triple.No b e = nothing e
+      go : (a b : Rust.Option Id) → made_from (exit_made_of a b) ≡ some t → there (the_the_point_of (id_from_of b)) ≡ right (meant t)
+      go (Some i) (Some j) e =
+          let q : st.Exit i j ≡ t = cc in
+          sym (ap entry-there (as_same (lines Stretch) exit (record { waypoint = the_the_point_of i; entry = the_the_point_of j }))) ∙ ap (λ (u : Told.Statement). right (meant u)) q
+      go (Some i) None e = nothing e
+      go None b e = nothing e
 
   blank-right : (s : Bytes) → (fields_in_of s).count ≡ 0 → coded (body-right s) ≡ 30
   unfolding rndf_kind begins index_of rndf_keywords same_bytes_of ascii

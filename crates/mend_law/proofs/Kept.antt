@@ -1,4 +1,5 @@
 -- THE THEOREM of L9's "Lines not listed come out byte for byte and in order" (`lines-kept`): a line is listed exactly if another thing comes out in its place; and where nothing is listed, the text comes out the same (`unlisted-same`). Assumes nothing.
+use Rattle.std.specs.Prelude.{Some, None, Option}
 use mathlib.Core.Path.{◌≡◌, refl, sym, ap, subst, ◌∙◌}
 use mathlib.Core.Bool.{Bool, true, false}
 use mathlib.Core.Logic.{◌⊎◌, inl, inr}
@@ -13,8 +14,6 @@ use Rattle.line.specs.Lines.{lines_of}
 use Rattle.line.proofs.Cuts.{cut}
 use Rattle.number.specs.Decimal.{decimal}
 use Rattle.number.specs.Executable.{the_integer_of}
-use Rattle.number.specs.declared.Number.{Number}
-use Rattle.number.specs.declared.Number.TheVariants.{Is, No}
 use Rattle.number.proofs.Decimals.{decimal-same}
 use Rattle.number.proofs.Integers.{integer-right}
 use Rattle.law.specs.Tables.{gather}
@@ -110,11 +109,11 @@ and-off false = refl
 digits-differ : (bytes : Bytes) (n : ℕ) → disagrees (the_integer_of bytes) n ≡ true → decimal n ≡ bytes → ⊥
 digits-differ bytes n d e = go (the_integer_of bytes) refl d
   where
-    go : (x : Number) → the_integer_of bytes ≡ x → disagrees x n ≡ true → ⊥
-    go (Is m) q d =
+    go : (x : Option ℕ) → the_integer_of bytes ≡ x → disagrees x n ≡ true → ⊥
+    go (Some m) q d =
         let s = decimal-same m n (sym (integer-right bytes m q).spelled ∙ sym e) in
         clash (sym (rw (eq-eqb m n s, and-off, and-off) at d))
-    go No q d = clash (sym d)
+    go None q d = clash (sym d)
 
 recount-differs : (l w : Bytes) (before behind : List Bytes) (f : Field) (n : ℕ) → (w ≡ l) ⊎ (w ≡ l ++ (lf ∷ [])) → change before l behind ≡ recount f n → piece (recount f n) w ≡ w → ⊥
 recount-differs l w before behind f n o e s =

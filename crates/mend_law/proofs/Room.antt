@@ -1,4 +1,5 @@
 -- "a reader with room enough" (L9): a text that is not too long, spells a network and has right references is accepted by the reader in some tables (`room-enough`); and whether a text is can be decided (`accepted-told`). Assumes nothing.
+use Rattle.replies.specs.Types.{RndfReply}
 use mathlib.Core.Path.{◌≡◌, refl, sym, ap, subst, ◌∙◌}
 use mathlib.Core.List.{List, []}
 use mathlib.Core.Logic.{◌⊎◌, inl, inr}
@@ -13,7 +14,6 @@ use Rattle.grammar.specs.Editions.{Edition, law_of}
 use Rattle.law.specs.Network.{Network, SpellsNetwork, SpellsText, reading}
 use Rattle.law.specs.Tables.{Lent, HasRoom, segment_rows, lane_rows_of, zone_rows, spot_rows, point_rows, checkpoint_rows, stop_rows, exit_rows}
 use Rattle.law.specs.Faults.{Sound}
-use Rattle.replies.specs.declared.RndfReply.{RndfReply}
 use Rattle.replies.specs.Replies.{longest, too_long, bad_line, unended, no_room, bad_reference, ReadsRndf, accepted, refused}
 use Rattle.replies.specs.Short.{AcceptsRndf, RefusesRndf}
 use Rattle.replies.proofs.Alone.{rndf-alone}

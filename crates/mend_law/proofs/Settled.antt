@@ -1,5 +1,7 @@
 -- THE THEOREM of document 01's "Prove that no second reply or memory would satisfy it", for the mending tool: the contract settles the reply, every lent word of the list and every byte of the lent output (`mend-settled`); and in each edition
 -- some reply, list and output satisfy it (`mend-some`). Assumes nothing.
+use Rattle.std.specs.Prelude.{Ok, Err}
+use Rattle.mend_law.specs.Types.{MendReply}
 use mathlib.Core.Path.{◌≡◌, refl, sym, ap, ap₂, ◌∙◌}
 use mathlib.Core.Logic.{◌⊎◌, inl, inr}
 use mathlib.Core.Bool.{Bool, true, false}
@@ -12,8 +14,6 @@ use Rattle.law.specs.Tables.{holding}
 use Rattle.output.specs.Output.{zero_bytes, Fits, padded}
 use native.Mathlib.Omega.{arith}
 use Rattle.replies.specs.Replies.{longest, refusal}
-use Rattle.mend_law.specs.declared.MendReply.{MendReply}
-use Rattle.mend_law.specs.declared.MendReply.TheVariants.{Mended, Refused}
 use Rattle.line.specs.Lines.{lines_of}
 use Rattle.mend_law.specs.Mend.{mended_text, listed_rows}
 use Rattle.mend_law.proofs.Room.{accepted-told}
@@ -47,7 +47,7 @@ module _ (rules : Rules) (text : Bytes) (list : List ℕ) (lent : ℕ) where
   pub mend-settled : (r r' : MendReply) (l l' : List ℕ) (o o' : Bytes) → Mends rules text list lent r l o → Mends rules text list lent r' l' o' → (r ≡ r') × (l ≡ l') × (o ≡ o')
   mend-settled r r' l l' o o' (refused f n x p q s) (refused f' n' y p' q' s') =
       let e = one-refusal f f' n n' x y in
-      (p ∙ ap₂ (λ (a b : ℕ). Refused (refusal a 0 b 0)) e.0 e.1 ∙ sym p', q ∙ sym q', s ∙ sym s')
+      (p ∙ ap₂ (λ (a b : ℕ). Err (refusal a 0 b 0)) e.0 e.1 ∙ sym p', q ∙ sym q', s ∙ sym s')
   mend-settled r r' l l' o o' (refused f n x p q s) (done a b c d p' q' s') = absurd (never_both f n x a b c d)
   mend-settled r r' l l' o o' (done a b c d p q s) (refused f' n' y p' q' s') = absurd (never_both f' n' y a b c d)
   mend-settled r r' l l' o o' (done a b c d p q s) (done a' b' c' d' p' q' s') = (p ∙ sym p', q ∙ sym q', s ∙ sym s')
@@ -68,7 +68,7 @@ module _ (d : Edition) (text : Bytes) (list : List ℕ) (lent : ℕ) where
     pub mends : Mends (reading (law_of d)) text list lent reply left out
 
   refusing : (file number : ℕ) → MendRefuses (reading (law_of d)) text list lent file number → Some
-  refusing file number h = record { reply = Refused (refusal file 0 number 0); left = replicate (length list) 0; out = zero_bytes lent; mends = refused file number h refl refl refl }
+  refusing file number h = record { reply = Err (refusal file 0 number 0); left = replicate (length list) 0; out = zero_bytes lent; mends = refused file number h refl refl refl }
 
   pub mend-some : Some
   mend-some = sized (at_most (length text) longest)
@@ -96,7 +96,7 @@ module _ (d : Edition) (text : Bytes) (list : List ℕ) (lent : ℕ) where
                   fitting (inr h) y = refusing 1 19 (no_output size room good (λ f. h f.size))
                   fitting (inl h) (inr y) = refusing 1 19 (no_output size room good (λ f. y f.room))
                   fitting (inl h) (inl y) = record {
-                    reply = Mended (length (listed_rows text)) (length (mended_text text));
+                    reply = Ok (length (listed_rows text), length (mended_text text));
                     left = holding 0 (listed_rows text) list;
                     out = padded lent (mended_text text);
                     mends = done size room good (record { size = h; room = y }) refl refl refl;

@@ -1,13 +1,12 @@
 -- WHAT A READER MUST BELIEVE. What is promised of the mending tool beside its contract: of lines that are not listed, and of accepted texts. Request L9. Assumes nothing.
-use Rattle.std.specs.Prelude.{◌≡◌}
+use Rattle.mend_law.specs.Types.{MendReply}
+use Rattle.std.specs.Prelude.{◌≡◌, Ok}
 use Rattle.terms.specs.Words.{List, ℕ, length, take, replicate, Bytes, Each, Among}
 use Rattle.law.specs.Network.{Edition, reading}
 use Rattle.law.specs.Tables.{gather}
 use Rattle.output.specs.Output.{Fits, padded}
 use Rattle.mend_law.specs.Mend.{piece, changes, listed_rows}
 use Rattle.mend_law.specs.Mends.{AcceptedWithRoom, ListRoom, Mends}
-use Rattle.mend_law.specs.declared.MendReply.{MendReply}
-use Rattle.mend_law.specs.declared.MendReply.TheVariants.{Mended}
 
 -- "Lines not listed come out byte for byte and in order.": the lines are the text, and one is listed exactly if another thing comes out in its place. What comes out is the pieces in this order (Mend.mended_text); gather (take 1): the numbers listed
 pub record LinesKept (text : Bytes) : Type 0 where
@@ -18,4 +17,4 @@ pub record LinesKept (text : Bytes) : Type 0 where
 -- "An accepted text comes out the same with an empty list; list rows not used are zero.": by the tool's contract, in an edition (L10), where there is room for the list and for the text
 abbrev pub AcceptedStays : Edition → Type 0
 AcceptedStays edition = (text : Bytes) (list : List ℕ) (lent : ℕ) (reply : MendReply) (left : List ℕ) (out : Bytes) → AcceptedWithRoom (reading edition) text → ListRoom text list → Fits lent text
-    → Mends (reading edition) text list lent reply left out → (reply ≡ Mended 0 (length text)) × (left ≡ replicate (length list) 0) × (out ≡ padded lent text)
+    → Mends (reading edition) text list lent reply left out → (reply ≡ Ok (0, length text)) × (left ≡ replicate (length list) 0) × (out ≡ padded lent text)

@@ -1,14 +1,12 @@
 -- WHAT A READER MUST BELIEVE. What the mending tool changes in an RNDF, line by line; what comes out, and what is listed. Request L9, "Mend what can be mended, and say so." Assumes nothing.
 use Rattle.terms.specs.Words.{List, [], map, Bool, false, not, ℕ, suc, String, length, take, drop, eqb, leb, Bytes, ascii, pick}
-use Rattle.std.specs.Prelude.{get_or, ◌∷◌, ◌++◌, ◌&&◌, ◌||◌, ◌+◌}
+use Rattle.std.specs.Prelude.{get_or, ◌∷◌, ◌++◌, ◌&&◌, ◌||◌, ◌+◌, Some, None, Option}
 use Rattle.scan.specs.Allowed.{digit}
 use Rattle.scan.specs.Begins.{begins, same_bytes_of}
 use Rattle.line.specs.Line.{Field}
 use Rattle.line.specs.Cutting.{lines_of, drop_cr, outer_of, fields_at}
 use Rattle.number.specs.Decimal.{decimal}
 use Rattle.number.specs.Integer.{the_integer_of}
-use Rattle.number.specs.declared.Number.{Number}
-use Rattle.number.specs.declared.Number.TheVariants.{Is, No}
 use Rattle.law.specs.Network.{largest}
 use Rattle.law.specs.Tables.{gather}
 use Rattle.law.specs.Faults.{options}
@@ -51,9 +49,9 @@ items item end [] = 0
 items item end (word ∷ behind) = pick (is end word) 0 (pick (item word) (suc (items item end behind)) (items item end behind))
 
 -- 01: "**Integer**: 1 to 5 digits, no leading zero but `0` itself; at most 32,768." m: the number on the line; n: the items. "With over 32,768 items the count stays.": such a text gets 26 either way, since no count line may say more than 32,768
-abbrev pub disagrees : Number → ℕ → Bool
-disagrees (Is m) n = leb m largest && (leb n largest && not (eqb m n))
-disagrees No n = false
+abbrev pub disagrees : Option ℕ → ℕ → Bool
+disagrees (Some m) n = leb m largest && (leb n largest && not (eqb m n))
+disagrees None n = false
 
 abbrev pub corrected : Field → ℕ → Change
 corrected f n = pick (disagrees (the_integer_of f.bytes) n) (recount f n) stays

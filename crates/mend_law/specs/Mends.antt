@@ -1,5 +1,6 @@
 -- WHAT A READER MUST BELIEVE. What the mending tool replies, and what the lent list and the lent output then hold. Request L9. Assumes nothing.
-use Rattle.std.specs.Prelude.{◌≡◌, ◌/◌, ◌≤◌, ◌<◌}
+use Rattle.mend_law.specs.Types.{MendReply}
+use Rattle.std.specs.Prelude.{◌≡◌, ◌/◌, ◌≤◌, ◌<◌, Ok, Err}
 use Rattle.terms.specs.Words.{List, ℕ, length, replicate, Bytes}
 use Rattle.line.specs.Line.{Field}
 use Rattle.line.specs.Cutting.{lines_of}
@@ -8,8 +9,6 @@ use Rattle.law.specs.Tables.{Lent, holding}
 use Rattle.output.specs.Output.{zero_bytes, Fits, padded}
 use Rattle.replies.specs.Replies.{an_rndf, Accepts, longest, refusal}
 use Rattle.mend_law.specs.Mend.{mended_text, listed_rows}
-use Rattle.mend_law.specs.declared.MendReply.{MendReply}
-use Rattle.mend_law.specs.declared.MendReply.TheVariants.{Mended, Refused}
 
 -- "a reader with room enough" accepts the text: there are tables with which it does
 abbrev pub AcceptedWithRoom : Rules → Bytes → Type 0
@@ -32,7 +31,7 @@ module _ (rules : Rules) (text : Bytes) (list : List ℕ) (lent : ℕ) where
   -- the reply, and what is left in the lent list and the lent output
   pub data Mends (reply : MendReply) (left : List ℕ) (out : Bytes) : Type 0 where
     -- "the output and list are zero". The line and (L7: "Where the line is 0, .. it is 0") the column are 0
-    refused : (file number : ℕ) → MendRefuses file number → reply ≡ Refused (refusal file 0 number 0) → left ≡ replicate (length list) 0 → out ≡ zero_bytes lent → Mends reply left out
+    refused : (file number : ℕ) → MendRefuses file number → reply ≡ Err (refusal file 0 number 0) → left ≡ replicate (length list) 0 → out ≡ zero_bytes lent → Mends reply left out
     -- how many lines are listed and how many bytes came out. "list rows not used are zero"; 01: "A lent output is zero behind what was written."
     done : length text ≤ longest → ListRoom text list → AcceptedWithRoom rules (mended_text text) → Fits lent (mended_text text)
-        → reply ≡ Mended (length (listed_rows text)) (length (mended_text text)) → left ≡ holding 0 (listed_rows text) list → out ≡ padded lent (mended_text text) → Mends reply left out
+        → reply ≡ Ok (length (listed_rows text), length (mended_text text)) → left ≡ holding 0 (listed_rows text) list → out ≡ padded lent (mended_text text) → Mends reply left out

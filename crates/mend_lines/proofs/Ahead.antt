@@ -1,4 +1,5 @@
 -- The items of a count line, for the loop that looks ahead: a line of it, and its end; and the change of a line, as the program finds it. Assumes nothing.
+use Rattle.std.specs.Prelude.{Some, None, Option}
 use mathlib.Core.Path.{◌≡◌, refl, sym, ap, ◌∙◌}
 use mathlib.Core.Bool.{Bool, true, false}
 use Prim.Native.Nat.{ℕ, suc, ◌+◌, ◌-◌, ◌≤◌, ◌<◌}
@@ -13,8 +14,6 @@ use Rattle.find_line.specs.FoundLines.{rndf_line_kind_of}
 use Rattle.mend_lines.specs.declared.Before.{Before}
 use Rattle.mend_lines.specs.declared.Becomes as DM
 use Rattle.mend_lines.specs.declared.Becomes.TheVariants.{Goes}
-use Rattle.mend_lines.specs.declared.Counted as DC
-use Rattle.mend_lines.specs.declared.Counted.TheVariants.{Items, Nothing}
 use Rattle.mend_lines.specs.Forward.{items_of, items_in, again_of, behind_of, counted_of, corrected_by, counted_by, count_change_of, change_of}
 
 module _ (s : Bytes) (item end : ℕ) where
@@ -28,10 +27,10 @@ module _ (s : Bytes) (item end : ℕ) where
   no_item from h = rw (lines_end s from h) refl
 
 -- by the text and by its lines
-pub counted-ahead : (s l : Bytes) (next : ℕ) (x : DC.Counted) → corrected_by x s l next ≡ counted_by x l (lines_of (drop next s))
+pub counted-ahead : (s l : Bytes) (next : ℕ) (x : Option (ℕ × ℕ)) → corrected_by x s l next ≡ counted_by x l (lines_of (drop next s))
 unfolding items_in
-counted-ahead s l next (Items item end) = refl
-counted-ahead s l next Nothing = refl
+counted-ahead s l next (Some (item, end)) = refl
+counted-ahead s l next None = refl
 
 -- ## The change of a line l, behind which the text goes on at `next`: k, its kind; x, whether it is an option given again
 module _ (s l : Bytes) (next : ℕ) (b : Before) (going : b.over ≡ false) (k : ℕ) (x : Bool) (p : k ≡ rndf_line_kind_of l) (a : x ≡ again_of b k) where

@@ -1,4 +1,5 @@
 -- THE THEOREM of the forward walk: what becomes of a line is what the law says (`change-is`), where what the lines before have left is kept (`Keeps`); and it is kept behind each line (`step_keeps`), so going forward over all lines gives the law's list of changes (`all-forward`). Assumes nothing.
+use Rattle.std.specs.Prelude.{Some, None, Option}
 use mathlib.Core.Path.{◌≡◌, refl, sym, ap, ap₂, subst, ◌∙◌}
 use mathlib.Core.Bool.{Bool, true, false, not, ◌&&◌}
 use Prim.Native.Nat.{ℕ, zero, suc, ◌+◌, ◌-◌, ◌≤◌, ◌<◌}
@@ -19,8 +20,6 @@ use Rattle.line.specs.Forms.{outer_of, fields_at, span_at_of, filled, count_of, 
 use Rattle.line.specs.declared.Fields.{Fields}
 use Rattle.line.proofs.Spans.{fields_within, fields-listed, count-le}
 use Rattle.number.specs.Executable.{the_integer_of}
-use Rattle.number.specs.declared.Number as DN
-use Rattle.number.specs.declared.Number.TheVariants as N
 use Rattle.word.specs.Keywords.{rndf_keywords}
 use Rattle.judge.specs.RndfLine.{rndf_kind}
 use Rattle.law.specs.Network.{largest}
@@ -29,10 +28,6 @@ use Rattle.find_line.proofs.FirstFields.{first-is, no-first}
 use Rattle.mend_law.specs.Mend.{fields, first_field, is, one_of, count_lines, items, Change, stays, goes, recount, disagrees, corrected, recounted, the_count_change_of, since, given_again, change, LineChange, changes_from, changes}
 use Rattle.mend_law.proofs.Ties.{outer-take, two-found, second-stands}
 use Rattle.mend_lines.specs.declared.Before.{Before}
-use Rattle.mend_lines.specs.declared.Counted as DC
-use Rattle.mend_lines.specs.declared.Counted.TheVariants.{Items, Nothing}
-use Rattle.mend_lines.specs.declared.Numbered as DB
-use Rattle.mend_lines.specs.declared.Numbered.TheVariants.{At, No}
 use Rattle.mend_lines.specs.declared.Becomes as DM
 use Rattle.mend_lines.specs.declared.Becomes.TheVariants.{Stays, Goes, Recount}
 use Rattle.mend_lines.specs.Forward.{none_before_of, after_of, again_of, counted_of, items_of, numbered_of, second_number_of, number_on_of, corrected_of, behind_of, counted_by, change_of}
@@ -146,10 +141,10 @@ module _ (l : Bytes) (w f : Field) (two : fields l ≡ w ∷ f ∷ []) where
   number_is : (n : ℕ) → change-of l (corrected_of (number_on_of l) n) ≡ corrected f n
   unfolding number_on_of second_number_of corrected_of
   number_is n =
-      (let c = found.0 in let b = ap (λ (g : Field). the_integer_of g.bytes) (sym found.2) in λ i. change-of l (corrected_of (pick (eqb (c i) 2) (numbered_of (fields_in_of (body l)).b (b i)) No) n))
+      (let c = found.0 in let b = ap (λ (g : Field). the_integer_of g.bytes) (sym found.2) in λ i. change-of l (corrected_of (pick (eqb (c i) 2) (numbered_of (fields_in_of (body l)).b (b i)) None) n))
       ∙ go (the_integer_of f.bytes)
     where
-      on : (m : ℕ) (x y z : Bool) → change-of l (corrected_of (pick x (At (fields_in_of (body l)).b.start (fields_in_of (body l)).b.stop m) No) n) ≡ change-of l (pick x (pick (leb n 32768) (pick (eqb m n) Stays (Recount (fields_in_of (body l)).b.start (fields_in_of (body l)).b.stop n)) Stays) Stays)
+      on : (m : ℕ) (x y z : Bool) → change-of l (corrected_of (pick x (Some ((fields_in_of (body l)).b.start, (fields_in_of (body l)).b.stop, m)) None) n) ≡ change-of l (pick x (pick (leb n 32768) (pick (eqb m n) Stays (Recount (fields_in_of (body l)).b.start (fields_in_of (body l)).b.stop n)) Stays) Stays)
       on m true y z = refl
       on m false y z = refl
 
@@ -159,23 +154,23 @@ module _ (l : Bytes) (w f : Field) (two : fields l ≡ w ∷ f ∷ []) where
       last true false z = refl
       last false y z = refl
 
-      go : (x : DN.Number) → change-of l (corrected_of (numbered_of (fields_in_of (body l)).b x) n) ≡ pick (disagrees x n) (recount f n) stays
-      go (N.Is m) = on m (leb m 32768) true true ∙ last (leb m 32768) (leb n 32768) (eqb m n)
-      go N.No = refl
+      go : (x : Option ℕ) → change-of l (corrected_of (numbered_of (fields_in_of (body l)).b x) n) ≡ pick (disagrees x n) (recount f n) stays
+      go (Some m) = on m (leb m 32768) true true ∙ last (leb m 32768) (leb n 32768) (eqb m n)
+      go None = refl
 
   -- of the six count lines
   module _ (rest : List Bytes) where
-    abbrev Q : DC.Counted → Change
+    abbrev Q : Option (ℕ × ℕ) → Change
     Q x = change-of l (counted_by x l rest)
 
-    step : (x y : Bool) (a b : DC.Counted) (c d : Change) → y ≡ x → Q a ≡ c → Q b ≡ d → Q (pick x a b) ≡ pick y c d
+    step : (x y : Bool) (a b : Option (ℕ × ℕ)) (c d : Change) → y ≡ x → Q a ≡ c → Q b ≡ d → Q (pick x a b) ≡ pick y c d
     step x y a b c d e p q = through x ∙ (λ i. pick (sym e i) (p i) (q i))
       where
         through : (x : Bool) → Q (pick x a b) ≡ pick x (Q a) (Q b)
         through true = refl
         through false = refl
 
-    one : (i e : ℕ) (item : Bytes → Bool) (end : String) → ((v : Bytes) → item v ≡ eqb (rndf_kind v) i) → ((v : Bytes) → is end v ≡ eqb (rndf_kind v) e) → Q (Items i e) ≡ corrected f (items item end (map first_field rest))
+    one : (i e : ℕ) (item : Bytes → Bool) (end : String) → ((v : Bytes) → item v ≡ eqb (rndf_kind v) i) → ((v : Bytes) → is end v ≡ eqb (rndf_kind v) e) → Q (Some (i, e)) ≡ corrected f (items item end (map first_field rest))
     one i e item end p q = number_is (items_of i e rest) ∙ ap (corrected f) (items-are i e item end p q rest)
 
     six : (v : Bytes) → Q (counted_of (rndf_kind v)) ≡ recounted count_lines v f (map first_field rest)
@@ -197,14 +192,14 @@ module _ (l : Bytes) (w f : Field) (two : fields l ≡ w ∷ f ∷ []) where
 
 -- ## The change
 -- a line of another number of fields has no number
-other-number : (l : Bytes) → ((fields_in_of (body l)).count ≡ 2 → ⊥) → number_on_of l ≡ No
+other-number : (l : Bytes) → ((fields_in_of (body l)).count ≡ 2 → ⊥) → number_on_of l ≡ None
 unfolding number_on_of second_number_of
 other-number l n = rw (ne_eqb (fields_in_of (body l)).count 2 n) refl
 
-counted_none : (l : Bytes) (rest : List Bytes) → number_on_of l ≡ No → (x : DC.Counted) → change-of l (counted_by x l rest) ≡ stays
+counted_none : (l : Bytes) (rest : List Bytes) → number_on_of l ≡ None → (x : Option (ℕ × ℕ)) → change-of l (counted_by x l rest) ≡ stays
 unfolding corrected_of
-counted_none l rest e (Items i k) = ap (λ (x : DB.Numbered). change-of l (corrected_of x (items_of i k rest))) e
-counted_none l rest e Nothing = refl
+counted_none l rest e (Some (i, k)) = ap (λ (x : Option (ℕ × ℕ × ℕ)). change-of l (corrected_of x (items_of i k rest))) e
+counted_none l rest e None = refl
 
 counted_is : (l : Bytes) (rest : List Bytes) → change-of l (counted_by (counted_of (rndf_line_kind_of l)) l rest) ≡ the_count_change_of (fields l) (map first_field rest)
 counted_is l rest = go (fields l) refl

@@ -1,18 +1,12 @@
 -- Executable: what the lines before one have left, and what becomes of it, by the kinds of first fields. Assumes nothing.
-use Rattle.std.specs.Prelude.{List, [], ◌∷◌, Bool, true, false, not, ◌&&◌, ◌||◌, ℕ, suc, take, drop, get_or, set, replicate, eqb, leb, ltb}
+use Rattle.std.specs.Prelude.{List, [], ◌∷◌, Bool, true, false, not, ◌&&◌, ◌||◌, ℕ, suc, take, drop, get_or, set, replicate, eqb, leb, ltb, Some, None, Option}
 use Rattle.terms.specs.Words.{Bytes, pick}
 use Rattle.line.specs.Lines.{lines_of}
 use Rattle.line.specs.Forms.{fields_in_of, part}
 use Rattle.line.specs.declared.Span.{Span}
 use Rattle.number.specs.Executable.{the_integer_of}
-use Rattle.number.specs.declared.Number as DN
-use Rattle.number.specs.declared.Number.TheVariants as N
 use Rattle.find_line.specs.FoundLines.{fields_end_of, rndf_line_kind_of}
 use Rattle.mend_lines.specs.declared.Before.{Before}
-use Rattle.mend_lines.specs.declared.Counted as DC
-use Rattle.mend_lines.specs.declared.Counted.TheVariants.{Items, Nothing}
-use Rattle.mend_lines.specs.declared.Numbered as DB
-use Rattle.mend_lines.specs.declared.Numbered.TheVariants.{At, No}
 use Rattle.mend_lines.specs.declared.Becomes as DM
 use Rattle.mend_lines.specs.declared.Becomes.TheVariants.{Stays, Goes, Recount}
 
@@ -48,8 +42,8 @@ unfoldable pub again_of : Before → ℕ → Bool
 again_of b k = option_of k && (has_of b k && not (repeats_of b k))
 
 -- ## Counts
-unfoldable pub counted_of : ℕ → DC.Counted
-counted_of k = pick (eqb k 1) (Items 5 28) (pick (eqb k 2) (Items 18 28) (pick (eqb k 6) (Items 9 8) (pick (eqb k 10) (Items 29 17) (pick (eqb k 19) (Items 25 21) (pick (eqb k 23) (Items 29 24) Nothing)))))
+unfoldable pub counted_of : ℕ → Option (ℕ × ℕ)
+counted_of k = pick (eqb k 1) (Some (5, 28)) (pick (eqb k 2) (Some (18, 28)) (pick (eqb k 6) (Some (9, 8)) (pick (eqb k 10) (Some (29, 17)) (pick (eqb k 19) (Some (25, 21)) (pick (eqb k 23) (Some (29, 24)) None)))))
 
 unfoldable pub items_of : (item end : ℕ) → List Bytes → ℕ
 items_of item end [] = 0
@@ -59,35 +53,35 @@ unfoldable pub items_in : Bytes → (at item end : ℕ) → ℕ
 items_in text at item end = items_of item end (lines_of (drop at text))
 
 -- a good integer, and where it stands
-abbrev pub numbered_of : Span → DN.Number → DB.Numbered
-numbered_of f (N.Is m) = pick (leb m 32768) (At f.start f.stop m) No
-numbered_of f N.No = No
+abbrev pub numbered_of : Span → Option ℕ → Option (ℕ × ℕ × ℕ)
+numbered_of f (Some m) = pick (leb m 32768) (Some (f.start, f.stop, m)) None
+numbered_of f None = None
 
-unfoldable pub second_number_of : Bytes → DB.Numbered
-second_number_of s = pick (eqb (fields_in_of s).count 2) (numbered_of (fields_in_of s).b (the_integer_of (part s (fields_in_of s).b))) No
+unfoldable pub second_number_of : Bytes → Option (ℕ × ℕ × ℕ)
+second_number_of s = pick (eqb (fields_in_of s).count 2) (numbered_of (fields_in_of s).b (the_integer_of (part s (fields_in_of s).b))) None
 
-unfoldable pub number_on_of : Bytes → DB.Numbered
+unfoldable pub number_on_of : Bytes → Option (ℕ × ℕ × ℕ)
 number_on_of l = second_number_of (take (fields_end_of l) l)
 
 -- ## The change
-unfoldable pub corrected_of : DB.Numbered → ℕ → DM.Becomes
-corrected_of (At start stop m) n = pick (leb n 32768) (pick (eqb m n) Stays (Recount start stop n)) Stays
-corrected_of No n = Stays
+unfoldable pub corrected_of : Option (ℕ × ℕ × ℕ) → ℕ → DM.Becomes
+corrected_of (Some (start, stop, m)) n = pick (leb n 32768) (pick (eqb m n) Stays (Recount start stop n)) Stays
+corrected_of None n = Stays
 
 unfoldable pub behind_of : Bytes → DM.Becomes
 behind_of l = pick (eqb (fields_in_of (take (fields_end_of l) l)).count 0) Stays (Goes 3)
 
-abbrev pub corrected_by : DC.Counted → Bytes → Bytes → ℕ → DM.Becomes
-corrected_by (Items item end) text l next = corrected_of (number_on_of l) (items_in text next item end)
-corrected_by Nothing text l next = Stays
+abbrev pub corrected_by : Option (ℕ × ℕ) → Bytes → Bytes → ℕ → DM.Becomes
+corrected_by (Some (item, end)) text l next = corrected_of (number_on_of l) (items_in text next item end)
+corrected_by None text l next = Stays
 
 unfoldable pub count_change_of : (text l : Bytes) (next kind : ℕ) → DM.Becomes
 count_change_of text l next kind = corrected_by (counted_of kind) text l next
 
 -- over lines: this one, and those behind it
-abbrev pub counted_by : DC.Counted → Bytes → List Bytes → DM.Becomes
-counted_by (Items item end) l ls = corrected_of (number_on_of l) (items_of item end ls)
-counted_by Nothing l ls = Stays
+abbrev pub counted_by : Option (ℕ × ℕ) → Bytes → List Bytes → DM.Becomes
+counted_by (Some (item, end)) l ls = corrected_of (number_on_of l) (items_of item end ls)
+counted_by None l ls = Stays
 
 unfoldable pub change_of : Before → Bytes → List Bytes → DM.Becomes
 change_of b l ls = pick b.over (behind_of l) (pick (again_of b (rndf_line_kind_of l)) (Goes 2) (counted_by (counted_of (rndf_line_kind_of l)) l ls))

@@ -15,7 +15,7 @@ ghost use Rattle.mend_lines.specs.Forward.{no_kinds, opens_of, option_of, with_k
 
 use find_line::{fields_end, rndf_line_kind};
 use line::{Fields, fields_of};
-use number::{Number, integer_of};
+use number::integer_of;
 use scan::far_byte_from;
 use statement::kinds;
 use units::LARGEST_INTEGER;
@@ -131,25 +131,17 @@ impl Before {
     }
 }
 
-// ## Counts
-// What a count line counts: the kind of its items' first fields, and of the end word.
-#[derive(Clone, Copy)]
-pub enum Counted {
-    Items(u8, u8),
-    Nothing,
-}
-
-pub fn counts_of(kind: u8) -> Counted
+pub fn counts_of(kind: u8) -> Option<(u8, u8)>
     ensures { result ≡ counted_of kind }
 {
     match kind {
-        kinds::NUM_SEGMENTS => Counted::Items(kinds::SEGMENT, kinds::END_FILE),
-        kinds::NUM_ZONES => Counted::Items(kinds::ZONE, kinds::END_FILE),
-        kinds::NUM_LANES => Counted::Items(kinds::LANE, kinds::END_SEGMENT),
-        kinds::NUM_WAYPOINTS => Counted::Items(kinds::POINT, kinds::END_LANE),
-        kinds::NUM_SPOTS => Counted::Items(kinds::SPOT, kinds::END_ZONE),
-        kinds::NUM_PERIMETERPOINTS => Counted::Items(kinds::POINT, kinds::END_PERIMETER),
-        _ => Counted::Nothing,
+        kinds::NUM_SEGMENTS => Some((kinds::SEGMENT, kinds::END_FILE)),
+        kinds::NUM_ZONES => Some((kinds::ZONE, kinds::END_FILE)),
+        kinds::NUM_LANES => Some((kinds::LANE, kinds::END_SEGMENT)),
+        kinds::NUM_WAYPOINTS => Some((kinds::POINT, kinds::END_LANE)),
+        kinds::NUM_SPOTS => Some((kinds::SPOT, kinds::END_ZONE)),
+        kinds::NUM_PERIMETERPOINTS => Some((kinds::POINT, kinds::END_PERIMETER)),
+        _ => None,
     }
 }
 
@@ -181,33 +173,26 @@ fn fields_on(line: &[u8]) -> Fields
     fields_of(&line[..e])
 }
 
-// The second of two fields, if it is a good integer: where it starts and ends in the line, and the number.
-#[derive(Clone, Copy)]
-pub enum Numbered {
-    At(usize, usize, u32),
-    No,
-}
-
-fn second_number(s: &[u8]) -> Numbered
+fn second_number(s: &[u8]) -> Option<(usize, usize, u32)>
     ensures { result ≡ second_number_of s.now }
 {
     let f = fields_of(s);
     if f.count != 2 {
-        return Numbered::No;
+        return None;
     }
     let start = f.b.start;
     let stop = f.b.stop;
-    let Number::Is(m) = integer_of(&s[start..stop]) else {
-        return Numbered::No;
+    let Some(m) = integer_of(&s[start..stop]) else {
+        return None;
     };
     if m <= LARGEST_INTEGER {
-        Numbered::At(start, stop, m)
+        Some((start, stop, m))
     } else {
-        Numbered::No
+        None
     }
 }
 
-fn number_on(line: &[u8]) -> Numbered
+fn number_on(line: &[u8]) -> Option<(usize, usize, u32)>
     ensures { result ≡ number_on_of line.now }
 {
     let e = fields_end(line);
@@ -224,10 +209,10 @@ pub enum Becomes {
 }
 
 // A number, where so many items are.
-fn corrected(number: Numbered, n: usize) -> Becomes
+fn corrected(number: Option<(usize, usize, u32)>, n: usize) -> Becomes
     ensures { result ≡ corrected_of number n }
 {
-    let Numbered::At(start, stop, m) = number else {
+    let Some((start, stop, m)) = number else {
         return Becomes::Stays;
     };
     if (LARGEST_INTEGER as usize) < n {
@@ -255,7 +240,7 @@ fn behind_end(line: &[u8]) -> Becomes
 fn count_change(text: &[u8], line: &[u8], next: usize, kind: u8) -> Becomes
     ensures { result ≡ count_change_of text.now line.now next kind }
 {
-    let Counted::Items(item, end) = counts_of(kind) else {
+    let Some((item, end)) = counts_of(kind) else {
         return Becomes::Stays;
     };
     let number = number_on(line);

@@ -22,12 +22,12 @@ use find_line::{fields_end, rndf_line_kind};
 use line::fields_of;
 use mend_lines::{Becomes, Before, line_change, line_kind};
 use mend_pieces::{line_stop, put_piece};
-use number::triple_of;
-use references::{Found, id_from, resolve};
+use number::{Id, triple_of};
+use references::{id_from, resolve};
 use refusal::LONGEST_TEXT;
 use rows::rows_of;
 use scan::far_byte_from;
-use statement::{Id, kinds};
+use statement::kinds;
 
 // ## Lines
 pub fn lines_in(text: &[u8]) -> usize
@@ -159,8 +159,8 @@ fn is_exit_right(
     }
     let found = resolve(segments, lanes, zones, segment_count, entry_on(line));
     match found {
-        Found::At(_) => true,
-        Found::Nothing => false,
+        Some(_) => true,
+        None => false,
     }
 }
 

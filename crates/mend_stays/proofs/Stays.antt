@@ -1,5 +1,7 @@
 -- THE THEOREM of L9's "An accepted text comes out the same with an empty list" (`accepted-stays`), by the tool's contract and in every edition: an accepted text spells a network, and a network's lines have nothing to mend; 26 is never told of it (`never-past`).
 -- So what was mended, which a reader with room enough accepts (`mended-once`), needs no second mending (`mended-again`). Assumes nothing.
+use Rattle.std.specs.Prelude.{Ok}
+use Rattle.mend_law.specs.Types.{MendReply}
 use mathlib.Core.Path.{◌≡◌, sym, ap, ap₂, subst, ◌∙◌}
 use native.Mathlib.Omega.{arith}
 use lib.Seq.{take-append_seam}
@@ -13,14 +15,16 @@ use Rattle.mend_stays.specs.Again.{MendedOnce, MendedAgain}
 use Rattle.mend_law.specs.Mend.{LineChange, row, changes, mended_text, listed_rows}
 use Rattle.mend_law.specs.Mends.{AcceptedWithRoom, ListRoom, MendRefuses, Mends, too_long, no_room, past_mending, no_output, refused, done}
 use Rattle.mend_law.specs.Kept.{AcceptedStays}
-use Rattle.mend_law.specs.declared.MendReply.{MendReply}
-use Rattle.mend_law.specs.declared.MendReply.TheVariants.{Mended, Refused}
 use Rattle.mend_law.proofs.Ties.{lines_cut}
 use Rattle.mend_law.proofs.Kept.{Unchanged, unlisted-same}
 use Rattle.mend_stays.proofs.Told as Told
 use Rattle.mend_stays.proofs.Unlisted.{nothing_listed}
 use Rattle.mend_stays.proofs.Lines.{told-by}
 use Rattle.mend_stays.proofs.Networks.{network-within, network-counted, network-once, network-some}
+
+-- what a mending replies of its bytes
+second-same : (a b c d : ℕ) → ◌≡◌ {A = MendReply} (Ok (a, b)) (Ok (c, d)) → b ≡ d
+second-same a b c d e = grind arith
 
 module _ (d : Edition) where
   -- a well-formed text has nothing to mend, whatever its references
@@ -55,7 +59,7 @@ module _ (d : Edition) where
   accepted-stays text list lent reply left out good r f (done a b c g e l o) =
       let s = stays-so text good in
       let z : length list - 0 ≡ length list = omega arith in (
-        e ∙ ap₂ Mended (ap length s.nothing_listed) (ap length s.same),
+        e ∙ (λ i. Ok (length (s.nothing_listed i), length (s.same i))),
         l ∙ ap (λ (rows : List (List ℕ)). holding 0 rows list) s.nothing_listed ∙ ap (λ (n : ℕ). replicate n 0) z,
         o ∙ ap (padded lent) s.same,
       )
@@ -64,7 +68,7 @@ module _ (d : Edition) where
   pub mended-once : MendedOnce d
   mended-once text list lent rows bytes left out (refused file number h e l o) = absurd (let z : ◌≡◌ {A = ℕ} 0 1 = cc in omega arith)
   mended-once text list lent rows bytes left out (done a b c g e l o) =
-      let n : bytes ≡ length (mended_text text) = cc in
+      let n : bytes ≡ length (mended_text text) = second-same rows bytes _ _ e in
       let same : take bytes out ≡ mended_text text = ap₂ take n o ∙ take-append_seam (mended_text text) (zero_bytes (lent - length (mended_text text))) in
       subst (AcceptedWithRoom (reading d)) (sym same) c
 

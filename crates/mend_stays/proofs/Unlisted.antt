@@ -1,4 +1,5 @@
 -- Where nothing is to mend in what lines say, nothing is listed (`nothing_listed`): the three changes hang on what is told alike, and on the one number of a count line, which is its items'. Assumes nothing.
+use Rattle.std.specs.Prelude.{Some, None, Option}
 use mathlib.Core.Path.{◌≡◌, refl, sym, ap, subst, ◌∙◌}
 use mathlib.Core.Logic.{inl, inr}
 use borrow.Author.Tests.{eq-eqb}
@@ -11,8 +12,6 @@ use Rattle.scan.proofs.Equal.{same-equal, equal-same}
 use Rattle.line.specs.Line.{Field}
 use Rattle.number.specs.Decimal.{decimal}
 use Rattle.number.specs.Executable.{the_integer_of}
-use Rattle.number.specs.declared.Number.{Number}
-use Rattle.number.specs.declared.Number.TheVariants.{Is, No}
 use Rattle.number.proofs.Decimals.{decimal-same}
 use Rattle.number.proofs.Integers.{integer-right}
 use Rattle.law.specs.Network.{Said, Line, numbers, largest}
@@ -101,11 +100,11 @@ number-stays f n e = ap (λ (x : Bool). pick x (recount f n) stays) (agrees (the
     off true false = refl
     off false y = refl
 
-    agrees : (x : Number) → the_integer_of f.bytes ≡ x → disagrees x n ≡ false
-    agrees (Is m) q =
+    agrees : (x : Option ℕ) → the_integer_of f.bytes ≡ x → disagrees x n ≡ false
+    agrees (Some m) q =
         let s : m ≡ n = decimal-same m n (sym (integer-right f.bytes m q).spelled ∙ e) in
         ap (λ (x : Bool). leb m largest && (leb n largest && not x)) (eq-eqb m n s) ∙ off (leb m largest) (leb n largest)
-    agrees No q = refl
+    agrees None q = refl
 
 recounted-stays : {xs : List Bytes} {ls : List Line} (l : Line) (cs : List Count) → Each Plain cs → Tells xs ls → (w : Bytes) (f : Field) → Alike w (key l) → ((s : Said) (k : ℕ) → l ≡ s ∷ numbers (k ∷ []) ∷ [] → f.bytes ≡ decimal k) → CountRight cs l ls → recounted cs w f (firsts xs) ≡ stays
 recounted-stays l [] p t w f e n r = refl

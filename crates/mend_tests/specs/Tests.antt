@@ -5,7 +5,7 @@ use Rattle.terms.specs.Words.{Bytes, pick}
 use Rattle.line.specs.Lines.{lines_of}
 use Rattle.line.specs.Forms.{fields_in_of, part}
 use Rattle.number.specs.Executable.{triple_of}
-use Rattle.statement.specs.declared.Id.{Id}
+use Rattle.number.specs.declared.Id.{Id}
 use Rattle.statement.specs.Meaning.{the_the_point_of}
 use Rattle.find_line.specs.FoundLines.{fields_end_of, rndf_line_kind_of}
 use Rattle.fill.specs.Resolve.{Look, resolve}

@@ -1,4 +1,5 @@
 -- No line counts for more than one line and one row: for the walk's numbers. And what does not fit into the buffer is too long a line. Assumes nothing.
+use Rattle.std.specs.Prelude.{Err}
 use mathlib.Core.Path.{◌≡◌, ap}
 use mathlib.Core.List.{[], ◌∷◌}
 use mathlib.Core.Bool.{Bool, true, false}
@@ -13,7 +14,6 @@ use Rattle.line.specs.Text.{cr}
 use Rattle.line.specs.Content.{longest}
 use Rattle.line.specs.Lines.{trim_of}
 use Rattle.line.specs.Forms.{form_of}
-use Rattle.line.specs.declared.Form.TheVariants.{Bad}
 use Rattle.line.proofs.Ends.{trim_le}
 use Rattle.grammar.specs.Editions.{Edition}
 use Rattle.statement.specs.declared.Statement.{Statement}
@@ -76,7 +76,7 @@ trimmed-long l h = rw (lt-ltb 0 (length l) (omega arith)) (go (eqb (get_or l (le
     go true = omega arith
     go false = omega arith
 
-content_too-long : (c : Bytes) → longest < length c → form_of c ≡ Bad 2
+content_too-long : (c : Bytes) → longest < length c → form_of c ≡ Err 2
 unfolding form_of
 content_too-long c h = rw (lt-leb (length c) longest h)
 

@@ -1,4 +1,5 @@
 -- What each function finds at its calls is what the walk over the lines that come out does t(line_at text from). Assumes nothing.
+use Rattle.std.specs.Prelude.{Result}
 use mathlib.Core.Path.{◌≡◌, refl, sym, ap, subst, ◌∙◌}
 use mathlib.Core.List.{List, [], ◌∷◌}
 use mathlib.Core.Bool.{Bool, true, false, and-false}
@@ -19,7 +20,6 @@ use Rattle.output.proofs.Whole.{finishes-kept, finishes_zero, written, written-r
 use Rattle.grammar.specs.Editions.{Edition}
 use Rattle.place.specs.declared.Place.{Place}
 use Rattle.progress.specs.After.{total}
-use Rattle.network.specs.declared.Walked.{Walked}
 use Rattle.network.specs.Storing.{Memory, memory}
 use Rattle.network.specs.Reaching.{WalkEnd, stopped, reached, reaching, onwards, stood}
 use Rattle.network.proofs.Onward as O
@@ -32,6 +32,8 @@ use Rattle.mend_tests.specs.Tests.{few}
 use Rattle.mend_walk.specs.Walking.{plain_line_of, OneLine, walked_line, then_on, mended_walk}
 use Rattle.mend_walk.proofs.Alone.{line-alone, recounted-alone}
 use Rattle.mend_walk.proofs.Counted.{line-counted}
+use Rattle.refusal.specs.declared.Fault.{Fault}
+use Rattle.progress.specs.declared.Progress.{Progress}
 
 -- ## The tables that are not lent
 no_rows : {A : Type 0} (l : List A) → length l ≡ 0 → l ≡ []
@@ -39,7 +41,7 @@ no_rows [] h = refl
 no_rows (a ∷ l) h = absurd (omega arith)
 
 -- they have no rows behind the walk either
-pub few-stood : (w : Walked) (sg ln zn ck sp st ex : List ℕ) (pt : List ℤ) → length sp ≡ 0 → length pt ≡ 0 → length st ≡ 0 → length ex ≡ 0 → {end : WalkEnd} → stood w (λ p. memory p sg ln zn sp pt ck st ex) ≡ end → stood w (λ p. few p sg ln zn ck) ≡ end
+pub few-stood : (w : Result (Place × Progress × ℕ) Fault) (sg ln zn ck sp st ex : List ℕ) (pt : List ℤ) → length sp ≡ 0 → length pt ≡ 0 → length st ≡ 0 → length ex ≡ 0 → {end : WalkEnd} → stood w (λ p. memory p sg ln zn sp pt ck st ex) ≡ end → stood w (λ p. few p sg ln zn ck) ≡ end
 few-stood w sg ln zn ck sp st ex pt a b c d h = sym (λ i. stood w (λ p. memory p sg ln zn (no_rows sp a i) (no_rows pt b i) ck (no_rows st c i) (no_rows ex d i))) ∙ h
 
 -- ## The buffer of so many bytes: x was put t(line_at text from)

@@ -24,7 +24,7 @@ ghost use Rattle.mend_walk.specs.Walking.{plain_line_of, OneLine, walked_line, m
 use edition::Edition;
 use mend_lines::{Becomes, Before, line_change, line_kind};
 use mend_pieces::{line_stop, put_piece};
-use network::{Walked, walk_part};
+use network::walk_part;
 use place::Place;
 use place_table::rndf_table;
 use progress::Progress;
@@ -44,7 +44,7 @@ fn walk_few(
     lanes: &mut [u32],
     zones: &mut [u32],
     checkpoints: &mut [u32],
-) -> Walked
+) -> Result<(Place, Progress, u32), Fault>
     ensures { table.now ≡ rndf_table_of → length text.now ≤ most → total had ≤ 16777216 → first ≤ 16777216 → stood result (λ p. few p segments.new lanes.new zones.new checkpoints.new) ≡ onwards (inner edition) text.now at (few had segments.old lanes.old zones.old checkpoints.old) start first }
 {
     let mut spots: [u32; 0] = [0; 0];
@@ -83,7 +83,7 @@ fn walk_changed(
     lanes: &mut [u32],
     zones: &mut [u32],
     checkpoints: &mut [u32],
-) -> Walked
+) -> Result<(Place, Progress, u32), Fault>
     ensures { table.now ≡ rndf_table_of → total had ≤ 16777216 → first ≤ 16777216 → plain_line_of (piece_of becomes line.now) → stood result (λ p. few p segments.new lanes.new zones.new checkpoints.new) ≡ reaching (inner edition) at (few had segments.old lanes.old zones.old checkpoints.old) 0 first (piece_of becomes line.now ∷ []) }
 {
     let mut buffer: [u8; 520] = [0; 520];
@@ -103,7 +103,7 @@ fn walk_changed(
             checkpoints,
         );
     }
-    Walked::Fault(Fault {
+    Err(Fault {
         line: first,
         number: 2,
     })
@@ -123,7 +123,7 @@ fn walk_line(
     lanes: &mut [u32],
     zones: &mut [u32],
     checkpoints: &mut [u32],
-) -> Walked
+) -> Result<(Place, Progress, u32), Fault>
     requires from_in_bounds { from < length text.now }
     requires text_len_bound { length text.now ≤ most }
     ensures { table.now ≡ rndf_table_of → total had ≤ 16777216 → first ≤ 16777216 → OneLine becomes (take (lf_from text.now from - from) (drop from text.now)) → stood result (λ p. few p segments.new lanes.new zones.new checkpoints.new) ≡ walked_line (inner edition) at (few had segments.old lanes.old zones.old checkpoints.old) from first becomes (take (lf_from text.now from - from) (drop from text.now)) }
@@ -145,7 +145,7 @@ fn walk_line(
                 checkpoints,
             )
         }
-        Becomes::Goes(_) => Walked::Ended(at, had, first),
+        Becomes::Goes(_) => Ok((at, had, first)),
         Becomes::Recount(start, stop, n) => {
             let e = far_byte_from(text, from, 10);
             walk_changed(
@@ -173,11 +173,11 @@ pub fn walk_mended(
     lanes: &mut [u32],
     zones: &mut [u32],
     checkpoints: &mut [u32],
-) -> Walked
+) -> Result<(Place, Progress, u32), Fault>
     ensures { length text.now ≤ most → stood result (λ p. few p segments.new lanes.new zones.new checkpoints.new) ≡ mended_walk (inner edition) none_before_of first_place (few no_progress segments.old lanes.old zones.old checkpoints.old) 0 1 (lines_of text.now) }
 {
     if LONGEST_TEXT < text.len() {
-        return Walked::Fault(Fault { line: 0, number: 1 });
+        return Err(Fault { line: 0, number: 1 });
     }
     let table = rndf_table();
     let mut before = Before::none();
@@ -205,10 +205,10 @@ pub fn walk_mended(
             checkpoints,
         );
         match walked {
-            Walked::Fault(fault) => {
-                return Walked::Fault(fault);
+            Err(fault) => {
+                return Err(fault);
             }
-            Walked::Ended(q, more, next) => {
+            Ok((q, more, next)) => {
                 place = q;
                 gained = more;
                 line = next;
@@ -217,5 +217,5 @@ pub fn walk_mended(
         before = before.after(kind);
         from = e + 1;
     }
-    Walked::Ended(place, gained, line)
+    Ok((place, gained, line))
 }

@@ -1,5 +1,6 @@
 -- WHAT A READER MUST BELIEVE. What a planner is told of a text that the mending tool took, a sentence for each line that it lists, and of one that is past mending. Request L9: "Mend what can be mended, and say so." Assumes nothing.
-use Rattle.std.specs.Prelude.{◌≡◌, List, [], ◌∷◌, ◌++◌, ℕ, suc, ◌+◌, ◌≤◌, ◌<◌, eqb, take, drop}
+use Rattle.replies.specs.Types.{RndfReply}
+use Rattle.std.specs.Prelude.{◌≡◌, List, [], ◌∷◌, ◌++◌, ℕ, suc, ◌+◌, ◌≤◌, ◌<◌, eqb, take, drop, Ok, Err}
 use Rattle.terms.specs.Ascii.{Bytes, ascii}
 use Rattle.terms.specs.Words.{pick}
 use Rattle.number.specs.Decimal.{decimal}
@@ -10,8 +11,6 @@ use Rattle.law.specs.Tables.{gather}
 use Rattle.output.specs.Pen.{pen, Wrote}
 use Rattle.shown.specs.Shown.{line_in}
 use Rattle.refusal.specs.declared.Refusal.{Refusal}
-use Rattle.replies.specs.declared.RndfReply.{RndfReply}
-use Rattle.replies.specs.declared.RndfReply.TheVariants as Rndf
 use Rattle.answers.specs.Answers.{place, why_of, sentence}
 use Rattle.mend_law.specs.Mend.{Change, stays, goes, recount, changes}
 use Rattle.mend_lines.specs.declared.Before.{Before}
@@ -52,8 +51,8 @@ fault_told name text mended why = name ++ place (fitted (given_line_of text why.
 
 -- `network.rndf: past mending (26)`, and why the reader refuses what came out (by 26 it does)
 unfoldable pub past_told : (name text mended : Bytes) → RndfReply → Bytes
-past_told name text mended (Rndf.Accepted c file) = sentence name [] 0 26 0
-past_told name text mended (Rndf.Refused why) = sentence name [] 0 26 0 ++ fault_told name text mended why
+past_told name text mended (Ok (c, file)) = sentence name [] 0 26 0
+past_told name text mended (Err why) = sentence name [] 0 26 0 ++ fault_told name text mended why
 
 -- ## Executable, going forward
 unfoldable pub count_told : (old : Bytes) (n : ℕ) → Bytes

@@ -194,7 +194,7 @@ pub fn put_past(
 {
     let a = put_sentence(out, at, name, b"", 0, 26, 0);
     match reply {
-        RndfReply::Accepted(_, _) => a,
-        RndfReply::Refused(why) => put_fault(out, a, name, text, mended, why),
+        Ok((_, _)) => a,
+        Err(why) => put_fault(out, a, name, text, mended, why),
     }
 }

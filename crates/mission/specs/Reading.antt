@@ -1,5 +1,5 @@
 -- Executable: the walk over an MDF's lines that stores their rows. Assumes nothing.
-use Rattle.std.specs.Prelude.{ℕ}
+use Rattle.std.specs.Prelude.{ℕ, Ok, Err, Result}
 use Rattle.terms.specs.Ascii.{Bytes}
 use Rattle.line.specs.Lines.{lines_of}
 use Rattle.statement.specs.declared.Order.{Order}
@@ -11,9 +11,8 @@ use Rattle.walk.specs.Standing.{Where}
 use Rattle.walk.specs.Walking.{Found, fault, gathered, walked}
 use Rattle.refusal.specs.Size.{if_too_long}
 use Rattle.mission.specs.Storing.{MissionMemory, memory, stored}
-use Rattle.mission.specs.declared.MissionFilled as DF
-use Rattle.mission.specs.declared.MissionFilled.TheVariants as Filled
 pub use Rattle.refusal.specs.Size.{most}
+use Rattle.refusal.specs.declared.Fault.{Fault}
 
 abbrev pub with_progress : MissionProgress → MissionMemory → MissionMemory
 with_progress p m = memory p m.goals m.limits
@@ -23,9 +22,9 @@ unfoldable pub put : Where → Order → MissionMemory → MissionMemory
 put w s m = with_progress (mission_after_of s m.so_far) (stored (mission_row_of s) m)
 
 -- what was answered, and what the tables then hold, where there is no fault
-abbrev pub told : DF.MissionFilled → (MissionProgress → MissionMemory) → Found MissionMemory
-told (Filled.Fault f) tables = fault f.line f.number
-told (Filled.Rows p) tables = gathered (tables p)
+abbrev pub told : Result MissionProgress Fault → (MissionProgress → MissionMemory) → Found MissionMemory
+told (Err f) tables = fault f.line f.number
+told (Ok p) tables = gathered (tables p)
 
 -- tables of which there is so much so far, behind all lines of a text
 unfoldable pub filled_of : Bytes → MissionMemory → Found MissionMemory

@@ -21,12 +21,6 @@ use refusal::{Fault, LONGEST_TEXT};
 use rows::{store_goal, store_limit};
 use statement::Order;
 
-#[derive(Clone, Copy)]
-pub enum MissionFilled {
-    Fault(Fault),
-    Rows(MissionProgress),
-}
-
 // The row that a statement gave, behind the rows that its table has so far.
 fn store(goals: &mut [u32], limits: &mut [u32], gained: MissionProgress, row: MissionRow)
     ensures { memory gained goals.new limits.new ≡ stored row (memory gained goals.old limits.old) }
@@ -53,11 +47,15 @@ fn gather(
 }
 
 // One walk over the lines of a text.
-pub fn fill_orders(text: &[u8], goals: &mut [u32], limits: &mut [u32]) -> MissionFilled
+pub fn fill_orders(
+    text: &[u8],
+    goals: &mut [u32],
+    limits: &mut [u32],
+) -> Result<MissionProgress, Fault>
     ensures { told result (λ p. memory p goals.new limits.new) ≡ filled_in text.now (memory none_read_of goals.old limits.old) }
 {
     if LONGEST_TEXT < text.len() {
-        return MissionFilled::Fault(Fault { line: 0, number: 1 });
+        return Err(Fault { line: 0, number: 1 });
     }
     let table = mdf_table();
     let mut place = MissionPlace::start();
@@ -69,23 +67,20 @@ pub fn fill_orders(text: &[u8], goals: &mut [u32], limits: &mut [u32]) -> Missio
             MissionLine::Blank(e) => {
                 from = e + 1;
             }
-            MissionLine::Filled(said) => {
-                let MissionSaid::Is(s, q, e) = said else {
-                    return MissionFilled::Fault(Fault {
-                        line,
-                        number: said.number(),
-                    });
-                };
-                gained = gather(goals, limits, gained, s);
-                place = q;
-                from = e + 1;
-            }
+            MissionLine::Filled(said) => match said {
+                Err(number) => return Err(Fault { line, number }),
+                Ok((s, q, e)) => {
+                    gained = gather(goals, limits, gained, s);
+                    place = q;
+                    from = e + 1;
+                }
+            },
         }
         line += 1;
     }
     if place.is_over() {
-        MissionFilled::Rows(gained)
+        Ok(gained)
     } else {
-        MissionFilled::Fault(Fault { line, number: 10 })
+        Err(Fault { line, number: 10 })
     }
 }

@@ -1,4 +1,5 @@
 -- One line of the walk to the line that is wanted, as the program tells it, and the column of the line where the walk ends. Assumes nothing.
+use Rattle.std.specs.Prelude.{Some, None, Option}
 use mathlib.Core.Path.{◌≡◌, refl, sym, ap, ◌∙◌}
 use mathlib.Core.List.{List, [], ◌∷◌, head-eq_of_cons-eq, tail-eq_of_cons-eq}
 use mathlib.Core.Bool.{Bool, true, false}
@@ -30,32 +31,29 @@ use Rattle.columns.proofs.Bounds.{column-small}
 use Rattle.refusal.specs.Size.{most}
 use Rattle.refusal.proofs.Sized.{not_too-long}
 use Rattle.mission_column.specs.Before.{goes_on, arrive_from, arrived, standing, mission_place_before_of}
-use Rattle.mission_column.specs.declared.Arrived as DA
-use Rattle.mission_column.specs.declared.Arrived.TheVariants as Arrived
-use Rattle.mission_column.specs.declared.MissionStanding.TheVariants as Standing
 
 -- ## The loop
 -- line w, from a place of the text on, where line i starts
-abbrev pub rest : Bytes → MissionPlace → (from i w : ℕ) → DA.Arrived
+abbrev pub rest : Bytes → MissionPlace → (from i w : ℕ) → Option (MissionPlace × ℕ)
 rest s p from i w = arrive_from p from i w (lines_of (drop from s))
 
-abbrev pub after : (MissionPlace → DA.Arrived) → MissionPlace → DV.MissionVerdict → DA.Arrived
-after k p (Verdict.Bad n) = Arrived.No
+abbrev pub after : (MissionPlace → Option (MissionPlace × ℕ)) → MissionPlace → DV.MissionVerdict → Option (MissionPlace × ℕ)
+after k p (Verdict.Bad n) = None
 after k p Verdict.Blank = k p
 after k p (Verdict.Said s q) = k q
 
-goes-on-is : (p : MissionPlace) (k : MissionPlace → DA.Arrived) (g : Got Order MissionPlace) → goes_on p g k ≡ after k p (verdict g)
+goes-on-is : (p : MissionPlace) (k : MissionPlace → Option (MissionPlace × ℕ)) (g : Got Order MissionPlace) → goes_on p g k ≡ after k p (verdict g)
 goes-on-is p k (bad n) = refl
 goes-on-is p k blank = refl
 goes-on-is p k (said s q) = refl
 
-pub at-end : (s : Bytes) (from : ℕ) → length s ≤ from → (p : MissionPlace) (i w : ℕ) → rest s p from i w ≡ Arrived.At p from
+pub at-end : (s : Bytes) (from : ℕ) → length s ≤ from → (p : MissionPlace) (i w : ℕ) → rest s p from i w ≡ Some (p, from)
 unfolding arrive_from
 at-end s from h p i w = rw (lines_end s from h) refl
 
 module _ (s : Bytes) (from e : ℕ) (h : from < length s) (q : e ≡ reach (stops_by (Byte 10)) s from) (p : MissionPlace) (i w : ℕ) where
   -- this is the line
-  pub this-line : i ≡ w → rest s p from i w ≡ Arrived.At p from
+  pub this-line : i ≡ w → rest s p from i w ≡ Some (p, from)
   unfolding arrive_from
   this-line z = rw (lines_at s from e h q, eq-eqb i w z) refl
 
@@ -72,16 +70,16 @@ module _ (s : Bytes) (from e : ℕ) (h : from < length s) (q : e ≡ reach (stop
 -- THE PLACE: behind the lines before line w, as they stand in the text
 pub place-before : (s : Bytes) (w : ℕ) → length s ≤ most → mission_place_before_of s w ≡ standing (arrive_from first_place 0 1 w (lines_of s))
 unfolding mission_place_before_of arrived
-place-before s w size = not_too-long s Standing.No (standing (arrived s w)) size
+place-before s w size = not_too-long s None (standing (arrived s w)) size
 
 -- ## The column
 abbrev columns : MissionPlace → (start j i n : ℕ) → List Bytes → ℕ
 columns = line_columns mdf_judging (λ p. mdf_wrong)
 
 -- of the line where the walk ends, with the number i
-abbrev column_there : Bytes → (i n : ℕ) → DA.Arrived → ℕ
-column_there s i n Arrived.No = 0
-column_there s i n (Arrived.At p from) = columns p from i i n (lines_of (drop from s))
+abbrev column_there : Bytes → (i n : ℕ) → Option (MissionPlace × ℕ) → ℕ
+column_there s i n None = 0
+column_there s i n (Some (p, from)) = columns p from i i n (lines_of (drop from s))
 
 cons-nil : {A X : Type 0} {a : A} {l : List A} → [] ≡ a ∷ l → X
 cons-nil e = absurd (let z : ◌≡◌ {A = ℕ} 0 1 = cc in omega arith)
@@ -112,27 +110,27 @@ column-so s (l ∷ ls) p start j i n e = go (eqb j i) (λ q. column-so s ls q (s
     by (said t q) f = f q
 
     go : (x : Bool) → Later → pick x (mdf_line_column mdf_table_of l p n) (onward mdf_judging (λ p. mdf_wrong) p (line mdf_judging l start p) (λ q. columns q (start + suc (length l)) (suc j) i n ls))
-        ≡ column_there s i n (pick x (Arrived.At p start) (goes_on p (line mdf_judging l start p) (λ q. arrive_from q (start + suc (length l)) (suc j) i ls)))
+        ≡ column_there s i n (pick x (Some (p, start)) (goes_on p (line mdf_judging l start p) (λ q. arrive_from q (start + suc (length l)) (suc j) i ls)))
     go true f = rw (e, eq-eqb i i refl) refl
     go false f = by (line mdf_judging l start p) f
 
 -- THE COLUMN: by where the walk ends
 module _ (s : Bytes) (w n : ℕ) (size : length s ≤ most) where
-  column-there : (a : DA.Arrived) → a ≡ arrived s w → column_there s w n a ≡ mdf_column_in s w n
+  column-there : (a : Option (MissionPlace × ℕ)) → a ≡ arrived s w → column_there s w n a ≡ mdf_column_in s w n
   unfolding mdf_column_in arrived
   column-there a e = ap (column_there s w n) e ∙ sym (not_too-long s 0 (columns first_place 0 1 w n (lines_of s)) size ∙ column-so s (lines_of s) first_place 0 1 w n refl)
 
-  pub not_there : Arrived.No ≡ arrived s w → 0 ≡ mdf_column_in s w n
-  not_there e = column-there Arrived.No e
+  pub not_there : None ≡ arrived s w → 0 ≡ mdf_column_in s w n
+  not_there e = column-there None e
 
-  module _ (p : MissionPlace) (from : ℕ) (there : Arrived.At p from ≡ arrived s w) where
+  module _ (p : MissionPlace) (from : ℕ) (there : Some (p, from) ≡ arrived s w) where
     pub no_line : length s ≤ from → 0 ≡ mdf_column_in s w n
     unfolding line_columns
-    no_line h = rw (lines_end s from h) at (column-there (Arrived.At p from) there)
+    no_line h = rw (lines_end s from h) at (column-there (Some (p, from)) there)
 
     pub line_there : (e : ℕ) → from < length s → e ≡ reach (stops_by (Byte 10)) s from → (table : List (List ℕ)) → table ≡ mdf_table_of → mdf_line_column table (take (e - from) (drop from s)) p n ≡ mdf_column_in s w n
     unfolding line_columns
-    line_there e h q table right = rw right (rw (lines_at s from e h q, eq-eqb w w refl) at (column-there (Arrived.At p from) there))
+    line_there e h q table right = rw right (rw (lines_at s from e h q, eq-eqb w w refl) at (column-there (Some (p, from)) there))
 
 -- a column fits in 32 bits
 pub small : (table : List (List ℕ)) (s : Bytes) (from e : ℕ) → from < length s → e ≡ reach (stops_by (Byte 10)) s from → (p : MissionPlace) (n : ℕ) → length s ≤ most → mdf_line_column table (take (e - from) (drop from s)) p n < 4294967296

@@ -21,18 +21,11 @@ use line::{Fields, fields_of, trimmed};
 use made_out::order_fields_needed;
 use mission_judge::{MissionVerdict, mission_judge_line};
 use mission_place::MissionPlace;
-use number::{Number, integer_of};
-use place_table::{Verdict, mdf_table};
+use number::integer_of;
+use place_table::mdf_table;
 use refusal::LONGEST_TEXT;
 use scan::{far_byte_from, two_from};
 use statement::orders;
-
-// A place of the grammar; none behind a line that is refused.
-#[derive(Clone, Copy)]
-pub enum MissionStanding {
-    At(MissionPlace),
-    No,
-}
 
 // For 8 spellings alone count; for 9 the values that are permitted. They are tested here and not by `MissionPlace::step`, which the compiler so does inside the judge (as in `column`).
 fn tried(number: u8, id: u32, minimum: u32) -> bool
@@ -46,19 +39,19 @@ fn tried(number: u8, id: u32, minimum: u32) -> bool
 }
 
 // The field at fault, counted from 0, of a limit's line: its id, with the minimum 0 and no ceiling behind it; its minimum, with no ceiling; its maximum.
-fn minimum_wrong(number: u8, id: u32, a: Number) -> u8
+fn minimum_wrong(number: u8, id: u32, a: Option<u32>) -> u8
     ensures { result ≡ minimum_wrong_of number id a }
 {
-    let Number::Is(minimum) = a else {
+    let Some(minimum) = a else {
         return 1;
     };
     if tried(number, id, minimum) { 2 } else { 1 }
 }
 
-fn limit_wrong(number: u8, i: Number, a: Number) -> u8
+fn limit_wrong(number: u8, i: Option<u32>, a: Option<u32>) -> u8
     ensures { result ≡ limit_wrong_of number i a }
 {
-    let Number::Is(id) = i else {
+    let Some(id) = i else {
         return 0;
     };
     if tried(number, id, 0) {
@@ -99,7 +92,7 @@ fn kind_field(
     ensures { result ≡ mdf_kind_field table.now s.now f p number kind }
 {
     let cell = p.cell(table, kind);
-    let Verdict::Taken = p.refuses(cell) else {
+    let Ok(()) = p.refuses(cell) else {
         return 0;
     };
     if f.count == order_fields_needed(kind) {
@@ -186,15 +179,8 @@ fn line_column(table: &[[u8; 13]; 12], s: &[u8], p: MissionPlace, number: u8) ->
 
 // ## The line in the text
 
-// A line of a text: the place behind the lines before it, and where it starts.
-#[derive(Clone, Copy)]
-enum Arrived {
-    At(MissionPlace, usize),
-    No,
-}
-
 // At line `wanted`; behind all lines where there is no such line. Not behind a line that is refused.
-fn arrive(text: &[u8], wanted: u32) -> Arrived
+fn arrive(text: &[u8], wanted: u32) -> Option<(MissionPlace, usize)>
     requires { length text.now ≤ most }
     ensures { result ≡ arrived text.now wanted }
 {
@@ -204,7 +190,7 @@ fn arrive(text: &[u8], wanted: u32) -> Arrived
     let mut line: u32 = 1;
     while from < text.len() {
         if line == wanted {
-            return Arrived::At(place, from);
+            return Some((place, from));
         }
         let e = far_byte_from(text, from, 10);
         let v = mission_judge_line(&table, &text[from..e], from, place);
@@ -214,26 +200,26 @@ fn arrive(text: &[u8], wanted: u32) -> Arrived
                 place = q;
             }
             MissionVerdict::Bad(_) => {
-                return Arrived::No;
+                return None;
             }
         }
         from = e + 1;
         line += 1;
     }
-    Arrived::At(place, from)
+    Some((place, from))
 }
 
 // The place behind the lines before line `wanted`; behind all of them where there is no such line. None behind a line that is refused, or where the text is too long.
-pub fn mission_place_before(text: &[u8], wanted: u32) -> MissionStanding
+pub fn mission_place_before(text: &[u8], wanted: u32) -> Option<MissionPlace>
     ensures { result ≡ mission_place_before_of text.now wanted }
 {
     if LONGEST_TEXT < text.len() {
-        return MissionStanding::No;
+        return None;
     }
-    let Arrived::At(place, _) = arrive(text, wanted) else {
-        return MissionStanding::No;
+    let Some((place, _)) = arrive(text, wanted) else {
+        return None;
     };
-    MissionStanding::At(place)
+    Some(place)
 }
 
 // The column of a line of an MDF that is refused with this number; 0 where there is no such line, or the text is too long.
@@ -243,7 +229,7 @@ pub fn mdf_column(text: &[u8], wanted: u32, number: u8) -> u32
     if LONGEST_TEXT < text.len() {
         return 0;
     }
-    let Arrived::At(place, from) = arrive(text, wanted) else {
+    let Some((place, from)) = arrive(text, wanted) else {
         return 0;
     };
     if text.len() <= from {

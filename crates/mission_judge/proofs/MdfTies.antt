@@ -1,4 +1,5 @@
 -- The judge of an MDF's line: what its program tells is what `text` and the machine tell. Assumes nothing.
+use Rattle.std.specs.Prelude.{Ok, Err, Result}
 use mathlib.Core.Path.{◌≡◌, refl, sym, ap, subst, ◌∙◌}
 use mathlib.Core.List.{List, [], ◌∷◌}
 use mathlib.Core.Option.{Option, none, some}
@@ -39,8 +40,6 @@ use Rattle.made_out.specs.Names.{the_the_stretch_of, behind, told_as}
 use Rattle.made_out.specs.MadeOrders.{order_shapes, order_needs, order_made_of, order_from}
 use Rattle.made_out.proofs.MissionTies.{order_is}
 use Rattle.mission_place.specs.declared.MissionPlace.{MissionPlace}
-use Rattle.mission_place.specs.declared.MissionOutcome as DO
-use Rattle.mission_place.specs.declared.MissionOutcome.TheVariants.{Next, Refused}
 use Rattle.mission_place.specs.Step.{number_kind_of, cell_of, by_cell, step_of, refuses_by}
 use Rattle.mission_place.specs.Abstract.{seen, abs_of, due_digit}
 use Rattle.mission_place.proofs.Theorems.{Sound, the_step, next-sound, refuses-is, step_by, refuses-by, number-kind-is}
@@ -146,11 +145,11 @@ by_kind : (p : MissionPlace) (s : Order) (t : G.Statement Field) → meant s ≡
 by_kind p s t m = ap (λ (x : G.Statement Stretch). by_cell p s (cell_of mdf_table_of p (mission_kind_row x.kind))) (sym m) ∙ step_by p s
 
 pub step_is : (p : MissionPlace) → Sound p → (s : Order) (t : G.Statement Field) → meant s ≡ order_named the_the_stretch_of t → map_out abs_of (seen (by_cell p s (cell_of mdf_table_of p (mission_kind_row t.kind)))) ≡ step (mdf Field) (abs_of p) t
-step_is p i s t m = ap (λ (o : DO.MissionOutcome). map_out abs_of (seen o)) (by_kind p s t m) ∙ the_step p s i ∙ ap (step (mdf Stretch) (abs_of p)) m ∙ mdf-renamed the_the_stretch_of (abs_of p) t
+step_is p i s t m = ap (λ (o : Result MissionPlace ℕ). map_out abs_of (seen o)) (by_kind p s t m) ∙ the_step p s i ∙ ap (step (mdf Stretch) (abs_of p)) m ∙ mdf-renamed the_the_stretch_of (abs_of p) t
 
-next-was : (o : DO.MissionOutcome) (q : MissionPlace) → seen o ≡ next q → o ≡ Next q
-next-was (Next r) q e = ap Next (let z : r ≡ q = cc in z)
-next-was (Refused c) q e = absurd (let z : ◌≡◌ {A = ℕ} 0 1 = cc in omega arith)
+next-was : (o : Result MissionPlace ℕ) (q : MissionPlace) → seen o ≡ next q → o ≡ Ok q
+next-was (Ok r) q e = ap Ok (let z : r ≡ q = cc in z)
+next-was (Err c) q e = absurd (let z : ◌≡◌ {A = ℕ} 0 1 = cc in omega arith)
 
 pub stays : (p : MissionPlace) → Sound p → (s : Order) (t : G.Statement Field) → meant s ≡ order_named the_the_stretch_of t → (q : MissionPlace) → seen (by_cell p s (cell_of mdf_table_of p (mission_kind_row t.kind))) ≡ next q → Sound q
 stays p i s t m q e = next-sound p s q i (sym (by_kind p s t m) ∙ next-was (by_cell p s (cell_of mdf_table_of p (mission_kind_row t.kind))) q e)

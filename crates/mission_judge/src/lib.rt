@@ -12,10 +12,9 @@ ghost use Rattle.judge.specs.Judging.{taken, valued, of_kind, known, told, conte
 ghost use Rattle.mission_place.specs.Abstract.{seen};
 ghost use Rattle.mission_judge.specs.MdfLine.{mdf_kind, judging, mdf_judging, verdict, line_by};
 
-use line::{Fields, Form, fields_of, form_of, trimmed};
-use made_out::{MadeOrder, line_fits, order_fields_needed, order_made_out};
-use mission_place::{MissionOutcome, MissionPlace};
-use place_table::Verdict;
+use line::{Fields, fields_of, form_of, trimmed};
+use made_out::{line_fits, order_fields_needed, order_made_out};
+use mission_place::MissionPlace;
 use statement::{Order, orders};
 use word::{begins_with_digit, mdf_keyword};
 
@@ -39,20 +38,20 @@ pub fn kind_of(p: MissionPlace, s: &[u8]) -> u8
 }
 
 // The place's own number, 9, or the next place.
-fn taken_told(s: Order, o: MissionOutcome) -> MissionVerdict
+fn taken_told(s: Order, o: Result<MissionPlace, u8>) -> MissionVerdict
     ensures { result ≡ verdict (taken mdf_judging s (seen o)) }
 {
     match o {
-        MissionOutcome::Next(q) => MissionVerdict::Said(s, q),
-        MissionOutcome::Refused(n) => MissionVerdict::Bad(n),
+        Ok(q) => MissionVerdict::Said(s, q),
+        Err(n) => MissionVerdict::Bad(n),
     }
 }
 
 // 8, or what comes of the order with the cell of its kind.
-fn values_told(p: MissionPlace, cell: u8, m: MadeOrder) -> MissionVerdict
+fn values_told(p: MissionPlace, cell: u8, m: Option<Order>) -> MissionVerdict
     ensures { result ≡ verdict (valued mdf_judging p cell (order_from m)) }
 {
-    let MadeOrder::Is(s) = m else {
+    let Some(s) = m else {
         return MissionVerdict::Bad(8);
     };
     taken_told(s, p.step(cell, s))
@@ -71,7 +70,7 @@ fn kind_told(
     ensures { result ≡ verdict (of_kind (judging table.now) s.now base f p kind) }
 {
     let cell = p.cell(table, kind);
-    if let Verdict::Refused(n) = p.refuses(cell) {
+    if let Err(n) = p.refuses(cell) {
         return MissionVerdict::Bad(n);
     }
     if f.count == order_fields_needed(kind) {
@@ -107,8 +106,8 @@ fn content_told(table: &[[u8; 13]; 12], s: &[u8], base: usize, p: MissionPlace) 
     ensures { result ≡ verdict (content (judging table.now) s.now base p) }
 {
     match form_of(s) {
-        Form::Bad(n) => MissionVerdict::Bad(n),
-        Form::Body(e) => fields_told(table, &s[..e], base, p),
+        Err(n) => MissionVerdict::Bad(n),
+        Ok(e) => fields_told(table, &s[..e], base, p),
     }
 }
 

@@ -1,4 +1,5 @@
 -- The cells one by one: what the program does with each order that may stand is what the machine does. Assumes nothing.
+use Rattle.std.specs.Prelude.{Ok, Err, Result}
 use mathlib.Core.Path.{◌≡◌, refl, sym, ap, ◌∙◌}
 use mathlib.Core.List.{List, [], ◌∷◌}
 use mathlib.Core.Bool.{Bool, true, false}
@@ -21,8 +22,6 @@ use Rattle.statement.proofs.MissionLaws.{back, kind-written, sample}
 use Rattle.permitted.specs.Tests.{is_counted}
 use Rattle.permitted.specs.MissionTests.{is_limit}
 use Rattle.mission_place.specs.declared.MissionPlace.{MissionPlace}
-use Rattle.mission_place.specs.declared.MissionOutcome.{MissionOutcome}
-use Rattle.mission_place.specs.declared.MissionOutcome.TheVariants.{Next, Refused}
 use Rattle.mission_place.specs.Step.{has_of, permits_of, after_of, opted_of, index_of, due_of, option_of, by_cell, step_of, refuses_by, refuses_of, over_of}
 use Rattle.mission_place.specs.Abstract.{seen, place_of, flags, abs_of}
 use Rattle.mission_place.proofs.Table.{row_is, shut}
@@ -34,9 +33,9 @@ abbrev pub program : Program (mdf Stretch)
 program = record {
   St = Order;
   Pl = MissionPlace;
-  Ou = MissionOutcome;
-  Next = Next;
-  Refused = Refused;
+  Ou = Result MissionPlace ℕ;
+  Next = Ok;
+  Refused = Err;
   seen = seen;
   seen_next = λ p. refl;
   seen_refused = λ c. refl;
@@ -54,15 +53,15 @@ program = record {
 }
 
 -- ## What is not in the row
-by_cell_255 : (p : MissionPlace) (s : Order) → by_cell p s 255 ≡ Refused 5
+by_cell_255 : (p : MissionPlace) (s : Order) → by_cell p s 255 ≡ Err 5
 unfolding by_cell
 by_cell_255 p s = refl
 
-none-line : (b : Base) (g : List Bool) (k : Kind) (v : Says Stretch k) → T (lacks (orders Stretch) k (opts Stretch b)) → (k ≡ (due Stretch b).on → ⊥) → step_of (place_of (inside b g)) (of_kind k v) ≡ Refused 5
+none-line : (b : Base) (g : List Bool) (k : Kind) (v : Says Stretch k) → T (lacks (orders Stretch) k (opts Stretch b)) → (k ≡ (due Stretch b).on → ⊥) → step_of (place_of (inside b g)) (of_kind k v) ≡ Err 5
 unfolding step_of
 none-line b g k v l n = rw (kind-written k v, row_is b g, cell-beside (mdf Stretch) (mdf-tabled Stretch) b k n, having (mdf Stretch) (opts Stretch b) 1 k l) (by_cell_255 (place_of (inside b g)) (of_kind k v))
 
-over-line : (k : Kind) (v : Says Stretch k) → step_of (place_of over) (of_kind k v) ≡ Refused 5
+over-line : (k : Kind) (v : Says Stretch k) → step_of (place_of over) (of_kind k v) ≡ Err 5
 unfolding step_of index_of
 over-line k v = rw (kind-written k v, shut k) (by_cell_255 (place_of over) (of_kind k v))
 

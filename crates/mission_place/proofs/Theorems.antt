@@ -1,4 +1,5 @@
 -- THE THEOREMS of the places of an MDF: the program's step is the step of the grammar's machine. For every place that is sound, and every order. Assumes nothing.
+use Rattle.std.specs.Prelude.{Ok, Err}
 use mathlib.Core.Path.{◌≡◌, refl, sym, ap, subst, ◌∙◌}
 use mathlib.Core.List.{List, map}
 use mathlib.Core.Bool.{true}
@@ -22,7 +23,6 @@ use Rattle.statement.specs.MissionMeaning.{meant}
 use Rattle.statement.specs.MissionKinds.{order_of}
 use Rattle.place_table.proofs.Laws.{mdf-cell-is}
 use Rattle.mission_place.specs.declared.MissionPlace.{MissionPlace}
-use Rattle.mission_place.specs.declared.MissionOutcome.TheVariants.{Next, Refused}
 use Rattle.mission_place.specs.Step.{has_of, permits_of, after_of, opted_of, first_place, index_of, due_of, option_of, cell_of, by_cell, step_of, refuses_by, refuses_of, over_of, number_kind_of}
 use Rattle.mission_place.specs.Abstract.{seen, place_of, abs_of, due_digit}
 use Rattle.mission_place.proofs.Cells.{program, cells}
@@ -39,23 +39,23 @@ pub start_is : abs_of first_place ≡ at (mdf Stretch) name_due
 start_is = F.starts program cells name_due
 
 -- a step from a sound place leads to a sound one
-pub next-sound : (p : MissionPlace) (s : Order) (q : MissionPlace) → Sound p → step_of p s ≡ Next q → Sound q
+pub next-sound : (p : MissionPlace) (s : Order) (q : MissionPlace) → Sound p → step_of p s ≡ Ok q → Sound q
 next-sound = F.next-sound program cells
 
 -- the step is the machine's, next place and refusal number
 pub the_step : (p : MissionPlace) (s : Order) → Sound p → map_out abs_of (seen (step_of p s)) ≡ step (mdf Stretch) (abs_of p) (meant s)
 the_step = F.the_step program cells
 
-pub next-is : (p : MissionPlace) (s : Order) (q : MissionPlace) → Sound p → step_of p s ≡ Next q → step (mdf Stretch) (abs_of p) (meant s) ≡ next (abs_of q)
+pub next-is : (p : MissionPlace) (s : Order) (q : MissionPlace) → Sound p → step_of p s ≡ Ok q → step (mdf Stretch) (abs_of p) (meant s) ≡ next (abs_of q)
 next-is = F.next-is program cells
 
-pub next_of : (p : MissionPlace) (s : Order) (b : Stand Base) → Sound p → step (mdf Stretch) (abs_of p) (meant s) ≡ next b → step_of p s ≡ Next (place_of b)
+pub next_of : (p : MissionPlace) (s : Order) (b : Stand Base) → Sound p → step (mdf Stretch) (abs_of p) (meant s) ≡ next b → step_of p s ≡ Ok (place_of b)
 next_of = F.next_of program cells
 
-pub refused-is : (p : MissionPlace) (s : Order) (c : ℕ) → Sound p → step_of p s ≡ Refused c → step (mdf Stretch) (abs_of p) (meant s) ≡ refuse c
+pub refused-is : (p : MissionPlace) (s : Order) (c : ℕ) → Sound p → step_of p s ≡ Err c → step (mdf Stretch) (abs_of p) (meant s) ≡ refuse c
 refused-is = F.refused-is program cells
 
-pub refused-of : (p : MissionPlace) (s : Order) (c : ℕ) → Sound p → step (mdf Stretch) (abs_of p) (meant s) ≡ refuse c → step_of p s ≡ Refused c
+pub refused-of : (p : MissionPlace) (s : Order) (c : ℕ) → Sound p → step (mdf Stretch) (abs_of p) (meant s) ≡ refuse c → step_of p s ≡ Err c
 refused-of = F.refused-of program cells
 
 -- by the kind alone: 5 or 6 as the machine would say of any statement of that kind, or 0

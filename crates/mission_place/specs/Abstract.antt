@@ -1,5 +1,5 @@
 -- Executable: the place of the grammar's machine that a place of the program stands for, and back; an answer by its number and its place. Assumes nothing.
-use Rattle.std.specs.Prelude.{List, [], ◌∷◌, Bool, false, ℕ, eqb, get_or}
+use Rattle.std.specs.Prelude.{List, [], ◌∷◌, Bool, false, ℕ, eqb, get_or, Ok, Err, Result}
 use Rattle.terms.specs.Words.{pick}
 use Rattle.grammar.specs.Machine.{Out, next, refuse, Stand, over, inside}
 use Rattle.grammar.specs.MissionStatements.{Kind, MDF_name_of, RNDF, format_version_of, creation_date_of, checkpoints, num_checkpoints, end_checkpoints, speed_limits, num_speed_limits, end_speed_limits, end_file_of, goal, limit}
@@ -8,14 +8,12 @@ use Rattle.grammar.specs.PlaceRows.{mission_kind_row}
 use Rattle.statement.specs.Meaning.{Stretch}
 use Rattle.place_table.specs.MdfRows as rows
 use Rattle.mission_place.specs.declared.MissionPlace.{MissionPlace}
-use Rattle.mission_place.specs.declared.MissionOutcome.{MissionOutcome}
-use Rattle.mission_place.specs.declared.MissionOutcome.TheVariants.{Next, Refused}
 use Rattle.mission_place.specs.Step.{placed, with_given}
 
 -- an answer: the next place, or document 01's number
-abbrev pub seen : MissionOutcome → Out MissionPlace
-seen (Next p) = next p
-seen (Refused c) = refuse c
+abbrev pub seen : Result MissionPlace ℕ → Out MissionPlace
+seen (Ok p) = next p
+seen (Err c) = refuse c
 
 -- ## From the machine's places
 abbrev pub core : Base → MissionPlace

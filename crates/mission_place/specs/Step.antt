@@ -1,5 +1,5 @@
 -- Executable: one step of the reader of an MDF, over the program's own types: which kinds may stand, which values are permitted, and the place after each. Assumes nothing.
-use Rattle.std.specs.Prelude.{Bool, true, false, List, ℕ, pred, ◌-◌, eqb, ltb}
+use Rattle.std.specs.Prelude.{Bool, true, false, List, ℕ, pred, ◌-◌, eqb, ltb, Ok, Err, Result}
 use Rattle.terms.specs.Words.{pick}
 use Rattle.grammar.specs.PlaceTable.{cell, mdf_table_of}
 use Rattle.grammar.specs.PlaceRows.{mission_kind_row}
@@ -13,8 +13,6 @@ use Rattle.permitted.specs.Owed.{owing}
 use Rattle.place_table.specs.Cells.{cell_in}
 use Rattle.place_table.specs.MdfRows as rows
 use Rattle.mission_place.specs.declared.MissionPlace.{MissionPlace}
-use Rattle.mission_place.specs.declared.MissionOutcome.{MissionOutcome}
-use Rattle.mission_place.specs.declared.MissionOutcome.TheVariants.{Next, Refused}
 
 -- ## The values of each kind
 abbrev pub permits_of : Order → Bool
@@ -76,17 +74,17 @@ unfoldable pub cell_of : List (List ℕ) → MissionPlace → ℕ → ℕ
 cell_of table p kind = cell_in 12 13 table (index_of p) kind
 
 -- ## The step: by the cell's number the due order, an option, or none
-unfoldable pub due_of : MissionPlace → Order → ℕ → MissionOutcome
-due_of p s row = pick (permits_of s) (Next (after_of p s row)) (Refused 9)
+unfoldable pub due_of : MissionPlace → Order → ℕ → Result MissionPlace ℕ
+due_of p s row = pick (permits_of s) (Ok (after_of p s row)) (Err 9)
 
-unfoldable pub option_of : MissionPlace → Order → ℕ → MissionOutcome
-option_of p s slot = pick (has_of p slot) (Refused 6) (pick (permits_of s) (Next (opted_of p slot)) (Refused 9))
+unfoldable pub option_of : MissionPlace → Order → ℕ → Result MissionPlace ℕ
+option_of p s slot = pick (has_of p slot) (Err 6) (pick (permits_of s) (Ok (opted_of p slot)) (Err 9))
 
-unfoldable pub by_cell : MissionPlace → Order → ℕ → MissionOutcome
-by_cell p s c = pick (ltb c 128) (due_of p s c) (pick (ltb c 255) (option_of p s (c - 128)) (Refused 5))
+unfoldable pub by_cell : MissionPlace → Order → ℕ → Result MissionPlace ℕ
+by_cell p s c = pick (ltb c 128) (due_of p s c) (pick (ltb c 255) (option_of p s (c - 128)) (Err 5))
 
 -- with the cell of its kind in the table of an MDF
-unfoldable pub step_of : MissionPlace → Order → MissionOutcome
+unfoldable pub step_of : MissionPlace → Order → Result MissionPlace ℕ
 step_of p s = by_cell p s (cell mdf_table_of (index_of p) (order_of s))
 
 -- by the kind alone: 5, 6, or 0 where it may stand

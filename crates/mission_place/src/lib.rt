@@ -13,7 +13,7 @@ ghost use Rattle.mission_place.specs.Step.{permits_of, placed, first_place, afte
 
 use permitted;
 use place_table;
-use place_table::{Verdict, mdf};
+use place_table::mdf;
 use statement::{Order, orders};
 
 // The place: the row of what is due; how many goals or limits are still owed; the single options given.
@@ -23,12 +23,6 @@ pub struct MissionPlace {
     pub owed: u32,
     pub version: bool,
     pub date: bool,
-}
-
-#[derive(Clone, Copy)]
-pub enum MissionOutcome {
-    Next(MissionPlace),
-    Refused(u8),
 }
 
 // Are the order's values permitted? It is the same at every place.
@@ -135,26 +129,26 @@ impl MissionPlace {
         }
     }
 
-    fn due_step(self, s: Order, row: u8) -> MissionOutcome
+    fn due_step(self, s: Order, row: u8) -> Result<MissionPlace, u8>
         ensures { result ≡ due_of self s row }
     {
         if permits(s) {
-            MissionOutcome::Next(self.after(s, row))
+            Ok(self.after(s, row))
         } else {
-            MissionOutcome::Refused(9)
+            Err(9)
         }
     }
 
-    fn option_step(self, s: Order, slot: u8) -> MissionOutcome
+    fn option_step(self, s: Order, slot: u8) -> Result<MissionPlace, u8>
         ensures { result ≡ option_of self s slot }
     {
         if self.has(slot) {
-            return MissionOutcome::Refused(6);
+            return Err(6);
         }
         if permits(s) {
-            MissionOutcome::Next(self.opted(slot))
+            Ok(self.opted(slot))
         } else {
-            MissionOutcome::Refused(9)
+            Err(9)
         }
     }
 
@@ -177,25 +171,25 @@ impl MissionPlace {
     }
 
     // By the cell of a kind, before any field is read: 5, 6, or the order may stand.
-    pub fn refuses(self, cell: u8) -> Verdict
+    pub fn refuses(self, cell: u8) -> Result<(), u8>
         ensures { result ≡ verdict_of (refuses_by self cell) }
     {
         if cell < place_table::OFTEN {
-            return Verdict::Taken;
+            return Ok(());
         }
         if cell < place_table::REFUSED {
             if self.has(cell - place_table::OFTEN) {
-                Verdict::Refused(6)
+                Err(6)
             } else {
-                Verdict::Taken
+                Ok(())
             }
         } else {
-            Verdict::Refused(5)
+            Err(5)
         }
     }
 
     // The place after an order with the cell of its kind, or the refusal's number: 5, 6 or 9.
-    pub fn step(self, cell: u8, s: Order) -> MissionOutcome
+    pub fn step(self, cell: u8, s: Order) -> Result<MissionPlace, u8>
         ensures { result ≡ by_cell self s cell }
     {
         if cell < place_table::OFTEN {
@@ -204,7 +198,7 @@ impl MissionPlace {
         if cell < place_table::REFUSED {
             self.option_step(s, cell - place_table::OFTEN)
         } else {
-            MissionOutcome::Refused(5)
+            Err(5)
         }
     }
 }

@@ -14,7 +14,7 @@ ghost use Rattle.mission_progress.specs.Progress.{none_read_of, total, file_afte
 
 use rows::{GoalRow, LimitRow, MissionFileRow, Stretch};
 use statement::Order;
-use units::{CheckpointNumber, CheckpointNumberRead, Mph, MphRead, SegmentId, SegmentIdRead};
+use units::{CheckpointNumber, Mph, SegmentId};
 
 // The number of rows from which on nothing more is counted. No text that is read has so many.
 const FULL: u32 = 4294967295;
@@ -38,7 +38,7 @@ pub enum MissionRow {
 fn goal_row(n: u32) -> MissionRow
     ensures { result ≡ goal_given n }
 {
-    let CheckpointNumberRead::Is(number) = CheckpointNumber::new(n) else {
+    let Some(number) = CheckpointNumber::new(n) else {
         return MissionRow::Nothing;
     };
     MissionRow::Goal(GoalRow { number })
@@ -47,13 +47,13 @@ fn goal_row(n: u32) -> MissionRow
 fn limit_row(id: u32, minimum: u32, maximum: u32) -> MissionRow
     ensures { result ≡ limit_given id minimum maximum }
 {
-    let SegmentIdRead::Is(part) = SegmentId::new(id) else {
+    let Some(part) = SegmentId::new(id) else {
         return MissionRow::Nothing;
     };
-    let MphRead::Is(least) = Mph::new(minimum) else {
+    let Some(least) = Mph::new(minimum) else {
         return MissionRow::Nothing;
     };
-    let MphRead::Is(most) = Mph::new(maximum) else {
+    let Some(most) = Mph::new(maximum) else {
         return MissionRow::Nothing;
     };
     MissionRow::Limit(LimitRow {

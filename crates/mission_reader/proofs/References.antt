@@ -1,4 +1,5 @@
 -- 14 to 18 over the filled tables of a network and a mission: what is found is the first line at fault; where nothing is, the mission fits. Assumes nothing.
+use Rattle.std.specs.Prelude.{⊤, Some, None, Ok, Err, Option, Result}
 use mathlib.Core.Path.{◌≡◌, refl, sym, ap, ap₂, subst, ◌∙◌}
 use mathlib.Core.List.{List, [], ◌∷◌, map, map-map}
 use mathlib.Core.Option.{none}
@@ -35,8 +36,6 @@ use Rattle.table_words.specs.Shown.{shown_checkpoint, shown_goal, shown_limit}
 use Rattle.table_words.proofs.Shown.{checkpoint-shown, goal-shown, limit-shown, table-shown}
 use Rattle.table_words.proofs.Filled.{rows_fit}
 use Rattle.table_words.proofs.Bounds.{CheckpointBounds, spelled-bounded}
-use Rattle.marks.specs.declared.FirstRow.{FirstRow}
-use Rattle.marks.specs.declared.FirstRow.TheVariants as Goal
 use Rattle.marks.specs.declared.BadLimit.{BadLimit}
 use Rattle.marks.specs.declared.BadLimit.TheVariants as Bad
 use Rattle.mission_references.specs.Numbers.{goal_refusal, limit_refusal}
@@ -46,21 +45,20 @@ use Rattle.find_line.proofs.Theorems.{mdf-line-sized}
 use Rattle.fault_lines.specs.FaultLines.{FirstMdfFault, NoMdfFault}
 use Rattle.fault_lines.proofs.MdfFaults.{other-name-line, foreign-goal-line, bad-limit-line, id-missing-line, no-mission-line}
 use Rattle.mission.proofs.Filled.{mission-memory}
-use Rattle.refusal.specs.declared.References as DF
-use Rattle.refusal.specs.declared.References.TheVariants as References
 use Rattle.refusal.specs.Shapes as Shape
 use Rattle.mission_reader.specs.MissionReplies.{most, RoomFor}
 use Rattle.mission_reader.specs.MissionReading.{Rndf, rndf_of, same_name, name_line, end_line, by_count, limit_found, goal_found, refer_of}
 use Rattle.mission_reader.proofs.Standing.{network-name, mission-name}
+use Rattle.refusal.specs.declared.Fault.{Fault}
 
 -- what an accepted RNDF hands to the reader of an MDF: its text, where its name stands, its checkpoints as they were filled in, and how many segments and zones it has
 abbrev pub accepted-rndf : (n : Network Field) (rndf : Bytes) (t : Lent) → Rndf
 accepted-rndf n rndf t = rndf_of rndf (network_file n).name (network_filled n t).checkpoints (length (tables n).checkpoints) (length n.segments + length n.zones)
 
 -- what is found of references says this of an MDF for the network
-abbrev pub Refers : Network Field → Bytes → DF.References → Type 0
-Refers n mdf References.Right = NoMdfFault n mdf
-Refers n mdf (References.Wrong f) = FirstMdfFault n mdf f.line f.number
+abbrev pub Refers : Network Field → Bytes → Result ⊤ Fault → Type 0
+Refers n mdf (Ok _) = NoMdfFault n mdf
+Refers n mdf (Err f) = FirstMdfFault n mdf f.line f.number
 
 each_mapped : {A B : Type 0} (P : B → Type 0) (f : A → B) (l : List A) → Each (λ a. P (f a)) l → Each P (map f l)
 each_mapped P f [] e = tt
@@ -110,7 +108,7 @@ module _ (n : Network Field) (rndf : Bytes) (s : SpellsRndf n rndf) (t : Lent) (
       (each_mapped (λ c. Numbered c.number.0) shown_checkpoint (tables n).checkpoints
       (each_map (CheckpointBounds (length (tables n).points)) (λ r. Numbered r.number) (λ r k. k.number) (tables n).checkpoints b.checkpoints))
 
-  foreign : FirstRow
+  foreign : Option ℕ
   foreign = first_foreign_goal_of (network_filled n t).checkpoints (length (tables n).checkpoints) (mission_filled (mission_tables m) u).goals (length m.goals)
 
   goals-tested : goal_refusal foreign ≡ the_first_foreign_goal_of (all_numbers n) m.goals
@@ -149,7 +147,7 @@ module _ (n : Network Field) (rndf : Bytes) (s : SpellsRndf n rndf) (t : Lent) (
         missing true q e good = refl
         missing false q e good = absurd (e (all-counted (parts n) ids good.0 good.1 q))
 
-        go : (x : Bool) → eqb (length m.limits) (parts n) ≡ x → Each (Between 1 (parts n)) ids × Different ids → Refers n mdf (pick x References.Right (References.Wrong (Shape.fault (end_line mdf) 18)))
+        go : (x : Bool) → eqb (length m.limits) (parts n) ≡ x → Each (Between 1 (parts n)) ids × Different ids → Refers n mdf (pick x (Ok tt) (Err (Shape.fault (end_line mdf) 18)))
         go true q good = no-mission-line n m mdf h same goals limits (counted-all (parts n) ids good.0 good.1 (as_many ∙ eqb-true (length m.limits) (parts n) q))
         go false q good =
             rw (mdf-line-sized mdf 9 0 long) (id-missing-line n m mdf h same goals limits
@@ -161,18 +159,18 @@ module _ (n : Network Field) (rndf : Bytes) (s : SpellsRndf n rndf) (t : Lent) (
     by-limits goals (Bad.Again row) q = rw (mdf-line-sized mdf 12 row long) (bad-limit-line n m mdf h same goals (fault row 17) (sym q))
     by-limits goals Bad.Nothing q = counted goals (sym q)
 
-    by-goals : (f : FirstRow) → goal_refusal f ≡ the_first_foreign_goal_of (all_numbers n) m.goals → Refers n mdf (goal_found mdf f (limit_found mdf bad (length m.limits) (parts n)))
+    by-goals : (f : Option ℕ) → goal_refusal f ≡ the_first_foreign_goal_of (all_numbers n) m.goals → Refers n mdf (goal_found mdf f (limit_found mdf bad (length m.limits) (parts n)))
     unfolding goal_found
-    by-goals (Goal.At row) q = rw (mdf-line-sized mdf 11 row long) (foreign-goal-line n m mdf h same (fault row 15) (sym q))
-    by-goals Goal.Nothing q = by-limits (sym q) bad limits-tested
+    by-goals (Some row) q = rw (mdf-line-sized mdf 11 row long) (foreign-goal-line n m mdf h same (fault row 15) (sym q))
+    by-goals None q = by-limits (sym q) bad limits-tested
 
   -- THE LAW: what is found over the tables is the first line at fault, or no line is at fault
   pub refers : Refers n mdf (refer_of known mdf (mission-memory m u))
   unfolding refer_of foreign bad
   refers = subst (λ (x : Bool). Refers n mdf (by_name x)) (sym name_compared) (go (same_bytes_of m.rndf.bytes n.name.bytes) refl)
     where
-      by_name : Bool → DF.References
-      by_name x = pick x (goal_found mdf foreign (limit_found mdf bad (length m.limits) (parts n))) (References.Wrong (Shape.fault (name_line mdf) 14))
+      by_name : Bool → Result ⊤ Fault
+      by_name x = pick x (goal_found mdf foreign (limit_found mdf bad (length m.limits) (parts n))) (Err (Shape.fault (name_line mdf) 14))
 
       go : (x : Bool) → same_bytes_of m.rndf.bytes n.name.bytes ≡ x → Refers n mdf (by_name x)
       go true q = by-goals (same-equal m.rndf.bytes n.name.bytes q) foreign goals-tested

@@ -1,4 +1,6 @@
 -- THE THEOREM: given an accepted RNDF, the reader of an MDF answers what specs/MissionReplies says, and nothing else. Assumes nothing.
+use Rattle.std.specs.Prelude.{⊤, Ok, Err, Result}
+use Rattle.mission_reader.specs.Types.{MissionReply}
 use mathlib.Core.Path.{◌≡◌, refl, sym, ap, ap₂, subst, ◌∙◌}
 use mathlib.Core.List.{List}
 use mathlib.Core.Bool.{Bool, true, false}
@@ -28,16 +30,13 @@ use Rattle.mission.specs.Storing.{MissionMemory}
 use Rattle.mission.specs.Reading.{filled_of, filled_in}
 use Rattle.mission.proofs.Filled.{all_read, mission-memory}
 use Rattle.counts.specs.declared.MissionCounts.{MissionCounts}
-use Rattle.mission_reader.specs.declared.MissionReply as DP
-use Rattle.mission_reader.specs.declared.MissionReply.TheVariants as Reply
-use Rattle.refusal.specs.declared.References as DF
-use Rattle.refusal.specs.declared.References.TheVariants as References
 use Rattle.refusal.specs.Shapes as Shape
 use Rattle.mission_reader.specs.MissionReplies.{most, RoomFor, AcceptsMdf, RefusesMdf, too_long, bad_line, unended, no_room, bad_reference, rows_used_of, Delivers, Takes}
 use Rattle.mission_reader.specs.MissionReading.{Rndf, room, refer_of, answered_of, judged_of, Read, refused, accepted, outcome, from_filled, empty, mission_of}
 use Rattle.mission_reader.proofs.Found.{found-fault, found-mission, known_behind, goals-long, limits-long, filled-behind}
 use Rattle.mission_reader.proofs.References.{accepted-rndf, Refers, refers}
 use Rattle.mission_reader.proofs.OneReply.{one-accepted, never_both, one-refused}
+use Rattle.refusal.specs.declared.Fault.{Fault}
 
 -- ## What a reply says
 abbrev pub Replies : Network Field → Bytes → MissionLent → Read → Type 0
@@ -74,13 +73,13 @@ module _ (n : Network Field) (rndf : Bytes) (s : SpellsRndf n rndf) (t : Lent) (
 
   module _ (long : length mdf ≤ most) where
     module _ (m : Mission Field) (h : SpellsMdf m mdf) where
-      by-reference : RoomFor m u → (x : DF.References) → Refers n mdf x → Replies n mdf u (outcome (answered_of x (all_read m)) (mission_filled (mission_tables m) u).goals (mission_filled (mission_tables m) u).limits)
-      by-reference r References.Right none-wrong = record {
+      by-reference : RoomFor m u → (x : Result ⊤ Fault) → Refers n mdf x → Replies n mdf u (outcome (answered_of x (all_read m)) (mission_filled (mission_tables m) u).goals (mission_filled (mission_tables m) u).limits)
+      by-reference r (Ok _) none-wrong = record {
         mission = m;
         accepts = record { size = long; spelled = h; room = r; fits = no-line-fits n m mdf h none-wrong };
         delivers = record { counted = refl; own_row = refl; goals_hold = refl; limits_hold = refl };
       }
-      by-reference r (References.Wrong x) f = bad_reference long h r f
+      by-reference r (Err x) f = bad_reference long h r f
 
       module _ (w : MissionMemory) (e : filled_of mdf (empty u.goals u.limits) ≡ gathered w) where
         room-tested : room w.so_far (length w.goals) (length w.limits) ≡ room (all_read m) (length u.goals) (length u.limits)
@@ -90,18 +89,18 @@ module _ (n : Network Field) (rndf : Bytes) (s : SpellsRndf n rndf) (t : Lent) (
             rw (known_behind m mdf h _ _ w e, g, l) refl
 
         -- where the tables are filled, what they hold is judged
-        judged : (x : Bool) → room (all_read m) (length u.goals) (length u.limits) ≡ x → judged_of known mdf w ≡ pick x (answered_of (refer_of known mdf w) w.so_far) (Reply.Refused (Shape.fault 0 11))
+        judged : (x : Bool) → room (all_read m) (length u.goals) (length u.limits) ≡ x → judged_of known mdf w ≡ pick x (answered_of (refer_of known mdf w) w.so_far) (Err (Shape.fault 0 11))
         unfolding judged_of
-        judged x q = ap (λ (y : Bool). pick y (answered_of (refer_of known mdf w) w.so_far) (Reply.Refused (Shape.fault 0 11))) (room-tested ∙ q)
+        judged x q = ap (λ (y : Bool). pick y (answered_of (refer_of known mdf w) w.so_far) (Err (Shape.fault 0 11))) (room-tested ∙ q)
 
         by-room : (x : Bool) → room (all_read m) (length u.goals) (length u.limits) ≡ x → Replies n mdf u (outcome (judged_of known mdf w) w.goals w.limits)
         by-room true q =
             let r = room-right m u q in
-            subst (λ (y : DP.MissionReply). Replies n mdf u (outcome y w.goals w.limits)) (sym (judged true q))
+            subst (λ (y : MissionReply). Replies n mdf u (outcome y w.goals w.limits)) (sym (judged true q))
             (subst (λ (v : MissionMemory). Replies n mdf u (outcome (answered_of (refer_of known mdf v) v.so_far) v.goals v.limits)) (sym (filled-behind m mdf h u w e r))
             (by-reference r (refer_of known mdf (mission-memory m u)) (refers n rndf s t roomy m mdf h u r long)))
         by-room false q =
-            subst (λ (y : DP.MissionReply). Replies n mdf u (outcome y w.goals w.limits)) (sym (judged false q)) (no_room long h (λ r. clash (sym (room-only m u r) ∙ q)))
+            subst (λ (y : MissionReply). Replies n mdf u (outcome y w.goals w.limits)) (sym (judged false q)) (no_room long h (λ r. clash (sym (room-only m u r) ∙ q)))
 
     by-found : (f : Found MissionMemory) → filled_of mdf (empty u.goals u.limits) ≡ f → Replies n mdf u (from_filled known mdf f)
     by-found (fault i k) e = go (found-fault mdf _ _ i k e)
@@ -123,7 +122,7 @@ module _ (n : Network Field) (rndf : Bytes) (s : SpellsRndf n rndf) (t : Lent) (
       go false q = by-found (ltb-false most (length mdf) q) (filled_of mdf (empty u.goals u.limits)) refl
 
   -- what the program replied and left in the tables, by its contract
-  pub read_right : (r : DP.MissionReply) (goals limits : List ℕ) → outcome r goals limits ≡ answer → Replies n mdf u (outcome r goals limits)
+  pub read_right : (r : MissionReply) (goals limits : List ℕ) → outcome r goals limits ≡ answer → Replies n mdf u (outcome r goals limits)
   read_right r goals limits e = subst (Replies n mdf u) (sym e) replies-right
 
   -- so an MDF is accepted or refused

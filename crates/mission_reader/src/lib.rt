@@ -19,21 +19,17 @@ ghost use Rattle.mission_reader.specs.MissionReading.{rndf_of, room, same_name, 
 
 use counts::MissionCounts;
 use find_line::mdf_line;
-use marks::{BadLimit, FirstRow, first_bad_limit, first_foreign_goal};
-use mission::{MissionFilled, fill_orders};
+use marks::{BadLimit, first_bad_limit, first_foreign_goal};
+use mission::fill_orders;
 use mission_progress::MissionProgress;
-use refusal::{Fault, References};
+use refusal::Fault;
 use room::fits;
 use rows::{GOAL_STRIDE, LIMIT_STRIDE, MissionFileRow, Stretch, clear, name_of};
 use scan::same;
 use statement::orders;
 
 // The rows used and the file's own row; or what is at fault.
-#[derive(Clone, Copy)]
-pub enum MissionReply {
-    Accepted(MissionCounts, MissionFileRow),
-    Refused(Fault),
-}
+pub type MissionReply = Result<(MissionCounts, MissionFileRow), Fault>;
 
 // 14: is the name that the MDF gives the RNDF's, byte for byte?
 fn same_name(rndf: &[u8], name: Stretch, mdf: &[u8], given: Stretch) -> bool
@@ -43,24 +39,24 @@ fn same_name(rndf: &[u8], name: Stretch, mdf: &[u8], given: Stretch) -> bool
 }
 
 // 16 or 17 at the first limit at fault; else 18 where there are not as many limits as segments and zones.
-fn limits_fault(mdf: &[u8], limits: &[u32], limit_count: u32, parts: u32) -> References
+fn limits_fault(mdf: &[u8], limits: &[u32], limit_count: u32, parts: u32) -> Result<(), Fault>
     ensures { result ≡ limits_fault_of mdf.now limits.now limit_count parts }
 {
     let bad = first_bad_limit(limits, limit_count, parts);
     match bad {
-        BadLimit::NotThere(row) => References::Wrong(Fault {
+        BadLimit::NotThere(row) => Err(Fault {
             line: mdf_line(mdf, orders::LIMIT, row),
             number: 16,
         }),
-        BadLimit::Again(row) => References::Wrong(Fault {
+        BadLimit::Again(row) => Err(Fault {
             line: mdf_line(mdf, orders::LIMIT, row),
             number: 17,
         }),
         BadLimit::Nothing => {
             if limit_count == parts {
-                References::Right
+                Ok(())
             } else {
-                References::Wrong(Fault {
+                Err(Fault {
                     line: mdf_line(mdf, orders::END_SPEED_LIMITS, 0),
                     number: 18,
                 })
@@ -80,20 +76,20 @@ fn refer(
     goals: &[u32],
     limits: &[u32],
     gained: MissionProgress,
-) -> References
+) -> Result<(), Fault>
     ensures { result ≡ refer_of (rndf_of rndf.now name checkpoints.now checkpoint_count parts) mdf.now (memory gained goals.now limits.now) }
 {
     if same_name(rndf, name, mdf, gained.file.rndf) {
         let foreign = first_foreign_goal(checkpoints, checkpoint_count, goals, gained.goals);
         match foreign {
-            FirstRow::At(row) => References::Wrong(Fault {
+            Some(row) => Err(Fault {
                 line: mdf_line(mdf, orders::GOAL, row),
                 number: 15,
             }),
-            FirstRow::Nothing => limits_fault(mdf, limits, gained.limits, parts),
+            None => limits_fault(mdf, limits, gained.limits, parts),
         }
     } else {
-        References::Wrong(Fault {
+        Err(Fault {
             line: mdf_line(mdf, orders::RNDF, 0),
             number: 14,
         })
@@ -111,21 +107,21 @@ fn both_fit(gained: MissionProgress, goals: usize, limits: usize) -> bool
     }
 }
 
-fn answered(found: References, gained: MissionProgress) -> MissionReply
+fn answered(found: Result<(), Fault>, gained: MissionProgress) -> MissionReply
     ensures { result ≡ answered_of found gained }
 {
     match found {
-        References::Right => {
+        Ok(()) => {
             let file = gained.file;
-            MissionReply::Accepted(
+            Ok((
                 MissionCounts {
                     goals: gained.goals,
                     limits: gained.limits,
                 },
                 file,
-            )
+            ))
         }
-        References::Wrong(fault) => MissionReply::Refused(fault),
+        Err(fault) => Err(fault),
     }
 }
 
@@ -157,7 +153,7 @@ fn judge_rows(
         );
         answered(found, gained)
     } else {
-        MissionReply::Refused(Fault {
+        Err(Fault {
             line: 0,
             number: 11,
         })
@@ -181,8 +177,8 @@ pub fn read_mission(
     clear(limits);
     let filled = fill_orders(mdf, goals, limits);
     match filled {
-        MissionFilled::Fault(fault) => MissionReply::Refused(fault),
-        MissionFilled::Rows(gained) => judge_rows(
+        Err(fault) => Err(fault),
+        Ok(gained) => judge_rows(
             rndf,
             name,
             checkpoints,

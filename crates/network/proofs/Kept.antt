@@ -10,7 +10,6 @@ use Rattle.terms.specs.Words.{Each}
 use Rattle.grammar.specs.Tables as T
 use Rattle.line.specs.Content.{Field}
 use Rattle.units.specs.declared.Feet.{Feet}
-use Rattle.units.specs.declared.FeetRead.{FeetRead}
 use Rattle.units.proofs.Ranges.{feet-is}
 use Rattle.made_out.specs.Names.{the_the_stretch_of}
 use Rattle.rows.specs.declared.Stretch as RS
@@ -30,12 +29,13 @@ use Rattle.table_words.proofs.Filled.{put_all}
 use Rattle.grammar.specs.Names.{perhaps_name}
 use Rattle.network.specs.Reading.{most}
 use Rattle.network.proofs.Stored.{shown_checkpoint, shown_stop}
+use Rattle.std.specs.Prelude as Rust
 
 -- ## Numbers
 width-kept : (w : ℕ) → WidthBound w → (width_of w).0 ≡ w
 unfolding width_of
 width-kept w (inl e) = ap (λ (x : ℕ). (width_of x).0) e ∙ ap (λ (x : Feet). x.0) missing-shown ∙ sym e
-width-kept w (inr h) = ap (λ (x : FeetRead). (width_read x).0) (feet-is (record { low = omega arith; high = h }))
+width-kept w (inr h) = ap (λ (x : Rust.Option Feet). (width_read x).0) (feet-is (record { low = omega arith; high = h }))
 
 -- the row of a point that there is fits into a word
 pub row_kept : (n points : ℕ) → n < points → points ≤ most → fitted n ≡ n

@@ -1,4 +1,5 @@
 -- One line of the walk, as the program tells it, and the walk's end. Assumes nothing.
+use Rattle.std.specs.Prelude.{⊤, Ok, Err, Result}
 use mathlib.Core.Path.{◌≡◌, refl, sym, ap, ◌∙◌}
 use mathlib.Core.List.{List, [], ◌∷◌, ◌++◌}
 use mathlib.Core.Bool.{Bool, true, false}
@@ -21,8 +22,6 @@ use Rattle.line_fields.proofs.LastField.{last_within}
 use Rattle.grammar.specs.Editions.{Edition}
 use Rattle.grammar.specs.PlaceTable.{rndf_table_of}
 use Rattle.statement.specs.declared.Statement.{Statement}
-use Rattle.place_table.specs.declared.Verdict.{Verdict}
-use Rattle.place_table.specs.declared.Verdict.TheVariants.{Taken, Refused}
 use Rattle.place_table.specs.Verdicts.{verdict_of}
 use Rattle.place_table.proofs.Verdicts.{none-refuses, refused-by}
 use Rattle.place.specs.declared.Place.{Place}
@@ -40,13 +39,10 @@ use Rattle.walk.specs.Walking.{fault, gathered, onward, walked}
 use Rattle.refusal.specs.Size.{most}
 use Rattle.edition_judge.specs.EditionLine.{bars_of, judging_in}
 use Rattle.edition_judge.proofs.Lines.{bar_got, line-so}
-use Rattle.network.specs.declared.Filled as DF
-use Rattle.network.specs.declared.Filled.TheVariants as Filled
-use Rattle.network.specs.declared.Walked as DW
-use Rattle.network.specs.declared.Walked.TheVariants as Walked
 use Rattle.network.specs.Storing.{Memory}
 use Rattle.network.specs.Reading.{put, told, filled_of, filled_in}
 use Rattle.network.specs.Reaching.{first-of, the_refusal_of, WalkEnd, stopped, reached, goes, reaching, onwards, reached_in, stood, ended_of, ending}
+use Rattle.refusal.specs.declared.Fault.{Fault}
 
 -- ## What an edition makes of a statement
 module _ (table : List (List ℕ)) (e : Edition) (s : Statement) where
@@ -94,13 +90,13 @@ module _ (e : Edition) (table : List (List ℕ)) (right : table ≡ rndf_table_o
   pub bad_line : (n : ℕ) → line (judging table) (stretch s from to) from p ≡ bad n → onwards e s p m from i ≡ stopped i n
   bad_line n says = gets (bad n) says
 
-  module _ (k c : ℕ) (v : Verdict) (st : Statement) (says : line (judging table) (stretch s from to) from p ≡ stated (judging table) k st p) (cell : c ≡ cell_of table p k) (told : v ≡ verdict_of (the_refusal_of e p c st)) where
-    pub refused-line : (n : ℕ) → v ≡ Refused n → onwards e s p m from i ≡ stopped i n
+  module _ (k c : ℕ) (v : Result ⊤ ℕ) (st : Statement) (says : line (judging table) (stretch s from to) from p ≡ stated (judging table) k st p) (cell : c ≡ cell_of table p k) (told : v ≡ verdict_of (the_refusal_of e p c st)) where
+    pub refused-line : (n : ℕ) → v ≡ Err n → onwards e s p m from i ≡ stopped i n
     refused-line n is =
         let r = refused-by (the_refusal_of e p c st) n v told is in
         gets _ says ∙ ap (λ (x : Got Statement Place). goes (place from i (stretch s from to)) p m x rest) (bad-by table e st p k c n cell (sym r.0) (λ z. r.1 (r.0 ∙ z)))
 
-    pub moved-line : v ≡ Taken → (q : Place) → q ≡ moved_of p st c → onwards e s p m from i ≡ rest q (put (place from i (stretch s from to)) st m)
+    pub moved-line : v ≡ Ok tt → (q : Place) → q ≡ moved_of p st c → onwards e s p m from i ≡ rest q (put (place from i (stretch s from to)) st m)
     moved-line is q move =
         let z = none-refuses (the_refusal_of e p c st) v told is in
         gets _ says ∙ ap (λ (x : Got Statement Place). goes (place from i (stretch s from to)) p m x rest) (moved_by table e st p k c 0 cell (sym z) refl) ∙ ap (λ (x : Place). rest x (put (place from i (stretch s from to)) st m)) (sym move)
@@ -130,17 +126,17 @@ filled-so e text m = go (ltb most (length text))
     go false = sym (ends_so e (lines_of text) first_place m 0 1)
 
 -- what is answered at the end, where the walk stood so
-pub filled-from : (e : Edition) (text : Bytes) (m : Memory) (w : DW.Walked) (r : DF.Filled) (tables : Progress → Memory) → r ≡ ended_of w → stood w tables ≡ reached_in e text m → told r tables ≡ filled_in e text m
+pub filled-from : (e : Edition) (text : Bytes) (m : Memory) (w : Result (Place × Progress × ℕ) Fault) (r : Result Progress Fault) (tables : Progress → Memory) → r ≡ ended_of w → stood w tables ≡ reached_in e text m → told r tables ≡ filled_in e text m
 unfolding ended_of
-filled-from e text m w r tables is h = ap (λ (r : DF.Filled). told r tables) is ∙ by w ∙ ap ending h ∙ filled-so e text m
+filled-from e text m w r tables is h = ap (λ (r : Result Progress Fault). told r tables) is ∙ by w ∙ ap ending h ∙ filled-so e text m
   where
-    over : (b : Bool) (g : Progress) (i : ℕ) → told (pick b (Filled.Rows g) (Filled.Fault (record { line = i; number = 10 }))) tables ≡ pick b (gathered (tables g)) (fault i 10)
+    over : (b : Bool) (g : Progress) (i : ℕ) → told (pick b (Ok g) (Err (record { line = i; number = 10 }))) tables ≡ pick b (gathered (tables g)) (fault i 10)
     over true g i = refl
     over false g i = refl
 
-    by : (w : DW.Walked) → told (ended_of w) tables ≡ ending (stood w tables)
-    by (Walked.Fault f) = refl
-    by (Walked.Ended p g i) = over (over_of p) g i
+    by : (w : Result (Place × Progress × ℕ) Fault) → told (ended_of w) tables ≡ ending (stood w tables)
+    by (Err f) = refl
+    by (Ok (p, g, i)) = over (over_of p) g i
 
 -- the walk goes on from there
 pub goes_on : (e : Edition) (s : Bytes) (p q : Place) (m d : Memory) (at to i : ℕ) → p ≡ q → m ≡ d → at ≡ to + 1 → onwards e s p m at (i + 1) ≡ onwards e s q d (to + 1) (i + 1)

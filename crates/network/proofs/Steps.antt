@@ -1,4 +1,5 @@
 -- One statement of the walk: the memory behind it is the one that the program leaves, and no table changes its length. Assumes nothing.
+use Rattle.std.specs.Prelude.{Some, None, Option}
 use mathlib.Core.Path.{◌≡◌, refl, sym, ap, ap₂, ◌∙◌}
 use mathlib.Core.List.{List, ◌++◌}
 use mathlib.Core.Bool.{Bool, true, false}
@@ -10,8 +11,6 @@ use lib.Dec.{leb}
 use lib.IntN.{ℤ}
 use borrow.Author.Tests.{leb-true}
 use Rattle.terms.specs.Words.{pick}
-use Rattle.units.specs.declared.CheckpointNumberRead.{CheckpointNumberRead}
-use Rattle.units.specs.declared.CheckpointNumberRead.TheVariants as C
 use Rattle.rows.specs.declared.PointRow.{PointRow}
 use Rattle.rows.specs.Lay.{put_row_of}
 use Rattle.rows.specs.Columns.{segment_words_of, lane_words_of, zone_words_of, spot_words_of, point_words_of, checkpoint_words_of, stop_words_of, exit_words_of}
@@ -26,6 +25,7 @@ use Rattle.progress.proofs.Shown.{grows}
 use Rattle.walk.specs.Standing.{Where}
 use Rattle.network.specs.Storing.{Memory, memory, store_part, store_numbered_of, stored}
 use Rattle.network.specs.Reading.{with_progress, put}
+use Rattle.units.specs.declared.CheckpointNumber.{CheckpointNumber}
 
 -- how long each table is
 pub record Lengths : Type 0 where
@@ -63,10 +63,10 @@ part-long t first within a = go (leb (first * 2) (length t)) refl
         let k = length-take-le (first * 2) t h in
         length-append (take (first * 2) t) (put_row_of 2 (drop (first * 2) t) within (point_words_of a)) ∙ omega arith
 
-numbered-long : (t : List ℕ) (row : ℕ) (read : CheckpointNumberRead) (point : ℕ) → length (store_numbered_of t row read point) ≡ length t
+numbered-long : (t : List ℕ) (row : ℕ) (read : Option CheckpointNumber) (point : ℕ) → length (store_numbered_of t row read point) ≡ length t
 unfolding store_numbered_of
-numbered-long t row (C.Is number) point = length-put 2 t row (checkpoint_words_of (record { number = number; point = point })) refl
-numbered-long t row C.Refused point = refl
+numbered-long t row (Some number) point = length-put 2 t row (checkpoint_words_of (record { number = number; point = point })) refl
+numbered-long t row None point = refl
 
 pub stored-long : (r : Row) (m : Memory) → lengths (stored r m) ≡ lengths m
 unfolding stored

@@ -1,4 +1,5 @@
 -- What the walk stores, statement by statement, is what `fill` gives, as `progress` shows it. For any statements, from any state. Assumes nothing.
+use Rattle.std.specs.Prelude.{Option}
 use mathlib.Core.Path.{◌≡◌, refl, sym, ap, ap₂, ◌∙◌}
 use mathlib.Core.List.{List, [], ◌∷◌, ◌++◌, map, map-append}
 use Prim.Native.Nat.{ℕ, ◌+◌, ◌<◌}
@@ -8,7 +9,6 @@ use lib.Dec.{lit<}
 use Rattle.terms.specs.Words.{Each}
 use Rattle.units.specs.Range.{Numbered}
 use Rattle.units.specs.Made.{checkpoint_number_of}
-use Rattle.units.specs.declared.CheckpointNumberRead.{CheckpointNumberRead}
 use Rattle.units.proofs.Ranges.{checkpoint-number-is}
 use Rattle.line.specs.Content.{Field}
 use Rattle.grammar.specs.Language.{as_kind}
@@ -46,6 +46,7 @@ use Rattle.network.specs.Storing.{Memory, memory, store_part, store_numbered_of,
 use Rattle.network.specs.Reading.{with_progress, put}
 use Rattle.network.proofs.Parts.{part-is}
 use Rattle.network.proofs.ExitLines.{if_there, exit-starts, exit-at, exits-at}
+use Rattle.units.specs.declared.CheckpointNumber.{CheckpointNumber}
 
 -- ## Rows as they are shown
 abbrev pub shown_point : Position → PointRow
@@ -101,7 +102,7 @@ row_put (NR.a_point a) g start s c f w e p m =
     let q : store_part m.points f w (shown_point a) ≡ put_row_of point_stride m.points c.points (point_words_of (shown_point a))
     = part-is m.points f w (shown_point a) ∙ ap (λ (i : ℕ). put_row_of point_stride m.points i (point_words_of (shown_point a))) e in
     λ i. memory p m.segments m.lanes m.zones m.spots (q i) m.checkpoints m.stops m.exits
-row_put (NR.a_checkpoint a) g start s c f w e p m = ap (λ (read : CheckpointNumberRead). with_progress p (stored (Row.Checkpoint read (fitted a.point)) (with_progress (shown s c f w) m))) (checkpoint-number-is g.0)
+row_put (NR.a_checkpoint a) g start s c f w e p m = ap (λ (read : Option CheckpointNumber). with_progress p (stored (Row.Checkpoint read (fitted a.point)) (with_progress (shown s c f w) m))) (checkpoint-number-is g.0)
 row_put (NR.a_stop a) g start s c f w e p m = refl
 row_put (NR.an_exit a) g start s c f w e p m = refl
 

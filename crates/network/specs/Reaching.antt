@@ -1,6 +1,6 @@
 -- Executable: the walk over an RNDF's lines up to where it stands at their end: the first fault with its line; or the place behind them, what they gathered, and the number of the line
 -- behind them. Assumes nothing.
-use Rattle.std.specs.Prelude.{List, [], ◌∷◌, ℕ, suc, ◌+◌, length, drop, eqb}
+use Rattle.std.specs.Prelude.{List, [], ◌∷◌, ℕ, suc, ◌+◌, length, drop, eqb, Ok, Err, Result}
 use Rattle.terms.specs.Ascii.{Bytes}
 use Rattle.terms.specs.Words.{pick}
 use Rattle.line.specs.Lines.{lines_of}
@@ -16,10 +16,7 @@ use Rattle.edition_judge.specs.EditionLine.{bars_of, judging_in}
 use Rattle.refusal.specs.Size.{if_too_long}
 use Rattle.network.specs.Storing.{Memory}
 use Rattle.network.specs.Reading.{put}
-use Rattle.network.specs.declared.Filled as DF
-use Rattle.network.specs.declared.Filled.TheVariants as Filled
-use Rattle.network.specs.declared.Walked as DW
-use Rattle.network.specs.declared.Walked.TheVariants as Walked
+use Rattle.refusal.specs.declared.Fault.{Fault}
 
 -- ## One statement
 -- 01: "lowest number first": 5 and 6 by the kind, then 9 and 25 by the values; L10: what the edition does not have
@@ -53,14 +50,14 @@ unfoldable pub reached_in : Edition → Bytes → Memory → WalkEnd
 reached_in e text m = if_too_long text (stopped 0 1) (reaching e first_place m 0 1 (lines_of text))
 
 -- what was answered, and what the tables then hold, where there is no fault
-abbrev pub stood : DW.Walked → (Progress → Memory) → WalkEnd
-stood (Walked.Fault f) tables = stopped f.line f.number
-stood (Walked.Ended p g i) tables = reached p (tables g) i
+abbrev pub stood : Result (Place × Progress × ℕ) Fault → (Progress → Memory) → WalkEnd
+stood (Err f) tables = stopped f.line f.number
+stood (Ok (p, g, i)) tables = reached p (tables g) i
 
 -- ## 10 where the text ends before `end_file`
-unfoldable pub ended_of : DW.Walked → DF.Filled
-ended_of (Walked.Fault f) = Filled.Fault f
-ended_of (Walked.Ended p g i) = pick (over_of p) (Filled.Rows g) (Filled.Fault (record { line = i; number = 10 }))
+unfoldable pub ended_of : Result (Place × Progress × ℕ) Fault → Result Progress Fault
+ended_of (Err f) = Err f
+ended_of (Ok (p, g, i)) = pick (over_of p) (Ok g) (Err (record { line = i; number = 10 }))
 
 -- the same of what they stand for
 abbrev pub ending : WalkEnd → Found Memory

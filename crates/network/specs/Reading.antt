@@ -1,5 +1,5 @@
 -- Executable: the walk over an RNDF's lines that stores their rows. Assumes nothing.
-use Rattle.std.specs.Prelude.{ℕ}
+use Rattle.std.specs.Prelude.{ℕ, Ok, Err, Result}
 use Rattle.terms.specs.Ascii.{Bytes}
 use Rattle.line.specs.Lines.{lines_of}
 use Rattle.grammar.specs.Editions.{Edition}
@@ -13,9 +13,8 @@ use Rattle.walk.specs.Walking.{Found, fault, gathered, walked}
 use Rattle.edition_judge.specs.EditionLine.{judging_in}
 use Rattle.refusal.specs.Size.{if_too_long}
 use Rattle.network.specs.Storing.{Memory, memory, stored}
-use Rattle.network.specs.declared.Filled as DF
-use Rattle.network.specs.declared.Filled.TheVariants as Filled
 pub use Rattle.refusal.specs.Size.{most}
+use Rattle.refusal.specs.declared.Fault.{Fault}
 
 abbrev pub with_progress : Progress → Memory → Memory
 with_progress p m = memory p m.segments m.lanes m.zones m.spots m.points m.checkpoints m.stops m.exits
@@ -25,9 +24,9 @@ unfoldable pub put : Where → Statement → Memory → Memory
 put w s m = with_progress (after_of s m.so_far) (stored (row_of s w.last m.so_far) m)
 
 -- what was answered, and what the tables then hold, where there is no fault
-abbrev pub told : DF.Filled → (Progress → Memory) → Found Memory
-told (Filled.Fault f) tables = fault f.line f.number
-told (Filled.Rows p) tables = gathered (tables p)
+abbrev pub told : Result Progress Fault → (Progress → Memory) → Found Memory
+told (Err f) tables = fault f.line f.number
+told (Ok p) tables = gathered (tables p)
 
 -- tables of which there is so much so far, behind all lines of a text that is read by an edition
 unfoldable pub filled_of : Edition → Bytes → Memory → Found Memory

@@ -1,8 +1,6 @@
 -- Executable: what is gathered in a walk over an RNDF: what there is so far, and the lent tables; and a row stored in them. Assumes nothing.
-use Rattle.std.specs.Prelude.{List, ◌++◌, ℕ, ◌*◌, length, take, drop, leb, ℤ}
+use Rattle.std.specs.Prelude.{List, ◌++◌, ℕ, ◌*◌, length, take, drop, leb, ℤ, Some, None, Option}
 use Rattle.terms.specs.Words.{pick}
-use Rattle.units.specs.declared.CheckpointNumberRead.{CheckpointNumberRead}
-use Rattle.units.specs.declared.CheckpointNumberRead.TheVariants as C
 use Rattle.rows.specs.declared.PointRow.{PointRow}
 use Rattle.rows.specs.Lay.{put_row_of}
 use Rattle.rows.specs.Columns.{segment_words_of, lane_words_of, zone_words_of, spot_words_of, point_words_of, checkpoint_words_of, stop_words_of, exit_words_of}
@@ -10,6 +8,7 @@ use Rattle.rows.specs.Strides.{segment_stride, lane_stride, zone_stride, spot_st
 use Rattle.progress.specs.declared.Progress.{Progress}
 use Rattle.progress.specs.declared.Row.{Row}
 use Rattle.progress.specs.declared.Row.TheVariants as Row
+use Rattle.units.specs.declared.CheckpointNumber.{CheckpointNumber}
 
 pub record Memory : Type 0 where
   pub so_far : Progress
@@ -30,9 +29,9 @@ unfoldable pub store_part : List ℤ → (first within : ℕ) → PointRow → L
 store_part t first within a = pick (leb (first * point_stride) (length t)) (take (first * point_stride) t ++ put_row_of point_stride (drop (first * point_stride) t) within (point_words_of a)) t
 
 -- a checkpoint with the number that its kind made; none where it made none
-unfoldable pub store_numbered_of : List ℕ → (row : ℕ) → CheckpointNumberRead → (point : ℕ) → List ℕ
-store_numbered_of t row (C.Is number) point = put_row_of checkpoint_stride t row (checkpoint_words_of (record { number = number; point = point }))
-store_numbered_of t row C.Refused point = t
+unfoldable pub store_numbered_of : List ℕ → (row : ℕ) → Option CheckpointNumber → (point : ℕ) → List ℕ
+store_numbered_of t row (Some number) point = put_row_of checkpoint_stride t row (checkpoint_words_of (record { number = number; point = point }))
+store_numbered_of t row None point = t
 
 unfoldable pub stored : Row → Memory → Memory
 stored Row.Nothing m = m

@@ -24,7 +24,7 @@ ghost use Rattle.network.specs.Reaching.{the_refusal_of, stood, onwards, reached
 use edition::Edition;
 use edition_judge::barred;
 use place::Place;
-use place_table::{Verdict, rndf_table};
+use place_table::rndf_table;
 use progress::{Progress, Row};
 use refusal::{Fault, LONGEST_TEXT};
 use rows::{
@@ -33,20 +33,7 @@ use rows::{
 };
 use said_line::{Line, Said, line_said};
 use statement::Statement;
-use units::CheckpointNumberRead;
-
-#[derive(Clone, Copy)]
-pub enum Filled {
-    Fault(Fault),
-    Rows(Progress),
-}
-
-// The first fault; or the place behind all lines, what there is behind them, and the number of the line behind them.
-#[derive(Clone, Copy)]
-pub enum Walked {
-    Fault(Fault),
-    Ended(Place, Progress, u32),
-}
+use units::CheckpointNumber;
 
 // A point of the part whose first point is row `first`: the table from there on is lent to the point's writer, so that no row before it is touched.
 fn store_in_part(points: &mut [i32], first: u32, within: u32, point: PointRow)
@@ -59,10 +46,10 @@ fn store_in_part(points: &mut [i32], first: u32, within: u32, point: PointRow)
 }
 
 // A checkpoint with the number that its kind made; none where it made none.
-fn store_numbered(checkpoints: &mut [u32], row: usize, read: CheckpointNumberRead, point: u32)
+fn store_numbered(checkpoints: &mut [u32], row: usize, read: Option<CheckpointNumber>, point: u32)
     ensures { checkpoints.new ≡ store_numbered_of checkpoints.old row read point }
 {
-    let CheckpointNumberRead::Is(number) = read else {
+    let Some(number) = read else {
         return;
     };
     store_checkpoint(checkpoints, row, CheckpointRow { number, point });
@@ -99,15 +86,15 @@ fn store(
 }
 
 // What becomes of a statement with the cell of its kind, at a place and by an edition.
-fn verdict(edition: Edition, p: Place, cell: u8, s: Statement) -> Verdict
+fn verdict(edition: Edition, p: Place, cell: u8, s: Statement) -> Result<(), u8>
     ensures { result ≡ verdict_of (the_refusal_of (inner edition) p cell s) }
 {
     let by_kind = p.refuses(cell);
-    let Verdict::Taken = by_kind else {
+    let Ok(()) = by_kind else {
         return by_kind;
     };
     let by_value = p.tested(cell, s);
-    let Verdict::Taken = by_value else {
+    let Ok(()) = by_value else {
         return by_value;
     };
     barred(edition, s)
@@ -134,14 +121,14 @@ pub fn walk_part(
     checkpoints: &mut [u32],
     stops: &mut [u32],
     exits: &mut [u32],
-) -> Walked
+) -> Result<(Place, Progress, u32), Fault>
     ensures { table.now ≡ rndf_table_of → length text.now ≤ most → total had ≤ 16777216 → first ≤ 16777216 → stood result (λ p. memory p segments.new lanes.new zones.new spots.new points.new checkpoints.new stops.new exits.new) ≡ onwards (inner edition) text.now at (memory had segments.old lanes.old zones.old spots.old points.old checkpoints.old stops.old exits.old) start first }
 {
     if LONGEST_TEXT < text.len() {
-        return Walked::Fault(Fault { line: 0, number: 1 });
+        return Err(Fault { line: 0, number: 1 });
     }
     if LAST_LINE < first {
-        return Walked::Fault(Fault { line: 0, number: 1 });
+        return Err(Fault { line: 0, number: 1 });
     }
     let mut place = at;
     let mut gained = had;
@@ -152,16 +139,13 @@ pub fn walk_part(
             Line::Blank(e) => {
                 from = e + 1;
             }
-            Line::Filled(said) => {
-                let Said::Is(kind, s, e, last) = said else {
-                    return Walked::Fault(Fault {
-                        line,
-                        number: said.number(),
-                    });
-                };
+            Line::Filled(Err(number)) => {
+                return Err(Fault { line, number });
+            }
+            Line::Filled(Ok((kind, s, e, last))) => {
                 let cell = place.cell(table, kind);
-                if let Verdict::Refused(n) = verdict(edition, place, cell, s) {
-                    return Walked::Fault(Fault { line, number: n });
+                if let Err(n) = verdict(edition, place, cell, s) {
+                    return Err(Fault { line, number: n });
                 }
                 place = place.moved(cell, s);
                 store(
@@ -182,7 +166,7 @@ pub fn walk_part(
         }
         line += 1;
     }
-    Walked::Ended(place, gained, line)
+    Ok((place, gained, line))
 }
 
 // All lines of a text.
@@ -198,11 +182,11 @@ pub fn walk_lines(
     checkpoints: &mut [u32],
     stops: &mut [u32],
     exits: &mut [u32],
-) -> Walked
+) -> Result<(Place, Progress, u32), Fault>
     ensures { table.now ≡ rndf_table_of → stood result (λ p. memory p segments.new lanes.new zones.new spots.new points.new checkpoints.new stops.new exits.new) ≡ reached_in (inner edition) text.now (memory no_progress segments.old lanes.old zones.old spots.old points.old checkpoints.old stops.old exits.old) }
 {
     if LONGEST_TEXT < text.len() {
-        return Walked::Fault(Fault { line: 0, number: 1 });
+        return Err(Fault { line: 0, number: 1 });
     }
     walk_part(
         edition,
@@ -224,16 +208,16 @@ pub fn walk_lines(
 }
 
 // Behind all lines: 10 where the text ends before `end_file`.
-fn at_end(walked: Walked) -> Filled
+fn at_end(walked: Result<(Place, Progress, u32), Fault>) -> Result<Progress, Fault>
     ensures { result ≡ ended_of walked }
 {
     match walked {
-        Walked::Fault(fault) => Filled::Fault(fault),
-        Walked::Ended(place, gained, line) => {
+        Err(fault) => Err(fault),
+        Ok((place, gained, line)) => {
             if place.is_over() {
-                Filled::Rows(gained)
+                Ok(gained)
             } else {
-                Filled::Fault(Fault { line, number: 10 })
+                Err(Fault { line, number: 10 })
             }
         }
     }
@@ -251,7 +235,7 @@ pub fn fill_lines(
     checkpoints: &mut [u32],
     stops: &mut [u32],
     exits: &mut [u32],
-) -> Filled
+) -> Result<Progress, Fault>
     ensures { told result (λ p. memory p segments.new lanes.new zones.new spots.new points.new checkpoints.new stops.new exits.new) ≡ filled_in (inner edition) text.now (memory no_progress segments.old lanes.old zones.old spots.old points.old checkpoints.old stops.old exits.old) }
 {
     let table = rndf_table();

@@ -1,4 +1,5 @@
 -- What the references of an RNDF's filled tables are found to be: as `fill` says of the network. Assumes nothing.
+use Rattle.std.specs.Prelude.{Option}
 use mathlib.Core.Path.{◌≡◌, refl, ap, ap₂, ◌∙◌}
 use mathlib.Core.List.{List, [], ◌∷◌, map}
 use Prim.Native.Nat.{ℕ, ◌≤◌}
@@ -23,7 +24,6 @@ use Rattle.network.proofs.Holding.{CountsNetwork, HoldsNetwork}
 use Rattle.network.proofs.Spelled.{exit-line-starts, statements-read}
 use Rattle.network_references.specs.ExitStarts.{at_starts, exits_answer}
 use Rattle.network_references.proofs.Theorems.{exits-told-counted, repeats-told}
-use Rattle.marks.specs.declared.FirstRow as DR
 use Rattle.references.specs.Exits.{Outcome, resolved_from}
 use Rattle.references.specs.Finding.{look_in}
 use Rattle.marks.specs.Tests.{first_repeat_of, row_of}
@@ -60,5 +60,5 @@ refers n text h size t room m c k =
     (table_of 0 exit_words_of (length t.exits) (at_starts (tables n).exits (N.exit-starts (places_in text) h.said))) k.segments k.lanes k.zones k.checkpoints
     (k.exits ∙ ap (λ (rs : List DE.ExitRow). table_of 0 exit_words_of (length t.exits) rs) (same_rows (tables n).exits (exit-line-starts n text h)))
     (c.segments ∙ segments_in n) c.exits c.checkpoints
-    ∙ ap₂ (λ (x : Outcome) (y : DR.FirstRow). joined text x y) (exits-told-counted n text h h.said (statements-read n text h) size t room)
+    ∙ ap₂ (λ (x : Outcome) (y : Option ℕ). joined text x y) (exits-told-counted n text h h.said (statements-read n text h) size t room)
     (repeats-told n text h t room ∙ ap (λ (l : List ℕ). row_of (the_first_repeat_of l)) (same_numbers n))

@@ -1,4 +1,5 @@
 -- THE THEOREM: what the reader of an RNDF answers is what document 01 says: line and number of a refusal in its order; or the rows, the file's row and the tables of the network that is spelled. Assumes nothing.
+use Rattle.std.specs.Prelude.{Err}
 use mathlib.Core.Path.{◌≡◌, refl, sym, ap, subst, ◌∙◌}
 use mathlib.Core.List.{[]}
 use mathlib.Core.Option.{Option, none, some}
@@ -45,7 +46,6 @@ use Rattle.network_references.specs.ExitStarts.{exits_answer}
 use Rattle.marks.specs.Tests.{row_of}
 use Rattle.fault_lines.specs.FaultLines.{FirstRndfFault}
 use Rattle.fault_lines.proofs.RndfFaults.{undeclared_in, repeated_in, exit_line, checkpoint_line_of, no-row-sound, only-undeclared, only-repeated, lines-differ, undeclared-first, repeated-first}
-use Rattle.refusal.specs.declared.References.TheVariants as References
 use Rattle.refusal.specs.Shapes as Shape
 use Rattle.counts.specs.declared.Counts.{Counts}
 use Rattle.room.specs.Room.{parts_fit_of, marks_fit_of}
@@ -102,7 +102,7 @@ joined-so n text size h t none (some g) a b = rw (rndf-line-sized text 14 g.row 
 joined-so n text size h t (some f) (some g) a b = rw (rndf-line-sized text 16 f.row size, rndf-line-sized text 14 g.row size) (go (ltb (exit_line text f.row) (checkpoint_line_of text g.row)) refl)
   where
     go : (x : Bool) → ltb (exit_line text f.row) (checkpoint_line_of text g.row) ≡ x
-        → Refers text t n (referred (pick x (References.Wrong (Shape.fault (exit_line text f.row) 12)) (References.Wrong (Shape.fault (checkpoint_line_of text g.row) 13))) [])
+        → Refers text t n (referred (pick x (Err (Shape.fault (exit_line text f.row) 12)) (Err (Shape.fault (checkpoint_line_of text g.row) 13))) [])
     go true q = at-fault (exit_line text f.row) 12 (undeclared-first n text h f g a b (ltb-true (exit_line text f.row) (checkpoint_line_of text g.row) q)) refl
     go false q =
         let le = ltb-false (exit_line text f.row) (checkpoint_line_of text g.row) q in

@@ -1,3 +1,4 @@
 -- The readers.
+pub mod Types
 pub mod Reading
 pub mod Replies

@@ -1,5 +1,6 @@
 -- Executable: what the reader of an RNDF answers, and what the lent tables then hold. Assumes nothing.
-use Rattle.std.specs.Prelude.{List, [], Bool, true, false, ◌&&◌, ℕ, ◌+◌, length, ltb}
+use Rattle.network_reader.specs.Types.{NetworkReply}
+use Rattle.std.specs.Prelude.{List, [], Bool, true, false, ◌&&◌, ℕ, ◌+◌, length, ltb, ⊤, Some, None, Ok, Err, Option, Result}
 use Rattle.terms.specs.Ascii.{Bytes}
 use Rattle.terms.specs.Words.{pick}
 use Rattle.room.specs.Room.{fitted, parts_fit_of, marks_fit_of}
@@ -11,19 +12,14 @@ use Rattle.progress.specs.After.{no_progress}
 use Rattle.walk.specs.Walking.{Found, fault, gathered}
 use Rattle.network.specs.Storing.{Memory, memory}
 use Rattle.network.specs.Reading.{filled_in}
-use Rattle.marks.specs.declared.FirstRow as DR
-use Rattle.marks.specs.declared.FirstRow.TheVariants as R
 use Rattle.references.specs.Finding.{look_in}
 use Rattle.references.specs.Exits.{Outcome, done, at, resolved_from}
 use Rattle.marks.specs.Tests.{first_repeat_of}
 use Rattle.find_line.specs.FoundLines.{rndf_line_in}
 use Rattle.counts.specs.declared.Counts.{Counts}
-use Rattle.network_reader.specs.declared.NetworkReply as DP
-use Rattle.network_reader.specs.declared.NetworkReply.TheVariants as Reply
-use Rattle.refusal.specs.declared.References as DF
-use Rattle.refusal.specs.declared.References.TheVariants as References
 use Rattle.refusal.specs.Shapes as Shape
 pub use Rattle.refusal.specs.Size.{most}
+use Rattle.refusal.specs.declared.Fault.{Fault}
 
 -- ## Room
 unfoldable pub the_counts_of : Progress → Counts
@@ -40,40 +36,40 @@ exit_line text row = rndf_line_in text 16 row
 abbrev pub checkpoint_line_of : Bytes → ℕ → ℕ
 checkpoint_line_of text row = rndf_line_in text 14 row
 
-unfoldable pub fault_line_of : Bytes → DR.FirstRow → DR.FirstRow → DF.References
-fault_line_of text (R.At e) (R.At k) = pick (ltb (exit_line text e) (checkpoint_line_of text k)) (References.Wrong (Shape.fault (exit_line text e) 12)) (References.Wrong (Shape.fault (checkpoint_line_of text k) 13))
-fault_line_of text (R.At e) R.Nothing = References.Wrong (Shape.fault (exit_line text e) 12)
-fault_line_of text R.Nothing (R.At k) = References.Wrong (Shape.fault (checkpoint_line_of text k) 13)
-fault_line_of text R.Nothing R.Nothing = References.Right
+unfoldable pub fault_line_of : Bytes → Option ℕ → Option ℕ → Result ⊤ Fault
+fault_line_of text (Some e) (Some k) = pick (ltb (exit_line text e) (checkpoint_line_of text k)) (Err (Shape.fault (exit_line text e) 12)) (Err (Shape.fault (checkpoint_line_of text k) 13))
+fault_line_of text (Some e) None = Err (Shape.fault (exit_line text e) 12)
+fault_line_of text None (Some k) = Err (Shape.fault (checkpoint_line_of text k) 13)
+fault_line_of text None None = Ok tt
 
 -- the exits with their entries looked up; or line and number
 pub data Referred : Type 0 where
   right : List ℕ → Referred
   wrong : (line number : ℕ) → Referred
 
-abbrev pub referred : DF.References → List ℕ → Referred
-referred References.Right exits = right exits
-referred (References.Wrong f) exits = wrong f.line f.number
+abbrev pub referred : Result ⊤ Fault → List ℕ → Referred
+referred (Ok _) exits = right exits
+referred (Err f) exits = wrong f.line f.number
 
-abbrev pub joined : Bytes → Outcome → DR.FirstRow → Referred
-joined text (done exits) repeated = referred (fault_line_of text R.Nothing repeated) exits
-joined text (at row) repeated = referred (fault_line_of text (R.At row) repeated) []
+abbrev pub joined : Bytes → Outcome → Option ℕ → Referred
+joined text (done exits) repeated = referred (fault_line_of text None repeated) exits
+joined text (at row) repeated = referred (fault_line_of text (Some row) repeated) []
 
 unfoldable pub refer_of : Bytes → (segments lanes zones checkpoints exits : List ℕ) → Progress → Referred
 refer_of text sg ln zn ck ex p = joined text (resolved_from text (look_in sg ln zn) p.segments ex 0 p.exits) (first_repeat_of ck p.checkpoints)
 
-abbrev pub answered_of : DF.References → Counts → FileRow → DP.NetworkReply
-answered_of References.Right c file = Reply.Accepted c file
-answered_of (References.Wrong f) c file = Reply.Refused f
+abbrev pub answered_of : Result ⊤ Fault → Counts → FileRow → NetworkReply
+answered_of (Ok _) c file = Ok (c, file)
+answered_of (Err f) c file = Err f
 
 -- ## The whole
 pub data Read : Type 0 where
   refused : (line number : ℕ) → Read
   accepted : Counts → FileRow → Lent → Read
 
-abbrev pub outcome : DP.NetworkReply → Lent → Read
-outcome (Reply.Accepted c f) tables = accepted c f tables
-outcome (Reply.Refused f) tables = refused f.line f.number
+abbrev pub outcome : NetworkReply → Lent → Read
+outcome (Ok (c, f)) tables = accepted c f tables
+outcome (Err f) tables = refused f.line f.number
 
 abbrev pub tables_of : Memory → Lent
 tables_of m = lent m.segments m.lanes m.zones m.spots m.points m.checkpoints m.stops m.exits

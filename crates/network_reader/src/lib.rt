@@ -16,56 +16,52 @@ ghost use Rattle.network_reader.specs.Reading.{the_counts_of, fault_line_of, ref
 use counts::Counts;
 use edition::Edition;
 use find_line::rndf_line;
-use marks::{FirstRow, first_repeat};
-use network::{Filled, fill_lines};
+use marks::first_repeat;
+use network::fill_lines;
 use progress::Progress;
 use references::resolve_exits;
-use refusal::{Fault, References};
+use refusal::Fault;
 use room::{clear_tables, in_word, marks_fit, parts_fit};
 use rows::FileRow;
 use statement::kinds;
 
 // The rows used and the file's own row; or what is at fault.
-#[derive(Clone, Copy)]
-pub enum NetworkReply {
-    Accepted(Counts, FileRow),
-    Refused(Fault),
-}
+pub type NetworkReply = Result<(Counts, FileRow), Fault>;
 
 // 12 or 13, whichever stands on the earlier line.
-fn fault_line(text: &[u8], undeclared: FirstRow, repeated: FirstRow) -> References
+fn fault_line(text: &[u8], undeclared: Option<u32>, repeated: Option<u32>) -> Result<(), Fault>
     ensures { result ≡ fault_line_of text.now undeclared repeated }
 {
     match undeclared {
-        FirstRow::At(e) => {
+        Some(e) => {
             let exit_line = rndf_line(text, kinds::EXIT, e);
             match repeated {
-                FirstRow::At(k) => {
+                Some(k) => {
                     let checkpoint_line = rndf_line(text, kinds::CHECKPOINT, k);
                     if exit_line < checkpoint_line {
-                        References::Wrong(Fault {
+                        Err(Fault {
                             line: exit_line,
                             number: 12,
                         })
                     } else {
-                        References::Wrong(Fault {
+                        Err(Fault {
                             line: checkpoint_line,
                             number: 13,
                         })
                     }
                 }
-                FirstRow::Nothing => References::Wrong(Fault {
+                None => Err(Fault {
                     line: exit_line,
                     number: 12,
                 }),
             }
         }
-        FirstRow::Nothing => match repeated {
-            FirstRow::At(k) => References::Wrong(Fault {
+        None => match repeated {
+            Some(k) => Err(Fault {
                 line: rndf_line(text, kinds::CHECKPOINT, k),
                 number: 13,
             }),
-            FirstRow::Nothing => References::Right,
+            None => Ok(()),
         },
     }
 }
@@ -79,7 +75,7 @@ fn refer(
     checkpoints: &[u32],
     exits: &mut [u32],
     gained: Progress,
-) -> References
+) -> Result<(), Fault>
     ensures { referred result exits.new ≡ refer_of text.now segments.now lanes.now zones.now checkpoints.now exits.old gained }
 {
     let undeclared = resolve_exits(
@@ -112,12 +108,12 @@ fn rows_used(gained: Progress) -> Counts
     }
 }
 
-fn answered(a: References, c: Counts, file: FileRow) -> NetworkReply
+fn answered(a: Result<(), Fault>, c: Counts, file: FileRow) -> NetworkReply
     ensures { result ≡ answered_of a c file }
 {
     match a {
-        References::Right => NetworkReply::Accepted(c, file),
-        References::Wrong(fault) => NetworkReply::Refused(fault),
+        Ok(()) => Ok((c, file)),
+        Err(fault) => Err(fault),
     }
 }
 
@@ -142,13 +138,13 @@ fn judge_rows(
             let a = refer(text, segments, lanes, zones, checkpoints, exits, gained);
             answered(a, c, gained.file)
         } else {
-            NetworkReply::Refused(Fault {
+            Err(Fault {
                 line: 0,
                 number: 11,
             })
         }
     } else {
-        NetworkReply::Refused(Fault {
+        Err(Fault {
             line: 0,
             number: 11,
         })
@@ -193,8 +189,8 @@ pub fn read_network(
         exits,
     );
     match filled {
-        Filled::Fault(fault) => NetworkReply::Refused(fault),
-        Filled::Rows(gained) => judge_rows(
+        Err(fault) => Err(fault),
+        Ok(gained) => judge_rows(
             text,
             segments,
             lanes,

@@ -1,4 +1,5 @@
 -- Laws of digits: how a loop meets them, what they are worth. Assumes nothing.
+use Rattle.std.specs.Prelude.{Some, None, Option}
 use mathlib.Core.Path.{◌≡◌, refl, sym}
 use mathlib.Core.List.{[], ◌∷◌, ◌++◌}
 use mathlib.Core.Bool.{Bool, true, false}
@@ -16,11 +17,9 @@ use Rattle.scan.specs.Allowed.{digit, all}
 use Rattle.terms.proofs.Tests.{clash, both}
 use Rattle.scan.proofs.Bytes.{within-is}
 use Rattle.number.specs.Executable.{worth, digits, plain, number_of, plain_of, if_few}
-use Rattle.number.specs.declared.Number as DN
-use Rattle.number.specs.declared.Number.TheVariants as N
 
 -- an answer that is a value came by the test
-pub came : (x : Bool) (w v : ℕ) → pick x (N.Is w) N.No ≡ N.Is v → (x ≡ true) × (w ≡ v)
+pub came : (x : Bool) (w v : ℕ) → pick x (Some w) None ≡ Some v → (x ≡ true) × (w ≡ v)
 came true w v e = (refl, cc)
 came false w v e = absurd (let z : ◌≡◌ {A = ℕ} 0 1 = cc in omega arith)
 
@@ -121,18 +120,18 @@ digits-small k s e l =
     let h : worth 0 s < 10 ^ length s = rw zero-add at (worth_lt 0 0 s (omega arith) e) in
     pow-fits (worth 0 s) (length s) k h l
 
-pub number_small : (k : ℕ) (s : Bytes) (v : ℕ) → length s ≤ k → number_of s ≡ N.Is v → v < 10 ^ k
+pub number_small : (k : ℕ) (s : Bytes) (v : ℕ) → length s ≤ k → number_of s ≡ Some v → v < 10 ^ k
 unfolding number_of
 number_small k s v l e =
     let q = came (digits s) (worth 0 s) v e in
     omega (arith, digits-small k s q.0 l)
 
-pub plain-small : (k : ℕ) (s : Bytes) (v : ℕ) → length s ≤ k → plain_of s ≡ N.Is v → v < 10 ^ k
+pub plain-small : (k : ℕ) (s : Bytes) (v : ℕ) → length s ≤ k → plain_of s ≡ Some v → v < 10 ^ k
 unfolding plain_of
 plain-small k s v l e =
     let q = came (plain s) (worth 0 s) v e in
     omega (arith, digits-small k s (plain-digits s q.0) l)
 
 -- ## Few digits
-pub few : (s : Bytes) (n : DN.Number) → length s ≤ 9 → if_few s n ≡ n
+pub few : (s : Bytes) (n : Option ℕ) → length s ≤ 9 → if_few s n ≡ n
 few s n h = rw (le-leb (length s) 9 h)

@@ -1,5 +1,6 @@
 -- Laws of the house spelling of integers and identifiers: it spells its value, nothing else does, and what it is made of.
 -- Assumes nothing.
+use Rattle.std.specs.Prelude.{Some}
 use mathlib.Core.Path.{◌≡◌, refl, sym, ap, ◌∙◌}
 use mathlib.Core.List.{[], ◌∷◌, ◌++◌, append_assoc, append-nil}
 use mathlib.Core.Bool.{Bool, true, false, ◌||◌}
@@ -17,10 +18,7 @@ use Rattle.number.specs.Decimal.{decimal}
 use Rattle.number.specs.Spelling.{SpellsInteger, SpellsPair, SpellsTriple}
 use Rattle.number.specs.House.{number_byte, house_integer, house_pair, house_triple}
 use Rattle.number.specs.Executable.{digits, the_integer_of, the_pair_of, triple_of}
-use Rattle.number.specs.declared.Number.TheVariants as N
-use Rattle.number.specs.declared.Pair.TheVariants as P
 use Rattle.number.specs.declared.Id.{Id}
-use Rattle.number.specs.declared.Triple.TheVariants as T
 use Rattle.number.proofs.Digits.{digit-range, plain-long}
 use Rattle.number.proofs.Decimals.{decimal-same, decimal-digits, decimal-plain, decimal-short}
 use Rattle.number.proofs.Integers.{integer-only}
@@ -73,7 +71,7 @@ module _ (n : ℕ) where
   unfolding house_integer
   house-integer_spells h = record { spelled = refl; five_digits = h }
 
-  pub house-integer-reads : n ≤ 99999 → the_integer_of (house_integer n) ≡ N.Is n
+  pub house-integer-reads : n ≤ 99999 → the_integer_of (house_integer n) ≡ Some n
   house-integer-reads h = integer-only (house_integer n) n (house-integer_spells h)
 
   pub house-integer-one : (s : Bytes) → SpellsInteger s n → s ≡ house_integer n
@@ -102,7 +100,7 @@ module _ (m n : ℕ) where
   unfolding house_pair
   house-pair_spells h g = record { spelled = refl; m_five_digits = h; n_five_digits = g }
 
-  pub house-pair-reads : m ≤ 99999 → n ≤ 99999 → the_pair_of (house_pair m n) ≡ P.Is m n
+  pub house-pair-reads : m ≤ 99999 → n ≤ 99999 → the_pair_of (house_pair m n) ≡ Some (m, n)
   house-pair-reads h g = pair-only (house_pair m n) m n (house-pair_spells h g)
 
   pub house-pair-one : (s : Bytes) → SpellsPair s m n → s ≡ house_pair m n
@@ -132,7 +130,7 @@ module _ (x y z : ℕ) where
   unfolding house_triple
   house-triple_spells h g k = record { spelled = refl; x_five_digits = h; y_five_digits = g; z_five_digits = k }
 
-  pub house-triple-reads : x ≤ 99999 → y ≤ 99999 → z ≤ 99999 → triple_of (house_triple x y z) ≡ T.Is (record { x = x; y = y; z = z })
+  pub house-triple-reads : x ≤ 99999 → y ≤ 99999 → z ≤ 99999 → triple_of (house_triple x y z) ≡ Some (record { x = x; y = y; z = z })
   house-triple-reads h g k = triple-only (house_triple x y z) x y z (house-triple_spells h g k)
 
   pub house-triple-one : (s : Bytes) → SpellsTriple s x y z → s ≡ house_triple x y z

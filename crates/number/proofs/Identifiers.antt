@@ -1,4 +1,6 @@
 -- Laws of the identifiers m.n and x.y.z. Assumes nothing.
+use Rattle.std.specs.Prelude.{Some, None, Option}
+use Rattle.std.proofs.lemmas.Option.{some_pair_parts}
 use mathlib.Core.Path.{◌≡◌, refl, sym, ap, ap₂, ◌∙◌}
 use mathlib.Core.List.{[], ◌∷◌, ◌++◌, append_assoc}
 use mathlib.Core.Bool.{Bool, true, false}
@@ -20,13 +22,7 @@ use Rattle.number.specs.Decimal.{decimal}
 use Rattle.number.specs.Spelling.{SpellsPair, SpellsTriple}
 use Rattle.number.specs.Meaning.{PairMeans, TripleMeans}
 use Rattle.number.specs.Executable.{digits, the_integer_of, dot, both_of, the_pair_of, three_of, triple_of}
-use Rattle.number.specs.declared.Number as DN
-use Rattle.number.specs.declared.Number.TheVariants as N
-use Rattle.number.specs.declared.Pair as DP
-use Rattle.number.specs.declared.Pair.TheVariants as P
 use Rattle.number.specs.declared.Id.{Id}
-use Rattle.number.specs.declared.Triple as DT
-use Rattle.number.specs.declared.Triple.TheVariants as T
 use Rattle.number.proofs.Digits.{digit-range}
 use Rattle.number.proofs.Decimals.{decimal-digits}
 use Rattle.number.proofs.Integers.{integer-right, integer-only}
@@ -73,13 +69,13 @@ pair-cut x y e =
     let l : length x < length (x ++ (46 ∷ y)) = simp length-append (omega arith) in
     rw (dot_at x y e, lt-ltb (length x) (length (x ++ (46 ∷ y))) l, take-append_seam, drop-append-add)
 
-both_is : (a b : DN.Number) (m n : ℕ) → both_of a b ≡ P.Is m n → (a ≡ N.Is m) × (b ≡ N.Is n)
-both_is (N.Is x) (N.Is y) m n e = (cc, cc)
-both_is (N.Is x) N.No m n e = absurd (let z : ◌≡◌ {A = ℕ} 0 1 = cc in omega arith)
-both_is N.No b m n e = absurd (let z : ◌≡◌ {A = ℕ} 0 1 = cc in omega arith)
+both_is : (a b : Option ℕ) (m n : ℕ) → both_of a b ≡ Some (m, n) → (a ≡ Some m) × (b ≡ Some n)
+both_is (Some x) (Some y) m n e = let q = some_pair_parts x m y n e in (ap Some q.0, ap Some q.1)
+both_is (Some x) None m n e = absurd (let z : ◌≡◌ {A = ℕ} 0 1 = cc in omega arith)
+both_is None b m n e = absurd (let z : ◌≡◌ {A = ℕ} 0 1 = cc in omega arith)
 
 -- the answer is right
-pub pair-right : (s : Bytes) (m n : ℕ) → the_pair_of s ≡ P.Is m n → SpellsPair s m n
+pub pair-right : (s : Bytes) (m n : ℕ) → the_pair_of s ≡ Some (m, n) → SpellsPair s m n
 unfolding the_pair_of
 pair-right s m n e = go (ltb (dot s) (length s)) refl e
   where
@@ -89,7 +85,7 @@ pair-right s m n e = go (ltb (dot s) (length s)) refl e
     B : Bytes
     B = drop (dot s + 1) s
 
-    go : (x : Bool) → ltb (dot s) (length s) ≡ x → pick x (both_of (the_integer_of A) (the_integer_of B)) P.No ≡ P.Is m n → SpellsPair s m n
+    go : (x : Bool) → ltb (dot s) (length s) ≡ x → pick x (both_of (the_integer_of A) (the_integer_of B)) None ≡ Some (m, n) → SpellsPair s m n
     go true q e =
         let p = both_is (the_integer_of A) (the_integer_of B) m n e in
         let a = integer-right A m p.0 in
@@ -102,43 +98,43 @@ pair-right s m n e = go (ltb (dot s) (length s)) refl e
     go false q e = absurd (let z : ◌≡◌ {A = ℕ} 0 1 = cc in omega arith)
 
 -- only this answer is right
-pub pair-only : (s : Bytes) (m n : ℕ) → SpellsPair s m n → the_pair_of s ≡ P.Is m n
+pub pair-only : (s : Bytes) (m n : ℕ) → SpellsPair s m n → the_pair_of s ≡ Some (m, n)
 pair-only s m n h =
     let a = integer-only (decimal m) m (record { spelled = refl; five_digits = h.m_five_digits }) in
     let b = integer-only (decimal n) n (record { spelled = refl; five_digits = h.n_five_digits }) in
     ap the_pair_of (h.spelled ∙ dotted (decimal m) (decimal n)) ∙ pair-cut (decimal m) (decimal n) (decimal-digits m) ∙ ap₂ both_of a b
 
--- `No` exactly if no value is spelled
-pub pair-no : (s : Bytes) → the_pair_of s ≡ P.No → (m n : ℕ) → SpellsPair s m n → ⊥
-pair-no s e m n h = let q : P.Is m n ≡ P.No = sym (pair-only s m n h) ∙ e in let w : ◌≡◌ {A = ℕ} 0 1 = cc in omega arith
+-- `None` exactly if no value is spelled
+pub pair-no : (s : Bytes) → the_pair_of s ≡ None → (m n : ℕ) → SpellsPair s m n → ⊥
+pair-no s e m n h = let q : ◌≡◌ {A = Option (ℕ × ℕ)} (Some (m, n)) None = sym (pair-only s m n h) ∙ e in let w : ◌≡◌ {A = ℕ} 0 1 = cc in omega arith
 
-pub pair-none : (s : Bytes) → ((m n : ℕ) → SpellsPair s m n → ⊥) → the_pair_of s ≡ P.No
+pub pair-none : (s : Bytes) → ((m n : ℕ) → SpellsPair s m n → ⊥) → the_pair_of s ≡ None
 pair-none s f = go (the_pair_of s) refl
   where
-    go : (r : DP.Pair) → the_pair_of s ≡ r → r ≡ P.No
-    go (P.Is m n) e = absurd (f m n (pair-right s m n e))
-    go P.No e = refl
+    go : (r : Option (ℕ × ℕ)) → the_pair_of s ≡ r → r ≡ None
+    go (Some (m, n)) e = absurd (f m n (pair-right s m n e))
+    go None e = refl
 
 -- two values never share a spelling
 pub pair_same : (s : Bytes) (m n m' n' : ℕ) → SpellsPair s m n → SpellsPair s m' n' → (m ≡ m') × (n ≡ n')
-pair_same s m n m' n' g h = let q : P.Is m n ≡ P.Is m' n' = sym (pair-only s m n g) ∙ pair-only s m' n' h in (cc, cc)
+pair_same s m n m' n' g h = some_pair_parts m m' n n' (sym (pair-only s m n g) ∙ pair-only s m' n' h)
 
 -- the answer means what it says, and no other answer does
 pub pair-means : (s : Bytes) → PairMeans s (the_pair_of s)
 unfolding PairMeans
 pair-means s = go (the_pair_of s) refl
   where
-    go : (r : DP.Pair) → the_pair_of s ≡ r → PairMeans s r
-    go (P.Is m n) e = pair-right s m n e
-    go P.No e = pair-no s e
+    go : (r : Option (ℕ × ℕ)) → the_pair_of s ≡ r → PairMeans s r
+    go (Some (m, n)) e = pair-right s m n e
+    go None e = pair-no s e
 
-pub pair-meant : (s : Bytes) (r : DP.Pair) → PairMeans s r → r ≡ the_pair_of s
+pub pair-meant : (s : Bytes) (r : Option (ℕ × ℕ)) → PairMeans s r → r ≡ the_pair_of s
 unfolding PairMeans
-pair-meant s (P.Is m n) h = sym (pair-only s m n h)
-pair-meant s P.No h = sym (pair-none s h)
+pair-meant s (Some (m, n)) h = sym (pair-only s m n h)
+pair-meant s None h = sym (pair-none s h)
 
 -- raw parts have at most five digits
-pub pair-bound : (s : Bytes) (m n : ℕ) → the_pair_of s ≡ P.Is m n → (m ≤ 99999) × (n ≤ 99999)
+pub pair-bound : (s : Bytes) (m n : ℕ) → the_pair_of s ≡ Some (m, n) → (m ≤ 99999) × (n ≤ 99999)
 pair-bound s m n e = let h = pair-right s m n e in (h.m_five_digits, h.n_five_digits)
 
 -- ## Triples
@@ -148,15 +144,15 @@ triple-cut x y e =
     let l : length x < length (x ++ (46 ∷ y)) = simp length-append (omega arith) in
     rw (dot_at x y e, lt-ltb (length x) (length (x ++ (46 ∷ y))) l, take-append_seam, drop-append-add)
 
-three-is : (a : DN.Number) (b : DP.Pair) (i : Id) → three_of a b ≡ T.Is i → (a ≡ N.Is i.x) × (b ≡ P.Is i.y i.z)
-three-is (N.Is x) (P.Is y z) i e =
+three-is : (a : Option ℕ) (b : Option (ℕ × ℕ)) (i : Id) → three_of a b ≡ Some i → (a ≡ Some i.x) × (b ≡ Some (i.y, i.z))
+three-is (Some x) (Some (y, z)) i e =
     let q : record { x = x; y = y; z = z } ≡ i = cc in
-    (ap (λ (i : Id). N.Is i.x) q, ap (λ (i : Id). P.Is i.y i.z) q)
-three-is (N.Is x) P.No i e = absurd (let z : ◌≡◌ {A = ℕ} 0 1 = cc in omega arith)
-three-is N.No b i e = absurd (let z : ◌≡◌ {A = ℕ} 0 1 = cc in omega arith)
+    (ap (λ (i : Id). Some i.x) q, ap (λ (i : Id). Some (i.y, i.z)) q)
+three-is (Some x) None i e = absurd (let z : ◌≡◌ {A = ℕ} 0 1 = cc in omega arith)
+three-is None b i e = absurd (let z : ◌≡◌ {A = ℕ} 0 1 = cc in omega arith)
 
 -- the answer is right
-pub triple-right : (s : Bytes) (i : Id) → triple_of s ≡ T.Is i → SpellsTriple s i.x i.y i.z
+pub triple-right : (s : Bytes) (i : Id) → triple_of s ≡ Some i → SpellsTriple s i.x i.y i.z
 unfolding triple_of
 triple-right s i e = go (ltb (dot s) (length s)) refl e
   where
@@ -166,7 +162,7 @@ triple-right s i e = go (ltb (dot s) (length s)) refl e
     B : Bytes
     B = drop (dot s + 1) s
 
-    go : (x : Bool) → ltb (dot s) (length s) ≡ x → pick x (three_of (the_integer_of A) (the_pair_of B)) T.No ≡ T.Is i → SpellsTriple s i.x i.y i.z
+    go : (x : Bool) → ltb (dot s) (length s) ≡ x → pick x (three_of (the_integer_of A) (the_pair_of B)) None ≡ Some i → SpellsTriple s i.x i.y i.z
     go true q e =
         let p = three-is (the_integer_of A) (the_pair_of B) i e in
         let a = integer-right A i.x p.0 in
@@ -180,7 +176,7 @@ triple-right s i e = go (ltb (dot s) (length s)) refl e
     go false q e = absurd (let z : ◌≡◌ {A = ℕ} 0 1 = cc in omega arith)
 
 -- only this answer is right
-pub triple-only : (s : Bytes) (x y z : ℕ) → SpellsTriple s x y z → triple_of s ≡ T.Is (record { x = x; y = y; z = z })
+pub triple-only : (s : Bytes) (x y z : ℕ) → SpellsTriple s x y z → triple_of s ≡ Some (record { x = x; y = y; z = z })
 triple-only s x y z h =
     let a = integer-only (decimal x) x (record { spelled = refl; five_digits = h.x_five_digits }) in
     let b = pair-only (decimal y ++ ascii "." ++ decimal z) y z (record { spelled = refl; m_five_digits = h.y_five_digits; n_five_digits = h.z_five_digits }) in
@@ -188,35 +184,35 @@ triple-only s x y z h =
     ∙ triple-cut (decimal x) (decimal y ++ ascii "." ++ decimal z) (decimal-digits x)
     ∙ ap₂ three_of a b
 
--- `No` exactly if no value is spelled
-pub triple-no : (s : Bytes) → triple_of s ≡ T.No → (x y z : ℕ) → SpellsTriple s x y z → ⊥
-triple-no s e x y z h = let q : T.Is (record { x = x; y = y; z = z }) ≡ T.No = sym (triple-only s x y z h) ∙ e in let w : ◌≡◌ {A = ℕ} 0 1 = cc in omega arith
+-- `None` exactly if no value is spelled
+pub triple-no : (s : Bytes) → triple_of s ≡ None → (x y z : ℕ) → SpellsTriple s x y z → ⊥
+triple-no s e x y z h = let q : ◌≡◌ {A = Option Id} (Some (record { x = x; y = y; z = z })) None = sym (triple-only s x y z h) ∙ e in let w : ◌≡◌ {A = ℕ} 0 1 = cc in omega arith
 
-pub triple-none : (s : Bytes) → ((x y z : ℕ) → SpellsTriple s x y z → ⊥) → triple_of s ≡ T.No
+pub triple-none : (s : Bytes) → ((x y z : ℕ) → SpellsTriple s x y z → ⊥) → triple_of s ≡ None
 triple-none s f = go (triple_of s) refl
   where
-    go : (r : DT.Triple) → triple_of s ≡ r → r ≡ T.No
-    go (T.Is i) e = absurd (f i.x i.y i.z (triple-right s i e))
-    go T.No e = refl
+    go : (r : Option Id) → triple_of s ≡ r → r ≡ None
+    go (Some i) e = absurd (f i.x i.y i.z (triple-right s i e))
+    go None e = refl
 
 -- two values never share a spelling
 pub triple-same : (s : Bytes) (i j : Id) → SpellsTriple s i.x i.y i.z → SpellsTriple s j.x j.y j.z → i ≡ j
-triple-same s i j g h = let q : T.Is i ≡ T.Is j = sym (triple-only s i.x i.y i.z g) ∙ triple-only s j.x j.y j.z h in cc
+triple-same s i j g h = let q : Some i ≡ Some j = sym (triple-only s i.x i.y i.z g) ∙ triple-only s j.x j.y j.z h in cc
 
 -- the answer means what it says, and no other answer does
 pub triple-means : (s : Bytes) → TripleMeans s (triple_of s)
 unfolding TripleMeans
 triple-means s = go (triple_of s) refl
   where
-    go : (r : DT.Triple) → triple_of s ≡ r → TripleMeans s r
-    go (T.Is i) e = triple-right s i e
-    go T.No e = triple-no s e
+    go : (r : Option Id) → triple_of s ≡ r → TripleMeans s r
+    go (Some i) e = triple-right s i e
+    go None e = triple-no s e
 
-pub triple-meant : (s : Bytes) (r : DT.Triple) → TripleMeans s r → r ≡ triple_of s
+pub triple-meant : (s : Bytes) (r : Option Id) → TripleMeans s r → r ≡ triple_of s
 unfolding TripleMeans
-triple-meant s (T.Is i) h = sym (triple-only s i.x i.y i.z h)
-triple-meant s T.No h = sym (triple-none s h)
+triple-meant s (Some i) h = sym (triple-only s i.x i.y i.z h)
+triple-meant s None h = sym (triple-none s h)
 
 -- raw parts have at most five digits
-pub triple-bound : (s : Bytes) (i : Id) → triple_of s ≡ T.Is i → (i.x ≤ 99999) × (i.y ≤ 99999) × (i.z ≤ 99999)
+pub triple-bound : (s : Bytes) (i : Id) → triple_of s ≡ Some i → (i.x ≤ 99999) × (i.y ≤ 99999) × (i.z ≤ 99999)
 triple-bound s i e = let h = triple-right s i e in (h.x_five_digits, h.y_five_digits, h.z_five_digits)

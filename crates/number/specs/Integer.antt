@@ -1,9 +1,7 @@
 -- WHAT A READER MUST BELIEVE. Which bytes are an integer, and which one, as a function: for mending (L9). They are those of Decimal (proofs/Integers). Assumes nothing.
-use Rattle.std.specs.Prelude.{◌∷◌, ◌+◌, ◌-◌, ◌*◌}
+use Rattle.std.specs.Prelude.{◌∷◌, ◌+◌, ◌-◌, ◌*◌, Some, None, Option}
 use Rattle.terms.specs.Words.{[], Bool, false, ℕ, code, length, eqb, leb, Bytes, pick}
 use Rattle.scan.specs.Allowed.{digit, all}
-use Rattle.number.specs.declared.Number as DN
-use Rattle.number.specs.declared.Number.TheVariants as N
 
 -- what digits are worth behind v
 unfoldable pub worth : ℕ → Bytes → ℕ
@@ -15,9 +13,9 @@ unfoldable pub plain : Bytes → Bool
 plain [] = false
 plain (b ∷ t) = pick (eqb b (code "0")) (eqb (length t) 0) (all digit (b ∷ t))
 
-unfoldable pub plain_of : Bytes → DN.Number
-plain_of s = pick (plain s) (N.Is (worth 0 s)) N.No
+unfoldable pub plain_of : Bytes → Option ℕ
+plain_of s = pick (plain s) (Some (worth 0 s)) None
 
 -- 01: "**Integer**: 1 to 5 digits, no leading zero but `0` itself"
-unfoldable pub the_integer_of : Bytes → DN.Number
-the_integer_of s = pick (leb (length s) 5) (plain_of s) N.No
+unfoldable pub the_integer_of : Bytes → Option ℕ
+the_integer_of s = pick (leb (length s) 5) (plain_of s) None

@@ -1,5 +1,5 @@
 // Integers and identifiers in fields, and the length of a name.
-// A field that is not spelled right is `No` (refusal 8). A value stays raw, up to 99,999: whether it is in range
+// A field that is not spelled right is `None` (refusal 8). A value stays raw, up to 99,999: whether it is in range
 // (refusal 9) is tested in `permitted`. Rests on `terms` and `scan`.
 #![tactic(auto)]
 
@@ -8,18 +8,11 @@ ghost use Rattle.number.specs.Executable.{number_of, plain_of, if_few, the_integ
 
 use scan::{byte_from, is_digit};
 
-// What an integer field says, or a row of digits.
-#[derive(Clone, Copy)]
-pub enum Number {
-    Is(u32),
-    No,
-}
-
 // Nine digits are always worth a number that fits into 32 bits; more are taken for none.
 const MOST_DIGITS: usize = 9;
 
 // Digits alone, leading zeros too; nothing is worth 0.
-fn digits_worth(s: &[u8]) -> Number
+fn digits_worth(s: &[u8]) -> Option<u32>
     requires { length s.now ≤ 9 }
     ensures { result ≡ number_of s.now }
 {
@@ -28,81 +21,74 @@ fn digits_worth(s: &[u8]) -> Number
         if is_digit(b) {
             v = v * 10 + ((b - b'0') as u32);
         } else {
-            return Number::No;
+            return None;
         }
     }
-    Number::Is(v)
+    Some(v)
 }
 
 // The same of any field.
-pub fn number_of(s: &[u8]) -> Number
+pub fn number_of(s: &[u8]) -> Option<u32>
     ensures { result ≡ if_few s.now (number_of s.now) }
 {
     if MOST_DIGITS < s.len() {
-        return Number::No;
+        return None;
     }
     digits_worth(s)
 }
 
 // At least one digit, and no zero in front but a single one.
-fn plain_worth(s: &[u8]) -> Number
+fn plain_worth(s: &[u8]) -> Option<u32>
     requires { length s.now ≤ 9 }
     ensures { result ≡ plain_of s.now }
 {
     if s.len() == 0 {
-        return Number::No;
+        return None;
     }
     if s[0] == b'0' {
         if s.len() == 1 {
-            return Number::Is(0);
+            return Some(0);
         }
-        return Number::No;
+        return None;
     }
     digits_worth(s)
 }
 
 // The same of any field.
-pub fn plain_of(s: &[u8]) -> Number
+pub fn plain_of(s: &[u8]) -> Option<u32>
     ensures { result ≡ if_few s.now (plain_of s.now) }
 {
     if MOST_DIGITS < s.len() {
-        return Number::No;
+        return None;
     }
     plain_worth(s)
 }
 
 // 1 to 5 digits, no leading zero but 0 itself.
-pub fn integer_of(s: &[u8]) -> Number
+pub fn integer_of(s: &[u8]) -> Option<u32>
     ensures { result ≡ the_integer_of s.now }
 {
     if 5 < s.len() {
-        return Number::No;
+        return None;
     }
     plain_worth(s)
 }
 
-// What an identifier m.n says.
-#[derive(Clone, Copy)]
-pub enum Pair {
-    Is(u32, u32),
-    No,
-}
-
 // Both, or no pair.
-fn both(a: Number, b: Number) -> Pair
+fn both(a: Option<u32>, b: Option<u32>) -> Option<(u32, u32)>
     ensures { result ≡ both_of a b }
 {
-    let Number::Is(m) = a else {
-        return Pair::No;
+    let Some(m) = a else {
+        return None;
     };
-    let Number::Is(n) = b else {
-        return Pair::No;
+    let Some(n) = b else {
+        return None;
     };
-    Pair::Is(m, n)
+    Some((m, n))
 }
 
 // Two integers, cut at the first dot: a second dot is no digit.
-pub fn pair_of(s: &[u8]) -> Pair
+pub fn pair_of(s: &[u8]) -> Option<(u32, u32)>
     ensures { result ≡ the_pair_of s.now }
 {
     let p = byte_from(s, 0, b'.');
@@ -112,7 +98,7 @@ pub fn pair_of(s: &[u8]) -> Pair
         let b = integer_of(&s[q..]);
         both(a, b)
     } else {
-        Pair::No
+        None
     }
 }
 
@@ -124,28 +110,21 @@ pub struct Id {
     pub z: u32,
 }
 
-// What an identifier x.y.z says.
-#[derive(Clone, Copy)]
-pub enum Triple {
-    Is(Id),
-    No,
-}
-
 // All three, or no triple.
-fn three(a: Number, b: Pair) -> Triple
+fn three(a: Option<u32>, b: Option<(u32, u32)>) -> Option<Id>
     ensures { result ≡ three_of a b }
 {
-    let Number::Is(x) = a else {
-        return Triple::No;
+    let Some(x) = a else {
+        return None;
     };
-    let Pair::Is(y, z) = b else {
-        return Triple::No;
+    let Some((y, z)) = b else {
+        return None;
     };
-    Triple::Is(Id { x, y, z })
+    Some(Id { x, y, z })
 }
 
 // An integer up to the first dot, and two behind it.
-pub fn triple_of(s: &[u8]) -> Triple
+pub fn triple_of(s: &[u8]) -> Option<Id>
     ensures { result ≡ triple_of s.now }
 {
     let p = byte_from(s, 0, b'.');
@@ -155,7 +134,7 @@ pub fn triple_of(s: &[u8]) -> Triple
         let b = pair_of(&s[q..]);
         three(a, b)
     } else {
-        Triple::No
+        None
     }
 }
 

@@ -4,8 +4,8 @@
 #![tactic(auto)]
 
 use console::{put, put_decimal, read_full};
-use coordinate::{Degrees, coordinate_of};
-use number::{Number, Pair, Triple, integer_of, is_name_length, pair_of, triple_of};
+use coordinate::coordinate_of;
+use number::{integer_of, is_name_length, pair_of, triple_of};
 use scan::{Until, scan};
 use std::io;
 use std::io::Write;
@@ -50,14 +50,14 @@ fn longitude_in_range(z: i32) -> bool {
 fn integer<W: Write>(to: &mut W, s: &[u8]) -> io::Result<()> {
     let n = integer_of(s);
     match n {
-        Number::Is(v) => {
+        Some(v) => {
             if integer_in_range(v) {
                 value(to, v)
             } else {
                 refused(to, 9)
             }
         }
-        Number::No => refused(to, 8),
+        None => refused(to, 8),
     }
 }
 
@@ -72,7 +72,7 @@ fn good_pair(m: u32, n: u32) -> bool {
 fn pair<W: Write>(to: &mut W, s: &[u8]) -> io::Result<()> {
     let p = pair_of(s);
     match p {
-        Pair::Is(m, n) => {
+        Some((m, n)) => {
             if good_pair(m, n) {
                 value(to, m)?;
                 value(to, n)
@@ -80,7 +80,7 @@ fn pair<W: Write>(to: &mut W, s: &[u8]) -> io::Result<()> {
                 refused(to, 9)
             }
         }
-        Pair::No => refused(to, 8),
+        None => refused(to, 8),
     }
 }
 
@@ -95,7 +95,7 @@ fn good_triple(x: u32, y: u32, z: u32) -> bool {
 fn triple<W: Write>(to: &mut W, s: &[u8]) -> io::Result<()> {
     let t = triple_of(s);
     match t {
-        Triple::Is(i) => {
+        Some(i) => {
             if good_triple(i.x, i.y, i.z) {
                 value(to, i.x)?;
                 value(to, i.y)?;
@@ -104,35 +104,35 @@ fn triple<W: Write>(to: &mut W, s: &[u8]) -> io::Result<()> {
                 refused(to, 9)
             }
         }
-        Triple::No => refused(to, 8),
+        None => refused(to, 8),
     }
 }
 
 fn latitude<W: Write>(to: &mut W, s: &[u8]) -> io::Result<()> {
     let d = coordinate_of(s);
     match d {
-        Degrees::Is(z) => {
+        Some(z) => {
             if latitude_in_range(z) {
                 signed_value(to, z)
             } else {
                 refused(to, 9)
             }
         }
-        Degrees::No => refused(to, 8),
+        None => refused(to, 8),
     }
 }
 
 fn longitude<W: Write>(to: &mut W, s: &[u8]) -> io::Result<()> {
     let d = coordinate_of(s);
     match d {
-        Degrees::Is(z) => {
+        Some(z) => {
             if longitude_in_range(z) {
                 signed_value(to, z)
             } else {
                 refused(to, 9)
             }
         }
-        Degrees::No => refused(to, 8),
+        None => refused(to, 8),
     }
 }
 

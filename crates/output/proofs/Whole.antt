@@ -1,4 +1,5 @@
 -- The law of a whole writer: clear, any run of puts, finish. Assumes nothing.
+use Rattle.std.specs.Prelude.{Some, None, Option}
 use mathlib.Core.Path.{◌≡◌, refl, sym, ap, ◌∙◌}
 use mathlib.Core.List.{[], ◌∷◌, ◌++◌, append_assoc, append-nil}
 use mathlib.Core.Bool.{Bool, true, false, ◌&&◌}
@@ -14,8 +15,6 @@ use Rattle.terms.specs.Words.{pick}
 use Rattle.output.specs.Ended.{Output}
 use Rattle.output.specs.Output.{zero_bytes, padded, Fits}
 use Rattle.output.specs.Pen.{Pen, pen, step, put, Wrote, within, finished_of, Finishes, output_of, answer_of}
-use Rattle.output.specs.declared.Finished as DF
-use Rattle.output.specs.declared.Finished.TheVariants.{Written, TooLong}
 use Rattle.output.proofs.Writing.{kept}
 
 -- ## Where the pen ends
@@ -86,16 +85,16 @@ no_within lent x f = go (within lent (length x)) refl
 
 -- by its two ends
 module _ (l : Bytes) (at : ℕ) where
-  pub finishes-kept : within (length l) at ≡ true → Finishes l at l (Written at)
+  pub finishes-kept : within (length l) at ≡ true → Finishes l at l (Some at)
   unfolding finished_of
   finishes-kept e = record { bytes = rw e; answers = rw e }
 
-  pub finishes_zero : within (length l) at ≡ false → {left : Bytes} → left ≡ zero_bytes (length l) → Finishes l at left TooLong
+  pub finishes_zero : within (length l) at ≡ false → {left : Bytes} → left ≡ zero_bytes (length l) → Finishes l at left None
   unfolding finished_of
   finishes_zero e z = record { bytes = rw e z; answers = rw e }
 
 -- what it leaves and answers is settled
-pub finishes-one : {l left left' : Bytes} {at : ℕ} {answer answer' : DF.Finished} → Finishes l at left answer → Finishes l at left' answer' → (left ≡ left') × (answer ≡ answer')
+pub finishes-one : {l left left' : Bytes} {at : ℕ} {answer answer' : Option ℕ} → Finishes l at left answer → Finishes l at left' answer' → (left ≡ left') × (answer ≡ answer')
 finishes-one f g = (f.bytes ∙ sym g.bytes, f.answers ∙ sym g.answers)
 
 -- ## From zeros, at the front: the two ends that `finish` tells apart
@@ -129,14 +128,14 @@ module _ (lent : ℕ) (x l : Bytes) (at : ℕ) (u : Wrote (pen (zero_bytes lent)
       ap (λ (p : Pen). p.out) (sym u.is) ∙ lies [] lent x (omega (arith, f.size)) f.room
 
   -- so what `finish` leaves and answers is the whole writer's
-  ends-whole : {left : Bytes} {answer : DF.Finished} → Finishes l at left answer → (left ≡ output_of lent x) × (answer ≡ answer_of lent x)
+  ends-whole : {left : Bytes} {answer : Option ℕ} → Finishes l at left answer → (left ≡ output_of lent x) × (answer ≡ answer_of lent x)
   unfolding output_of finished_of
   ends-whole {left} {answer} f = go (within lent (length x)) refl
     where
-      go : (t : Bool) → within lent (length x) ≡ t → (left ≡ pick (within lent (length x)) (padded lent x) (zero_bytes lent)) × (answer ≡ pick (within lent (length x)) (Written (length x)) TooLong)
+      go : (t : Bool) → within lent (length x) ≡ t → (left ≡ pick (within lent (length x)) (padded lent x) (zero_bytes lent)) × (answer ≡ pick (within lent (length x)) (Some (length x)) None)
       go true e =
           let w = within_same ∙ e in
-          (f.bytes ∙ rw w (rw e (stands e)), f.answers ∙ rw w (rw e (ap Written (the_place_of e))))
+          (f.bytes ∙ rw w (rw e (stands e)), f.answers ∙ rw w (rw e (ap Some (the_place_of e))))
       go false e =
           let w = within_same ∙ e in
           (f.bytes ∙ rw w (rw e (ap zero_bytes lent_is)), f.answers ∙ rw w (rw e))
@@ -151,16 +150,16 @@ output-is lent x = record {
 }
 
 -- no other is: the outcome is settled
-pub output-only : {lent : ℕ} {x out : Bytes} {answer : DF.Finished} → Output lent x out answer → (out ≡ output_of lent x) × (answer ≡ answer_of lent x)
+pub output-only : {lent : ℕ} {x out : Bytes} {answer : Option ℕ} → Output lent x out answer → (out ≡ output_of lent x) × (answer ≡ answer_of lent x)
 unfolding output_of finished_of
 output-only {lent} {x} {out} {answer} o = go (within lent (length x)) refl
   where
-    go : (t : Bool) → within lent (length x) ≡ t → (out ≡ pick (within lent (length x)) (padded lent x) (zero_bytes lent)) × (answer ≡ pick (within lent (length x)) (Written (length x)) TooLong)
+    go : (t : Bool) → within lent (length x) ≡ t → (out ≡ pick (within lent (length x)) (padded lent x) (zero_bytes lent)) × (answer ≡ pick (within lent (length x)) (Some (length x)) None)
     go true e = rw e (o.good (within-fits lent x e))
     go false e = rw e (o.refused (within-no lent x e))
 
 -- no two outcomes are outputs of one writing
-pub output-one : {lent : ℕ} {x out out' : Bytes} {answer answer' : DF.Finished} → Output lent x out answer → Output lent x out' answer' → (out ≡ out') × (answer ≡ answer')
+pub output-one : {lent : ℕ} {x out out' : Bytes} {answer answer' : Option ℕ} → Output lent x out answer → Output lent x out' answer' → (out ≡ out') × (answer ≡ answer')
 output-one o o' =
     let a = output-only o in
     let b = output-only o' in
@@ -168,15 +167,15 @@ output-one o o' =
 
 -- THE THEOREM that a writer's proof ends with. An output of `lent` bytes was cleared, the bytes x were put from its front on by any run of
 -- puts, and `finish` ended it: the outcome is the output of x
-pub written : {lent : ℕ} {cleared x full left : Bytes} {at : ℕ} {answer : DF.Finished} → cleared ≡ zero_bytes lent → Wrote (pen cleared 0) x (pen full at) → Finishes full at left answer → Output lent x left answer
+pub written : {lent : ℕ} {cleared x full left : Bytes} {at : ℕ} {answer : Option ℕ} → cleared ≡ zero_bytes lent → Wrote (pen cleared 0) x (pen full at) → Finishes full at left answer → Output lent x left answer
 written {lent} {cleared} {x} {full} {left} {at} {answer} z u f =
     let w = ends-whole lent x full at (rw z at u) f in
     rw (w.0, w.1) (output-is lent x)
 
 -- ## By what the program answered
 module _ {lent : ℕ} {x out : Bytes} where
-  -- `Written n`: it fits, n bytes are its length, and the output holds it
-  pub answered-written : {n : ℕ} → Output lent x out (Written n) → Fits lent x × (n ≡ length x) × (out ≡ padded lent x)
+  -- `Some n`: it fits, n bytes are its length, and the output holds it
+  pub answered-written : {n : ℕ} → Output lent x out (Some n) → Fits lent x × (n ≡ length x) × (out ≡ padded lent x)
   answered-written {n} o = go (within lent (length x)) refl
     where
       go : (t : Bool) → within lent (length x) ≡ t → Fits lent x × (n ≡ length x) × (out ≡ padded lent x)
@@ -184,13 +183,13 @@ module _ {lent : ℕ} {x out : Bytes} where
       go false e = absurd (let w = (o.refused (within-no lent x e)).1 in let z : ◌≡◌ {A = ℕ} 0 1 = cc in omega arith)
 
   -- so its first n bytes are the writing
-  pub written-reads : {n : ℕ} → Output lent x out (Written n) → take n out ≡ x
+  pub written-reads : {n : ℕ} → Output lent x out (Some n) → take n out ≡ x
   written-reads {n} o =
       let w = answered-written o in
       rw w.2 (take_at x (zero_bytes (lent - length x)) n (sym w.1))
 
-  -- `TooLong`: it does not fit, and the output is zero
-  pub answered_too-long : Output lent x out TooLong → (Fits lent x → ⊥) × (out ≡ zero_bytes lent)
+  -- `None`: it does not fit, and the output is zero
+  pub answered_too-long : Output lent x out None → (Fits lent x → ⊥) × (out ≡ zero_bytes lent)
   answered_too-long o =
       let no : Fits lent x → ⊥ = λ f. (let w = (o.good f).1 in let z : ◌≡◌ {A = ℕ} 0 1 = cc in omega arith) in
       (no, (o.refused no).0)

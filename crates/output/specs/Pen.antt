@@ -1,10 +1,8 @@
 -- Executable: a lent output and the place of the next byte, and what puts do to them; the contracts cite these. Assumes nothing.
-use Rattle.std.specs.Prelude.{◌≡◌, [], ◌∷◌, Bool, ◌&&◌, ℕ, ◌+◌, length, set, ltb, leb}
+use Rattle.std.specs.Prelude.{◌≡◌, [], ◌∷◌, Bool, ◌&&◌, ℕ, ◌+◌, length, set, ltb, leb, Some, None, Option}
 use Rattle.terms.specs.Ascii.{Bytes}
 use Rattle.terms.specs.Words.{pick}
 use Rattle.output.specs.Output.{zero_bytes, padded}
-use Rattle.output.specs.declared.Finished as DF
-use Rattle.output.specs.declared.Finished.TheVariants.{Written, TooLong}
 
 pub record Pen : Type 0 where
   pub out : Bytes
@@ -31,11 +29,11 @@ pub record Wrote (p : Pen) (x : Bytes) (q : Pen) : Type 0 where
 abbrev pub within : ℕ → ℕ → Bool
 within lent at = leb at 16777215 && leb at lent
 
-unfoldable pub finished_of : ℕ → ℕ → DF.Finished
-finished_of lent at = pick (within lent at) (Written at) TooLong
+unfoldable pub finished_of : ℕ → ℕ → Option ℕ
+finished_of lent at = pick (within lent at) (Some at) None
 
 -- what `finish` leaves of the output l and answers, with the pen at a place
-pub record Finishes (l : Bytes) (at : ℕ) (left : Bytes) (answer : DF.Finished) : Type 0 where
+pub record Finishes (l : Bytes) (at : ℕ) (left : Bytes) (answer : Option ℕ) : Type 0 where
   pub bytes : left ≡ pick (within (length l) at) l (zero_bytes (length l))
   pub answers : answer ≡ finished_of (length l) at
 
@@ -43,5 +41,5 @@ pub record Finishes (l : Bytes) (at : ℕ) (left : Bytes) (answer : DF.Finished)
 unfoldable pub output_of : ℕ → Bytes → Bytes
 output_of lent x = pick (within lent (length x)) (padded lent x) (zero_bytes lent)
 
-abbrev pub answer_of : ℕ → Bytes → DF.Finished
+abbrev pub answer_of : ℕ → Bytes → Option ℕ
 answer_of lent x = finished_of lent (length x)

@@ -155,13 +155,6 @@ pub fn put_u32_be(out: &mut [u8], at: usize, n: u32) -> usize
 
 // ## The whole output
 
-// How a writing ended: so many bytes, or refusal 19.
-#[derive(Clone, Copy)]
-pub enum Finished {
-    Written(usize),
-    TooLong,
-}
-
 // Every byte is 0.
 pub fn clear_output(out: &mut [u8])
     ensures { out.new ≡ zero_bytes (length out.old) }
@@ -179,12 +172,12 @@ fn is_within(lent: usize, at: usize) -> bool
 }
 
 // The end of a writing at a place: it stays if all of it is there, else the output is zero over its whole length.
-pub fn finish(out: &mut [u8], at: usize) -> Finished
+pub fn finish(out: &mut [u8], at: usize) -> Option<usize>
     ensures { Finishes out.old at out.new result }
 {
     if is_within(out.len(), at) {
-        return Finished::Written(at);
+        return Some(at);
     }
     clear_output(out);
-    Finished::TooLong
+    None
 }

@@ -10,8 +10,8 @@ ghost use Rattle.output_vectors.specs.Point.{point_line};
 
 use console::{put, put_decimal};
 use output::{
-    Finished, clear_output, finish, put_byte, put_bytes, put_coordinate, put_integer, put_line_end,
-    put_pair, put_tab, put_triple, put_u16_be, put_u32_be,
+    clear_output, finish, put_byte, put_bytes, put_coordinate, put_integer, put_line_end, put_pair,
+    put_tab, put_triple, put_u16_be, put_u32_be,
 };
 use std::io;
 use std::io::Write;
@@ -31,9 +31,9 @@ fn bytes_from<W: Write>(to: &mut W, out: &[u8], from: usize) -> io::Result<()> {
     put(to, b"\n")
 }
 
-fn show<W: Write>(to: &mut W, out: &[u8], f: Finished) -> io::Result<()> {
+fn show<W: Write>(to: &mut W, out: &[u8], f: Option<usize>) -> io::Result<()> {
     match f {
-        Finished::Written(n) => {
+        Some(n) => {
             put(to, b"written ")?;
             put_decimal(to, n as u64)?;
             put(to, b"\n")?;
@@ -42,7 +42,7 @@ fn show<W: Write>(to: &mut W, out: &[u8], f: Finished) -> io::Result<()> {
             }
             bytes_from(to, out, n)
         }
-        Finished::TooLong => {
+        None => {
             put(to, b"refused 19\n")?;
             bytes_from(to, out, 0)
         }
@@ -105,7 +105,7 @@ fn put_identifiers(out: &mut [u8], at: usize) -> usize {
     put_line_end(out, c)
 }
 
-fn write_numbers(out: &mut [u8]) -> Finished {
+fn write_numbers(out: &mut [u8]) -> Option<usize> {
     clear_output(out);
     let a = put_integers(out, 0);
     let b = put_coordinates(out, a);
@@ -145,7 +145,7 @@ fn put_point(out: &mut [u8], at: usize, y: u32, latitude: i32, longitude: i32) -
     put_bytes(out, f, b"end_lane\n")
 }
 
-fn write_point(out: &mut [u8], y: u32, latitude: i32, longitude: i32) -> Finished
+fn write_point(out: &mut [u8], y: u32, latitude: i32, longitude: i32) -> Option<usize>
     ensures { Output (length out.old) (point_line y latitude longitude) out.new result }
 {
     clear_output(out);

@@ -1,4 +1,5 @@
 -- THE LAW of the judge of 29: it says no exactly where bytes are no network's form; else it tells what they hold. Assumes nothing.
+use Rattle.std.specs.Prelude.{Some, None, Option}
 use mathlib.Core.Path.{◌≡◌, refl, sym, ap, subst, ◌∙◌}
 use mathlib.Core.List.{[]}
 use mathlib.Core.Bool.{Bool, true, false}
@@ -23,12 +24,6 @@ use Rattle.packed_frame.specs.Segments.{segments, segments_told}
 use Rattle.packed_frame.specs.Zones.{zones, zones_told}
 use Rattle.packed_frame.specs.Spots.{all_spots}
 use Rattle.packed_frame.specs.File.{file_at_of}
-use Rattle.packed_frame.specs.declared.File.{File}
-use Rattle.packed_frame.specs.declared.File.TheVariants as Is
-use Rattle.packed_frame.specs.declared.Segments.{Segments}
-use Rattle.packed_frame.specs.declared.Segments.TheVariants as Segments
-use Rattle.packed_frame.specs.declared.Zones.{Zones}
-use Rattle.packed_frame.specs.declared.Zones.TheVariants as Zones
 use Rattle.packed_parts.specs.Numbers.{numbers_right}
 use Rattle.packed_parts.specs.Entries.{exits_right}
 use Rattle.packed_parts.specs.Parts.{cell_at, last_end, parts_right}
@@ -38,17 +33,15 @@ use Rattle.frame_tables.proofs.Segments.{segments-so}
 use Rattle.part_tables.proofs.Lanes.{lanes_so, both-picked, picked_both}
 use Rattle.unpacked_rows.specs.declared.Places.{Places}
 use Rattle.unpacked_tables.proofs.Judging.{Right, FormTold}
-use Rattle.packed_check.specs.declared.Verdict.{Verdict}
-use Rattle.packed_check.specs.declared.Verdict.TheVariants as Ver
 use Rattle.packed_check.specs.Judgement.{behind, places_of, few, tables_right, linked, with_places_of, by_zones_of, point_from, with_lanes_of, by_segments_of, by_file_of, judgement}
 use Rattle.packed_check.proofs.Where.{file-inside, all-inside}
 use Rattle.packed_check.proofs.Linked.{table, Tested}
 use Rattle.packed_check.proofs.Passed.{Tests, tests-so, tests-all}
 
 -- what the judge has to say
-abbrev pub Judges : Bytes → Verdict → Type 0
-Judges bytes Ver.No = Right bytes → ⊥
-Judges bytes (Ver.Form c file places) = FormTold bytes c file places
+abbrev pub Judges : Bytes → Option (Counts × FileRow × Places) → Type 0
+Judges bytes None = Right bytes → ⊥
+Judges bytes (Some (c, file, places)) = FormTold bytes c file places
 
 -- ## Places in 32 bits
 -- those up to the longest bytes are what they are
@@ -123,47 +116,47 @@ module _ (b : Bytes) (s : Small b) (short : length b ≤ longest) where
     linked-pass : linked b c p point ≡ true
     linked-pass = linked-kept b c p point kept ∙ picked_both (exits-fit b c p point) (parts-fit b c p point) d.rest.exits d.rest.parts
 
-    places-told : with_places_of b c r p point ≡ Ver.Form c r p
+    places-told : with_places_of b c r p point ≡ Some (c, r, p)
     unfolding with_places_of
     places-told =
         let e = ap (λ (x : ℕ). x + 10 * c.exits) kept.exits ∙ d.places.end in
         let t = eq-eqb (behind p.exits 10 c.exits) (length b) e in
-        λ i. pick (t i) (pick (tables-pass i) (pick (linked-pass i) (Ver.Form c r p) Ver.No) Ver.No) Ver.No
+        λ i. pick (t i) (pick (tables-pass i) (pick (linked-pass i) (Some (c, r, p)) None) None) None
 
-    lanes-told : with_lanes_of b c r p.segments p.lanes ≡ by_zones_of b c r p.segments p.lanes point (Zones.To p.spots c.points c.spots)
+    lanes-told : with_lanes_of b c r p.segments p.lanes ≡ by_zones_of b c r p.segments p.lanes point (Some (p.spots, c.points, c.spots))
     unfolding with_lanes_of
     lanes-told =
         let k = kept.lanes in
         let z = ap (λ (x : ℕ). x + 12 * c.lanes) k ∙ sym d.places.zones in
         let t = d.rest.lanes in
         let n = d.zones-pass in
-        (λ i. pick (t i) (by_zones_of b c r p.segments p.lanes (last_end b (k i) c.lanes) (zones_told (zones c.zones b (z i) (last_end b (k i) c.lanes, 0)))) Ver.No)
+        (λ i. pick (t i) (by_zones_of b c r p.segments p.lanes (last_end b (k i) c.lanes) (zones_told (zones c.zones b (z i) (last_end b (k i) c.lanes, 0)))) None)
         ∙ ap (by_zones_of b c r p.segments p.lanes point) n
 
-    same : (n : ℕ) (x : Verdict) → pick (eqb n n) x Ver.No ≡ x
-    same n x = ap (λ (t : Bool). pick t x Ver.No) (eq-eqb n n refl)
+    same : (n : ℕ) (x : Option (Counts × FileRow × Places)) → pick (eqb n n) x None ≡ x
+    same n x = ap (λ (t : Bool). pick t x None) (eq-eqb n n refl)
 
-    told : judgement b ≡ Ver.Form c r p
+    told : judgement b ≡ Some (c, r, p)
     unfolding judgement
     told =
         ap (by_file_of b) d.file
-        ∙ ap (λ (t : Bool). pick t (by_segments_of b c r p.segments (segments_told (segments c.segments b p.segments 0))) Ver.No) d.are-few
+        ∙ ap (λ (t : Bool). pick t (by_segments_of b c r p.segments (segments_told (segments c.segments b p.segments 0))) None) d.are-few
         ∙ ap (by_segments_of b c r p.segments) d.segments-pass
         ∙ same c.lanes (with_lanes_of b c r p.segments p.lanes) ∙ lanes-told
-        ∙ same c.points (pick (eqb c.spots c.spots) (with_places_of b c r (places_of c p.segments p.lanes p.spots) point) Ver.No)
+        ∙ same c.points (pick (eqb c.spots c.spots) (with_places_of b c r (places_of c p.segments p.lanes p.spots) point) None)
         ∙ same c.spots (with_places_of b c r (places_of c p.segments p.lanes p.spots) point)
         ∙ ap (λ (q : Places). with_places_of b c r q point) places_is ∙ places-told
 
   -- ## What is told has passed
-  abbrev Sound : Verdict → Type 0
-  Sound Ver.No = Unit {0}
-  Sound (Ver.Form c r p) = Tests b s c r p
+  abbrev Sound : Option (Counts × FileRow × Places) → Type 0
+  Sound None = Unit {0}
+  Sound (Some (c, r, p)) = Tests b s c r p
 
   -- what is known behind the segments
   record Begun (c : Counts) (r : FileRow) (from lanes : ℕ) : Type 0 where
-    file : file_at_of b ≡ Is.Told c r from
+    file : file_at_of b ≡ Some (c, r, from)
     are-few : few c ≡ true
-    segments-pass : segments_told (segments c.segments b from 0) ≡ Segments.To lanes c.lanes
+    segments-pass : segments_told (segments c.segments b from 0) ≡ Some (lanes, c.lanes)
 
   module _ (c : Counts) (r : FileRow) (from lanes : ℕ) (g : Begun c r from lanes) (lanes-pass : lanes_right c.lanes b lanes 0 ≡ true) where
     abbrev raw-point : ℕ
@@ -188,7 +181,7 @@ module _ (b : Bytes) (s : Small b) (short : length b ≤ longest) where
         let l = all-inside c.lanes lane-kinds b lanes lanes_in (lanes_so b s lanes c.lanes lanes 0 lanes-pass).0 in
         omega arith
 
-    module _ (spots : ℕ) (zones-pass : zones_told (zones c.zones b (behind lanes 12 c.lanes) (raw-point, 0)) ≡ Zones.To spots c.points c.spots) where
+    module _ (spots : ℕ) (zones-pass : zones_told (zones c.zones b (behind lanes 12 c.lanes) (raw-point, 0)) ≡ Some (spots, c.points, c.spots)) where
       abbrev p : Places
       p = places_of c from lanes spots
 
@@ -211,7 +204,7 @@ module _ (b : Bytes) (s : Small b) (short : length b ≤ longest) where
             file = g.file;
             are-few = g.are-few;
             segments-pass = g.segments-pass;
-            zones-pass = subst (λ (x : ℕ). zones_told (zones c.zones b p.zones (x, 0)) ≡ Zones.To spots c.points c.spots) v zones-pass;
+            zones-pass = subst (λ (x : ℕ). zones_told (zones c.zones b p.zones (x, 0)) ≡ Some (spots, c.points, c.spots)) v zones-pass;
             spots-pass = t₁.0;
             rest = subst (Tested b s (rows_told (drop 5 b)).file c p) v (record { lanes = lanes-pass; points = t₂.0; checkpoints = t₃.0; stops = t₃.1; exits = l₁.0; parts = l₁.1 });
             places = record { zones = zones-so; points = ap (λ (x : ℕ). x + 8 * c.spots) k.spots; checkpoints = ap (λ (x : ℕ). x + 10 * c.points) k.points; stops = ap (λ (x : ℕ). x + 8 * c.checkpoints) k.checkpoints; exits = ap (λ (x : ℕ). x + 6 * c.stops) k.stops; end = ap (λ (x : ℕ). x + 10 * c.exits) (sym k.exits) ∙ e; zones_inside = z };
@@ -221,18 +214,18 @@ module _ (b : Bytes) (s : Small b) (short : length b ≤ longest) where
       unfolding with_places_of
       places-sound = go (eqb (behind p.exits 10 c.exits) (length b)) refl (tables_right b c p) refl (linked b c p raw-point) refl
         where
-          go : (x : Bool) → eqb (behind p.exits 10 c.exits) (length b) ≡ x → (y : Bool) → tables_right b c p ≡ y → (z : Bool) → linked b c p raw-point ≡ z → Sound (pick x (pick y (pick z (Ver.Form c r p) Ver.No) Ver.No) Ver.No)
+          go : (x : Bool) → eqb (behind p.exits 10 c.exits) (length b) ≡ x → (y : Bool) → tables_right b c p ≡ y → (z : Bool) → linked b c p raw-point ≡ z → Sound (pick x (pick y (pick z (Some (c, r, p)) None) None) None)
           go true e true t true l = all-passed (eqb-true (behind p.exits 10 c.exits) (length b) e) t l
           go true e true t false l = tt
           go true e false t z l = tt
           go false e y t z l = tt
 
-    zones-sound : (x : Zones) → zones_told (zones c.zones b (behind lanes 12 c.lanes) (raw-point, 0)) ≡ x → Sound (by_zones_of b c r from lanes raw-point x)
-    zones-sound Zones.Nothing e = tt
-    zones-sound (Zones.To spots points count) e = go (eqb points c.points) refl (eqb count c.spots) refl
+    zones-sound : (x : Option (ℕ × ℕ × ℕ)) → zones_told (zones c.zones b (behind lanes 12 c.lanes) (raw-point, 0)) ≡ x → Sound (by_zones_of b c r from lanes raw-point x)
+    zones-sound None e = tt
+    zones-sound (Some (spots, points, count)) e = go (eqb points c.points) refl (eqb count c.spots) refl
       where
-        go : (x : Bool) → eqb points c.points ≡ x → (y : Bool) → eqb count c.spots ≡ y → Sound (pick x (pick y (with_places_of b c r (places_of c from lanes spots) raw-point) Ver.No) Ver.No)
-        go true u true v = let m = eqb-true points c.points u in let n = eqb-true count c.spots v in places-sound spots (e ∙ (λ i. Zones.To spots (m i) (n i)))
+        go : (x : Bool) → eqb points c.points ≡ x → (y : Bool) → eqb count c.spots ≡ y → Sound (pick x (pick y (with_places_of b c r (places_of c from lanes spots) raw-point) None) None)
+        go true u true v = let m = eqb-true points c.points u in let n = eqb-true count c.spots v in places-sound spots (e ∙ (λ i. Some (spots, m i, n i)))
         go true u false v = tt
         go false u y v = tt
 
@@ -240,23 +233,23 @@ module _ (b : Bytes) (s : Small b) (short : length b ≤ longest) where
   unfolding with_lanes_of
   lanes-sound c r from lanes g = go (lanes_right c.lanes b lanes 0) refl
     where
-      go : (x : Bool) → lanes_right c.lanes b lanes 0 ≡ x → Sound (pick x (by_zones_of b c r from lanes (point_from b c lanes) (zones_told (zones c.zones b (behind lanes 12 c.lanes) (point_from b c lanes, 0)))) Ver.No)
+      go : (x : Bool) → lanes_right c.lanes b lanes 0 ≡ x → Sound (pick x (by_zones_of b c r from lanes (point_from b c lanes) (zones_told (zones c.zones b (behind lanes 12 c.lanes) (point_from b c lanes, 0)))) None)
       go true h = zones-sound c r from lanes g h (zones_told (zones c.zones b (behind lanes 12 c.lanes) (point_from b c lanes, 0))) refl
       go false h = tt
 
-  segments-sound : (c : Counts) (r : FileRow) (from : ℕ) → file_at_of b ≡ Is.Told c r from → few c ≡ true → (x : Segments) → segments_told (segments c.segments b from 0) ≡ x → Sound (by_segments_of b c r from x)
-  segments-sound c r from f h Segments.Nothing e = tt
-  segments-sound c r from f h (Segments.To lanes count) e = go (eqb count c.lanes) refl
+  segments-sound : (c : Counts) (r : FileRow) (from : ℕ) → file_at_of b ≡ Some (c, r, from) → few c ≡ true → (x : Option (ℕ × ℕ)) → segments_told (segments c.segments b from 0) ≡ x → Sound (by_segments_of b c r from x)
+  segments-sound c r from f h None e = tt
+  segments-sound c r from f h (Some (lanes, count)) e = go (eqb count c.lanes) refl
     where
-      go : (x : Bool) → eqb count c.lanes ≡ x → Sound (pick x (with_lanes_of b c r from lanes) Ver.No)
-      go true u = lanes-sound c r from lanes (record { file = f; are-few = h; segments-pass = e ∙ ap (Segments.To lanes) (eqb-true count c.lanes u) })
+      go : (x : Bool) → eqb count c.lanes ≡ x → Sound (pick x (with_lanes_of b c r from lanes) None)
+      go true u = lanes-sound c r from lanes (record { file = f; are-few = h; segments-pass = e ∙ ap ((λ z. Some (lanes, z))) (eqb-true count c.lanes u) })
       go false u = tt
 
-  file-sound : (x : File) → file_at_of b ≡ x → Sound (by_file_of b x)
-  file-sound Is.Nothing e = tt
-  file-sound (Is.Told c r from) e = go (few c) refl
+  file-sound : (x : Option (Counts × FileRow × ℕ)) → file_at_of b ≡ x → Sound (by_file_of b x)
+  file-sound None e = tt
+  file-sound (Some (c, r, from)) e = go (few c) refl
     where
-      go : (x : Bool) → few c ≡ x → Sound (pick x (by_segments_of b c r from (segments_told (segments c.segments b from 0))) Ver.No)
+      go : (x : Bool) → few c ≡ x → Sound (pick x (by_segments_of b c r from (segments_told (segments c.segments b from 0))) None)
       go true h = segments-sound c r from e h (segments_told (segments c.segments b from 0)) refl
       go false h = tt
 
@@ -264,14 +257,14 @@ module _ (b : Bytes) (s : Small b) (short : length b ≤ longest) where
   unfolding judgement
   sound = file-sound (file_at_of b) refl
 
-  abbrev is_form : Verdict → Bool
-  is_form Ver.No = false
-  is_form (Ver.Form c r p) = true
+  abbrev is_form : Option (Counts × FileRow × Places) → Bool
+  is_form None = false
+  is_form (Some (c, r, p)) = true
 
   -- THE LAW
   pub judges : Judges b (judgement b)
   judges = go (judgement b) refl sound
     where
-      go : (v : Verdict) → judgement b ≡ v → Sound v → Judges b v
-      go Ver.No e x = λ (y : Right b). absurd (subst (λ (t : Bool). pick t ⊥ (Unit {0})) (ap is_form (sym e ∙ told _ _ _ (tests-all b s y))) tt)
-      go (Ver.Form c r q) e x = tests-so b s c r q x
+      go : (v : Option (Counts × FileRow × Places)) → judgement b ≡ v → Sound v → Judges b v
+      go None e x = λ (y : Right b). absurd (subst (λ (t : Bool). pick t ⊥ (Unit {0})) (ap is_form (sym e ∙ told _ _ _ (tests-all b s y))) tt)
+      go (Some (c, r, q)) e x = tests-so b s c r q x

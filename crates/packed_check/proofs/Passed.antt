@@ -1,4 +1,5 @@
 -- What the passes say all together: bytes are some network's form, by these counts, this file's row and these places. Both ways. Assumes nothing.
+use Rattle.std.specs.Prelude.{Some}
 use mathlib.Core.Path.{◌≡◌, refl, sym, ap, subst, ◌∙◌}
 use mathlib.Core.List.{List}
 use mathlib.Core.Option.{Option, none, some}
@@ -26,9 +27,6 @@ use Rattle.packed_frame.specs.Segments.{segments, segments_told}
 use Rattle.packed_frame.specs.Zones.{zones, zones_told}
 use Rattle.packed_frame.specs.Spots.{all_spots}
 use Rattle.packed_frame.specs.File.{file_at_of}
-use Rattle.packed_frame.specs.declared.File.TheVariants as Is
-use Rattle.packed_frame.specs.declared.Segments.TheVariants as Segments
-use Rattle.packed_frame.specs.declared.Zones.TheVariants as Zones
 use Rattle.packed_parts.specs.Parts.{last_end}
 use Rattle.frame_tables.proofs.File.{counts_of, the_row_of}
 use Rattle.frame_tables.proofs.Told.{items, segments-at, lanes_at, zones-at, spots_at, points_at, checkpoints-at, stops_at, exits-at, form-end, zones-place, points-place, checkpoints-place, stops-place, exits-place, end-place, segments-are, zones-are, AllRight, right_so, so_right}
@@ -64,10 +62,10 @@ module _ (b : Bytes) (s : Small b) where
   t = rows_told (drop 5 b)
 
   pub record Tests (c : Counts) (r : FileRow) (p : Places) : Type 0 where
-    pub file : file_at_of b ≡ Is.Told c r p.segments
+    pub file : file_at_of b ≡ Some (c, r, p.segments)
     pub are-few : few c ≡ true
-    pub segments-pass : segments_told (segments c.segments b p.segments 0) ≡ Segments.To p.lanes c.lanes
-    pub zones-pass : zones_told (zones c.zones b p.zones (last_end b p.lanes c.lanes, 0)) ≡ Zones.To p.spots c.points c.spots
+    pub segments-pass : segments_told (segments c.segments b p.segments 0) ≡ Some (p.lanes, c.lanes)
+    pub zones-pass : zones_told (zones c.zones b p.zones (last_end b p.lanes c.lanes, 0)) ≡ Some (p.spots, c.points, c.spots)
     pub spots-pass : all_spots c.zones b p.zones p.spots ≡ true
     pub rest : Tested b s (rows_told (drop 5 b)).file c p (last_end b p.lanes c.lanes)
     pub places : Behind b c p
@@ -87,7 +85,7 @@ module _ (b : Bytes) (s : Small b) where
     point = last_end b p.lanes c.lanes
 
     passes : Passes b c r point × Frames.Places b p.segments p.lanes p.spots
-    passes = placed b c r point p.segments p.lanes p.spots d.file d.segments-pass (subst (λ (x : ℕ). zones_told (zones c.zones b x (point, 0)) ≡ Zones.To p.spots c.points c.spots) d.places.zones d.zones-pass) (subst (λ (x : ℕ). all_spots c.zones b x p.spots ≡ true) d.places.zones d.spots-pass)
+    passes = placed b c r point p.segments p.lanes p.spots d.file d.segments-pass (subst (λ (x : ℕ). zones_told (zones c.zones b x (point, 0)) ≡ Some (p.spots, c.points, c.spots)) d.places.zones d.zones-pass) (subst (λ (x : ℕ). all_spots c.zones b x p.spots ≡ true) d.places.zones d.spots-pass)
 
     frame : (c ≡ counts_of (items b)) × ((r ≡ the_row_of t.file) × Frame b point)
     frame = frame-so b c r point passes.0

@@ -1,4 +1,5 @@
 -- How the code comes to what is judged: each answer, by the tests before it. Assumes nothing.
+use Rattle.std.specs.Prelude.{None, Option}
 use mathlib.Core.Path.{◌≡◌, sym, ap, ◌∙◌}
 use mathlib.Core.Bool.{Bool, true, false}
 use Prim.Native.Nat.{ℕ}
@@ -9,12 +10,10 @@ use Rattle.rows.specs.declared.FileRow.{FileRow}
 use Rattle.room.specs.Room.{fitted}
 use Rattle.packed_rows.specs.Lanes.{lanes_right}
 use Rattle.packed_frame.specs.Zones.{zones, zones_told}
-use Rattle.packed_frame.specs.declared.Zones.{Zones}
 use Rattle.packed_parts.specs.declared.Table.{Table}
 use Rattle.packed_parts.specs.Entries.{exits_right}
 use Rattle.packed_parts.specs.Parts.{cell_at, last_end, parts_right}
 use Rattle.unpacked_rows.specs.declared.Places.{Places}
-use Rattle.packed_check.specs.declared.Verdict.TheVariants as Ver
 use Rattle.packed_check.specs.Judgement.{behind, places_of, table_at, linked, by_zones_of, with_lanes_of}
 
 -- the first test says how it goes on
@@ -46,14 +45,14 @@ module _ (b : Bytes) (c : Counts) (p : Places) (point : ℕ) (spots : Table) (sp
   links-stop h = left _ _ false (sym exits-so ∙ h)
 
 module _ (b : Bytes) (c : Counts) (r : FileRow) (segments lanes : ℕ) where
-  pub lanes-stop : lanes_right c.lanes b lanes 0 ≡ false → Ver.No ≡ with_lanes_of b c r segments lanes
+  pub lanes-stop : lanes_right c.lanes b lanes 0 ≡ false → None ≡ with_lanes_of b c r segments lanes
   unfolding with_lanes_of
-  lanes-stop h = left _ _ Ver.No h
+  lanes-stop h = left _ _ None h
 
-  pub lanes_on : (t : Table) (point z : ℕ) (told : Zones) → t ≡ table_at lanes c.lanes → point ≡ last_end b t.from t.count → z ≡ behind lanes 12 c.lanes → told ≡ zones_told (zones c.zones b z (point, 0)) → lanes_right c.lanes b lanes 0 ≡ true
+  pub lanes_on : (t : Table) (point z : ℕ) (told : Option (ℕ × ℕ × ℕ)) → t ≡ table_at lanes c.lanes → point ≡ last_end b t.from t.count → z ≡ behind lanes 12 c.lanes → told ≡ zones_told (zones c.zones b z (point, 0)) → lanes_right c.lanes b lanes 0 ≡ true
       → by_zones_of b c r segments lanes point told ≡ with_lanes_of b c r segments lanes
   unfolding with_lanes_of
   lanes_on t point z told ht hp hz hn h =
       let q = hp ∙ ap (λ (t : Table). last_end b t.from t.count) ht in
       let n = hn ∙ (λ i. zones_told (zones c.zones b (hz i) (q i, 0))) in
-      (λ i. by_zones_of b c r segments lanes (q i) (n i)) ∙ taken _ _ Ver.No h
+      (λ i. by_zones_of b c r segments lanes (q i) (n i)) ∙ taken _ _ None h

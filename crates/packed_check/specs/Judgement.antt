@@ -1,5 +1,5 @@
 -- Executable: whether bytes, behind version and length, are some network's packed form, and where its tables stand. Each pass begins where the one before it ended. Assumes nothing.
-use Rattle.std.specs.Prelude.{◌&&◌, ◌+◌, ◌*◌}
+use Rattle.std.specs.Prelude.{◌&&◌, ◌+◌, ◌*◌, Some, None, Option}
 use Rattle.terms.specs.Words.{[], Bool, false, ℕ, leb, eqb, length, drop, Bytes, pick}
 use Rattle.counts.specs.declared.Counts.{Counts}
 use Rattle.rows.specs.declared.FileRow.{FileRow}
@@ -11,19 +11,11 @@ use Rattle.packed_frame.specs.Segments.{segments, segments_told}
 use Rattle.packed_frame.specs.Zones.{zones, zones_told}
 use Rattle.packed_frame.specs.Spots.{all_spots}
 use Rattle.packed_frame.specs.File.{file_at_of}
-use Rattle.packed_frame.specs.declared.File.{File}
-use Rattle.packed_frame.specs.declared.File.TheVariants as Is
-use Rattle.packed_frame.specs.declared.Segments.{Segments}
-use Rattle.packed_frame.specs.declared.Segments.TheVariants as Segments
-use Rattle.packed_frame.specs.declared.Zones.{Zones}
-use Rattle.packed_frame.specs.declared.Zones.TheVariants as Zones
 use Rattle.packed_parts.specs.declared.Table.{Table}
 use Rattle.packed_parts.specs.Numbers.{numbers_right}
 use Rattle.packed_parts.specs.Entries.{exits_right}
 use Rattle.packed_parts.specs.Parts.{cell_at, last_end, parts_right}
 use Rattle.unpacked_rows.specs.declared.Places.{Places}
-use Rattle.packed_check.specs.declared.Verdict.{Verdict}
-use Rattle.packed_check.specs.declared.Verdict.TheVariants as Ver
 
 -- ## Places
 -- behind so many records of one size
@@ -69,26 +61,26 @@ linked b c p point =
 
 -- ## One pass behind the other
 -- nothing stands behind the last exit
-unfoldable pub with_places_of : Bytes → Counts → FileRow → Places → (point : ℕ) → Verdict
-with_places_of b c r p point = pick (eqb (behind p.exits 10 c.exits) (length b)) (pick (tables_right b c p) (pick (linked b c p point) (Ver.Form c r p) Ver.No) Ver.No) Ver.No
+unfoldable pub with_places_of : Bytes → Counts → FileRow → Places → (point : ℕ) → Option (Counts × FileRow × Places)
+with_places_of b c r p point = pick (eqb (behind p.exits 10 c.exits) (length b)) (pick (tables_right b c p) (pick (linked b c p point) (Some (c, r, p)) None) None) None
 
-abbrev pub by_zones_of : Bytes → Counts → FileRow → (segments lanes point : ℕ) → Zones → Verdict
-by_zones_of b c r segments lanes point Zones.Nothing = Ver.No
-by_zones_of b c r segments lanes point (Zones.To spots points count) = pick (eqb points c.points) (pick (eqb count c.spots) (with_places_of b c r (places_of c segments lanes spots) point) Ver.No) Ver.No
+abbrev pub by_zones_of : Bytes → Counts → FileRow → (segments lanes point : ℕ) → Option (ℕ × ℕ × ℕ) → Option (Counts × FileRow × Places)
+by_zones_of b c r segments lanes point None = None
+by_zones_of b c r segments lanes point (Some (spots, points, count)) = pick (eqb points c.points) (pick (eqb count c.spots) (with_places_of b c r (places_of c segments lanes spots) point) None) None
 
 abbrev pub point_from : Bytes → Counts → (lanes : ℕ) → ℕ
 point_from b c lanes = last_end b (fitted lanes) c.lanes
 
-unfoldable pub with_lanes_of : Bytes → Counts → FileRow → (segments lanes : ℕ) → Verdict
-with_lanes_of b c r segments lanes = pick (lanes_right c.lanes b lanes 0) (by_zones_of b c r segments lanes (point_from b c lanes) (zones_told (zones c.zones b (behind lanes 12 c.lanes) (point_from b c lanes, 0)))) Ver.No
+unfoldable pub with_lanes_of : Bytes → Counts → FileRow → (segments lanes : ℕ) → Option (Counts × FileRow × Places)
+with_lanes_of b c r segments lanes = pick (lanes_right c.lanes b lanes 0) (by_zones_of b c r segments lanes (point_from b c lanes) (zones_told (zones c.zones b (behind lanes 12 c.lanes) (point_from b c lanes, 0)))) None
 
-abbrev pub by_segments_of : Bytes → Counts → FileRow → (place : ℕ) → Segments → Verdict
-by_segments_of b c r place Segments.Nothing = Ver.No
-by_segments_of b c r place (Segments.To lanes count) = pick (eqb count c.lanes) (with_lanes_of b c r place lanes) Ver.No
+abbrev pub by_segments_of : Bytes → Counts → FileRow → (place : ℕ) → Option (ℕ × ℕ) → Option (Counts × FileRow × Places)
+by_segments_of b c r place None = None
+by_segments_of b c r place (Some (lanes, count)) = pick (eqb count c.lanes) (with_lanes_of b c r place lanes) None
 
-abbrev pub by_file_of : Bytes → File → Verdict
-by_file_of b Is.Nothing = Ver.No
-by_file_of b (Is.Told c r place) = pick (few c) (by_segments_of b c r place (segments_told (segments c.segments b place 0))) Ver.No
+abbrev pub by_file_of : Bytes → Option (Counts × FileRow × ℕ) → Option (Counts × FileRow × Places)
+by_file_of b None = None
+by_file_of b (Some (c, r, place)) = pick (few c) (by_segments_of b c r place (segments_told (segments c.segments b place 0))) None
 
-unfoldable pub judgement : Bytes → Verdict
+unfoldable pub judgement : Bytes → Option (Counts × FileRow × Places)
 judgement b = by_file_of b (file_at_of b)

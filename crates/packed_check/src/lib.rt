@@ -10,20 +10,13 @@ ghost use Rattle.std.specs.Prelude.{◌≡◌};
 ghost use Rattle.packed_check.specs.Judgement.{behind, places_of, table_at, few, tables_right, linked, with_places_of, by_zones_of, with_lanes_of, by_segments_of, by_file_of, judgement};
 
 use counts::Counts;
-use packed_frame::{File, Segments, Zones, are_spots, file_at, segments_at, zones_at};
+use packed_frame::{are_spots, file_at, segments_at, zones_at};
 use packed_parts::{Table, are_checkpoints, are_exits, are_parts, lanes_end};
 use packed_rows::{are_lanes, are_points, are_records_of};
 use room::in_word;
 use rows::FileRow;
 use units::SegmentId;
 use unpacked_rows::Places;
-
-// No network's form; or the rows of each table, the file's own row and where the records of each table stand.
-#[derive(Clone, Copy)]
-pub enum Verdict {
-    No,
-    Form(Counts, FileRow, Places),
-}
 
 // ## Places
 // The place behind so many records of one size.
@@ -104,17 +97,23 @@ fn are_linked(bytes: &[u8], c: Counts, places: Places, point: u64) -> bool
 
 // ## One pass behind the other
 // Nothing stands behind the last exit.
-fn with_places(bytes: &[u8], c: Counts, row: FileRow, places: Places, point: u64) -> Verdict
+fn with_places(
+    bytes: &[u8],
+    c: Counts,
+    row: FileRow,
+    places: Places,
+    point: u64,
+) -> Option<(Counts, FileRow, Places)>
     ensures { result ≡ with_places_of bytes.now c row places point }
 {
     if behind(places.exits, 10, c.exits) == bytes.len() {
         if are_tables(bytes, c, places) {
             if are_linked(bytes, c, places, point) {
-                return Verdict::Form(c, row, places);
+                return Some((c, row, places));
             }
         }
     }
-    Verdict::No
+    None
 }
 
 fn by_zones(
@@ -124,25 +123,31 @@ fn by_zones(
     segments: usize,
     lanes: usize,
     point: u64,
-    told: Zones,
-) -> Verdict
+    told: Option<(usize, u64, u64)>,
+) -> Option<(Counts, FileRow, Places)>
     ensures { result ≡ by_zones_of bytes.now c row segments lanes point told }
 {
     match told {
-        Zones::Nothing => Verdict::No,
-        Zones::To(spots, points, count) => {
+        None => None,
+        Some((spots, points, count)) => {
             if points == c.points as u64 {
                 if count == c.spots as u64 {
                     let places = places_of(c, segments, lanes, spots);
                     return with_places(bytes, c, row, places, point);
                 }
             }
-            Verdict::No
+            None
         }
     }
 }
 
-fn with_lanes(bytes: &[u8], c: Counts, row: FileRow, segments: usize, lanes: usize) -> Verdict
+fn with_lanes(
+    bytes: &[u8],
+    c: Counts,
+    row: FileRow,
+    segments: usize,
+    lanes: usize,
+) -> Option<(Counts, FileRow, Places)>
     ensures { result ≡ with_lanes_of bytes.now c row segments lanes }
 {
     if are_lanes(bytes, lanes, c.lanes) {
@@ -151,40 +156,49 @@ fn with_lanes(bytes: &[u8], c: Counts, row: FileRow, segments: usize, lanes: usi
         let told = zones_at(bytes, zones, c.zones, point);
         by_zones(bytes, c, row, segments, lanes, point, told)
     } else {
-        Verdict::No
+        None
     }
 }
 
-fn by_segments(bytes: &[u8], c: Counts, row: FileRow, place: usize, told: Segments) -> Verdict
+fn by_segments(
+    bytes: &[u8],
+    c: Counts,
+    row: FileRow,
+    place: usize,
+    told: Option<(usize, u64)>,
+) -> Option<(Counts, FileRow, Places)>
     ensures { result ≡ by_segments_of bytes.now c row place told }
 {
     match told {
-        Segments::Nothing => Verdict::No,
-        Segments::To(lanes, count) => {
+        None => None,
+        Some((lanes, count)) => {
             if count == c.lanes as u64 {
                 return with_lanes(bytes, c, row, place, lanes);
             }
-            Verdict::No
+            None
         }
     }
 }
 
-fn by_file(bytes: &[u8], told: File) -> Verdict
+fn by_file(
+    bytes: &[u8],
+    told: Option<(Counts, FileRow, usize)>,
+) -> Option<(Counts, FileRow, Places)>
     ensures { result ≡ by_file_of bytes.now told }
 {
     match told {
-        File::Nothing => Verdict::No,
-        File::Told(c, row, place) => {
+        None => None,
+        Some((c, row, place)) => {
             if are_few(c) {
                 let told = segments_at(bytes, place, c.segments);
                 return by_segments(bytes, c, row, place, told);
             }
-            Verdict::No
+            None
         }
     }
 }
 
-pub fn judged(bytes: &[u8]) -> Verdict
+pub fn judged(bytes: &[u8]) -> Option<(Counts, FileRow, Places)>
     ensures { result ≡ judgement bytes.now }
 {
     by_file(bytes, file_at(bytes))

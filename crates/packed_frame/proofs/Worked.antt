@@ -1,4 +1,5 @@
 -- The passes over the form of yard A (docs/PACKED.md) and over zones, by computation: yard A's name starts at 41, its segment stands at 49 and has one lane. Assumes nothing.
+use Rattle.std.specs.Prelude.{Some}
 use mathlib.Core.Path.{◌≡◌, refl}
 use mathlib.Core.Bool.{true}
 use Rattle.packed_law.specs.Yards.{form_a}
@@ -12,15 +13,12 @@ use Rattle.packed_frame.specs.Segments.{segment_end_of, segments, segments_told}
 use Rattle.packed_frame.specs.Zones.{zone_end_of, zones, zones_told}
 use Rattle.packed_frame.specs.Spots.{spot-at, zone_spots, all_spots}
 use Rattle.packed_frame.specs.File.{the_the_stretch_of, names_right, file_at_of}
-use Rattle.packed_frame.specs.declared.File.TheVariants as Is
-use Rattle.packed_frame.specs.declared.Segments.TheVariants as Segments
-use Rattle.packed_frame.specs.declared.Zones.TheVariants as Zones
 
-pub yard-a-file : file_at_of form_a ≡ Is.Told (record { segments = 1; lanes = 1; zones = 0; spots = 0; points = 2; checkpoints = 1; stops = 0; exits = 1 }) (record { name = record { start = 41; length = 6 }; version = record { start = 0; length = 0 }; date = record { start = 0; length = 0 } }) 49
+pub yard-a-file : file_at_of form_a ≡ Some (record { segments = 1; lanes = 1; zones = 0; spots = 0; points = 2; checkpoints = 1; stops = 0; exits = 1 }, record { name = record { start = 41; length = 6 }; version = record { start = 0; length = 0 }; date = record { start = 0; length = 0 } }, 49)
 unfolding file_at_of names_right the_the_stretch_of name_size_of two_at four_at_of all
 yard-a-file = refl
 
-pub yard-a-segments : segments_told (segments 1 form_a 49 0) ≡ Segments.To 59 1
+pub yard-a-segments : segments_told (segments 1 form_a 49 0) ≡ Some (59, 1)
 unfolding walk segment_end_of named_end name_size_of two_at four_at_of all
 yard-a-segments = refl
 
@@ -30,7 +28,7 @@ zones-z = 0 ∷ 17 ∷ 0 ∷ 0 ∷ 0 ∷ 1 ∷ 0 ∷ 3 ∷ 0 ∷ 0 ∷ 0 ∷ 0 �
     0 ∷ 14 ∷ 0 ∷ 0 ∷ 0 ∷ 4 ∷ 0 ∷ 2 ∷ 0 ∷ 0 ∷ 0 ∷ 0 ∷ 0 ∷ 1 ∷ 0 ∷ 0 ∷
     0 ∷ 6 ∷ 0 ∷ 0 ∷ 0 ∷ 6 ∷ 0 ∷ 9 ∷ []
 
-pub yard-z-zones : zones_told (zones 2 zones-z 0 (1, 0)) ≡ Zones.To 35 8 1
+pub yard-z-zones : zones_told (zones 2 zones-z 0 (1, 0)) ≡ Some (35, 8, 1)
 unfolding walk zone_end_of named_end name_size_of two_at four_at_of all
 yard-z-zones = refl
 

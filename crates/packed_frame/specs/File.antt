@@ -1,13 +1,11 @@
 -- Executable: the file's record, behind version and length. Assumes nothing.
-use Rattle.std.specs.Prelude.{◌+◌}
+use Rattle.std.specs.Prelude.{◌+◌, Some, None, Option}
 use Rattle.terms.specs.Words.{Bool, true, false, ℕ, eqb, Bytes, pick}
 use Rattle.packed_rows.specs.Points.{four_at_of}
 use Rattle.packed_frame.specs.Names.{two_at, no_name, name_size_of}
 use Rattle.rows.specs.declared.Stretch.{Stretch}
 use Rattle.rows.specs.declared.FileRow.{FileRow}
 use Rattle.counts.specs.declared.Counts.{Counts}
-use Rattle.packed_frame.specs.declared.File.{File}
-use Rattle.packed_frame.specs.declared.File.TheVariants as Is
 
 abbrev pub counts : Bytes → Counts
 counts b = record { segments = four_at_of b 7; lanes = four_at_of b 11; zones = four_at_of b 15; spots = four_at_of b 19; points = four_at_of b 23; checkpoints = four_at_of b 27; stops = four_at_of b 31; exits = four_at_of b 35 }
@@ -37,5 +35,5 @@ names_right b = pick (eqb (name_size_of b first-at) 0) false (pick (eqb (name_si
 abbrev pub the_file_row_of : Bytes → FileRow
 the_file_row_of b = record { name = the_the_stretch_of (first-at + 2) (name_size_of b first-at); version = the_the_stretch_of (second_at b + 2) (name_size_of b (second_at b)); date = record { start = 0; length = 0 } }
 
-unfoldable pub file_at_of : Bytes → File
-file_at_of b = pick (names_right b) (pick (eqb (two_at b 5 + 7) (file_end b)) (Is.Told (counts b) (the_file_row_of b) (file_end b)) Is.Nothing) Is.Nothing
+unfoldable pub file_at_of : Bytes → Option (Counts × FileRow × ℕ)
+file_at_of b = pick (names_right b) (pick (eqb (two_at b 5 + 7) (file_end b)) (Some (counts b, the_file_row_of b, file_end b)) None) None

@@ -97,14 +97,6 @@ fn named_end(bytes: &[u8], at: usize, size: u16) -> usize
     }
 }
 
-// ## Segments
-// No such segments; or the place behind them, and how many lanes they have.
-#[derive(Clone, Copy)]
-pub enum Segments {
-    Nothing,
-    To(usize, u64),
-}
-
 // A segment's lanes, or a zone's points, begin at the sum so far, and there are not too many of them.
 fn run_fits(sum: u64, begin: u32, size: u16) -> bool
     ensures { result ≡ run_fits sum begin size }
@@ -128,7 +120,7 @@ fn segment_end(bytes: &[u8], at: usize, sum: u64) -> usize
 }
 
 // So many segments from this place on.
-pub fn segments_at(bytes: &[u8], from: usize, count: u32) -> Segments
+pub fn segments_at(bytes: &[u8], from: usize, count: u32) -> Option<(usize, u64)>
     ensures { result ≡ segments_told (segments count bytes.now from 0) }
 {
     let mut at = from;
@@ -136,20 +128,12 @@ pub fn segments_at(bytes: &[u8], from: usize, count: u32) -> Segments
     for _ in 0..count {
         let end = segment_end(bytes, at, lanes);
         if end == 0 {
-            return Segments::Nothing;
+            return None;
         }
         lanes = lanes + two_at(bytes, at + 6) as u64;
         at = end;
     }
-    Segments::To(at, lanes)
-}
-
-// ## Zones
-// No such zones; or the place behind them, the points before what follows them, and how many spots they have.
-#[derive(Clone, Copy)]
-pub enum Zones {
-    Nothing,
-    To(usize, u64, u64),
+    Some((at, lanes))
 }
 
 // Its spots begin at the sum so far, or at 0 where there are none; and there are not too many of them.
@@ -177,7 +161,7 @@ fn zone_end(bytes: &[u8], at: usize, point: u64, spot: u64) -> usize
 }
 
 // So many zones from this place on. first: the first point that they have.
-pub fn zones_at(bytes: &[u8], from: usize, count: u32, first: u64) -> Zones
+pub fn zones_at(bytes: &[u8], from: usize, count: u32, first: u64) -> Option<(usize, u64, u64)>
     ensures { result ≡ zones_told (zones count bytes.now from (first, 0)) }
 {
     let mut at = from;
@@ -186,14 +170,14 @@ pub fn zones_at(bytes: &[u8], from: usize, count: u32, first: u64) -> Zones
     for _ in 0..count {
         let end = zone_end(bytes, at, point, spot);
         if end == 0 {
-            return Zones::Nothing;
+            return None;
         }
         let spots = two_at(bytes, at + 12) as u64;
         point = point + (two_at(bytes, at + 6) as u64 + (spots + spots));
         spot = spot + spots;
         at = end;
     }
-    Zones::To(at, point, spot)
+    Some((at, point, spot))
 }
 
 // ## Spots
@@ -260,14 +244,6 @@ pub fn are_spots(bytes: &[u8], from: usize, count: u32, spots: usize) -> bool
     true
 }
 
-// ## The file
-// No file's record; or the counts of rows, the file's row, and the place behind it.
-#[derive(Clone, Copy)]
-pub enum File {
-    Nothing,
-    Told(Counts, FileRow, usize),
-}
-
 // The counts of rows that a file's record says.
 fn counts_told(bytes: &[u8]) -> Counts
     ensures { result ≡ counts bytes.now }
@@ -302,20 +278,20 @@ fn stretch_of(start: u32, size: u32) -> Stretch
 }
 
 // The file's record, behind version and length.
-pub fn file_at(bytes: &[u8]) -> File
+pub fn file_at(bytes: &[u8]) -> Option<(Counts, FileRow, usize)>
     ensures { result ≡ file_at_of bytes.now }
 {
     let first = name_size(bytes, 39);
     if first == 0 {
-        return File::Nothing;
+        return None;
     }
     if first == NO_NAME {
-        return File::Nothing;
+        return None;
     }
     let second_at = 39 + 2 + first;
     let second = name_size(bytes, second_at);
     if second == NO_NAME {
-        return File::Nothing;
+        return None;
     }
     let end = second_at + 2 + second;
     if two_at(bytes, 5) as usize + 7 == end {
@@ -327,8 +303,8 @@ pub fn file_at(bytes: &[u8]) -> File
                 length: 0,
             },
         };
-        File::Told(counts_told(bytes), row, end)
+        Some((counts_told(bytes), row, end))
     } else {
-        File::Nothing
+        None
     }
 }

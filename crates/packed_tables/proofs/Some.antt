@@ -1,4 +1,6 @@
 -- Unpacking: whether bytes are a network's form is decided, and there is a reply that the contract allows, for all bytes and tables. Assumes nothing.
+use Rattle.std.specs.Prelude.{Ok, Err}
+use Rattle.replies.specs.Types.{RndfReply}
 use mathlib.Core.Path.{◌≡◌, refl, sym, ap, subst, ◌∙◌}
 use mathlib.Core.List.{List, [], ◌∷◌, ◌++◌, head-eq_of_cons-eq, tail-eq_of_cons-eq, nil≢cons, cons≢nil}
 use mathlib.Core.Option.{Option, none, some}
@@ -22,8 +24,6 @@ use Rattle.output.proofs.Packed.{packed-long}
 use Rattle.packed_law.specs.Packed.{this_version, Slot, figure, angle, title, slot_bytes, LiesAt, NamesLie, OfThisVersion, LengthsRight, AreRecords}
 use Rattle.packed_rows.specs.Walk.{walk, walked}
 use Rattle.packed_rows.proofs.Walked.{walk-right, walk-all}
-use Rattle.replies.specs.declared.RndfReply.{RndfReply}
-use Rattle.replies.specs.declared.RndfReply.TheVariants as Reply
 use Rattle.replies.specs.Replies.{longest, refusal, rows_used_of, network_file}
 use Rattle.unpackings.specs.Unpacks.{IsPackedFormOf, UnpackRefuses, Unpacks, too_long, other_version, cut_short, no_network, no_room, refused, unpacked}
 use Rattle.unpackings.proofs.OneNetwork.{items_of}
@@ -104,10 +104,10 @@ module _ (bytes : Bytes) (t : Lent) (small : Small bytes) where
   Replied = (r : RndfReply) × ((l : Lent) × Unpacks bytes t r l)
 
   refusing : (file number : ℕ) → UnpackRefuses bytes t file number → Replied
-  refusing file k x = (Reply.Refused (refusal file 0 k 0), (zeros t, refused file k x refl refl))
+  refusing file k x = (Err (refusal file 0 k 0), (zeros t, refused file k x refl refl))
 
   roomed : (n : Network Field) → length bytes ≤ longest → IsPackedFormOf n bytes → Decided (HasRoom n t) → Replied
-  roomed n h x (inl r) = (Reply.Accepted (rows_used_of n) (network_file n), (filled n t, unpacked n h x r refl refl))
+  roomed n h x (inl r) = (Ok (rows_used_of n, network_file n), (filled n t, unpacked n h x r refl refl))
   roomed n h x (inr r) = refusing 1 11 (no_room n h x r)
 
   formed : length bytes ≤ longest → OfThisVersion bytes → LengthsRight bytes → Decided (IsForm (rows-of bytes) bytes) → Replied

@@ -1,5 +1,7 @@
 -- THE THEOREMS of L5: "Good routes are all accepted and no others." A good route of an accepted pair is accepted, with what the reader replies and leaves (`all-accepted`); whatever is not refused is a good route of an accepted pair
 -- (`no-others`); and a route that is not good is refused with its own number (`refused-so`). Assumes nothing.
+use Rattle.std.specs.Prelude.{Err}
+use Rattle.replies.specs.Types.{PairReply}
 use mathlib.Core.Path.{◌≡◌, refl}
 use mathlib.Core.List.{List}
 use Prim.Native.Nat.{ℕ}
@@ -9,8 +11,6 @@ use Rattle.law.specs.Network.{reading}
 use Rattle.law.specs.Tables.{Lent, MissionLent, filled, mission_filled, zeros, mission_zeros}
 use Rattle.room.specs.Room.{fitted}
 use Rattle.refusal.specs.declared.Refusal.{Refusal}
-use Rattle.replies.specs.declared.PairReply.{PairReply}
-use Rattle.replies.specs.declared.PairReply.TheVariants as Pair
 use Rattle.replies.specs.Replies.{refusal}
 use Rattle.pair_checks.specs.Checks.{AcceptedPair, unread, wrong, right, Good, Bad, ChecksRoute}
 use Rattle.pair_checks.proofs.Judged.{read-reply, read-so}
@@ -21,7 +21,7 @@ module _ (ed : Edition) (start : ℕ) (route : List ℕ) (rndf mdf : Bytes) (t :
       → (reply ≡ read-reply ed rndf mdf t u pair) × (left ≡ filled pair.net t) × (mission_left ≡ mission_filled pair.mission u)
   all-accepted pair g = route-settled ed start route rndf mdf t u reply (read-reply ed rndf mdf t u pair) left (filled pair.net t) mission_left (mission_filled pair.mission u) checked (right pair g (read-so ed rndf mdf t u pair))
 
-  pub no-others : ((why : Refusal) → reply ≡ Pair.Refused why → ⊥) → (pair : AcceptedPair (reading (law_of ed)) rndf mdf t u) × Good start route pair.net pair.goals
+  pub no-others : ((why : Refusal) → reply ≡ Err why → ⊥) → (pair : AcceptedPair (reading (law_of ed)) rndf mdf t u) × Good start route pair.net pair.goals
   no-others not = go checked
     where
       go : ChecksRoute (reading (law_of ed)) start route rndf mdf t u reply left mission_left → (pair : AcceptedPair (reading (law_of ed)) rndf mdf t u) × Good start route pair.net pair.goals
@@ -30,5 +30,5 @@ module _ (ed : Edition) (start : ℕ) (route : List ℕ) (rndf mdf : Bytes) (t :
       go (right pair g x) = (pair, g)
 
   pub refused-so : (pair : AcceptedPair (reading (law_of ed)) rndf mdf t u) (line number : ℕ) → Bad start route pair.net pair.goals line number
-      → (reply ≡ Pair.Refused (refusal 0 (fitted line) number 0)) × (left ≡ zeros t) × (mission_left ≡ mission_zeros u)
-  refused-so pair line number b = route-settled ed start route rndf mdf t u reply (Pair.Refused (refusal 0 (fitted line) number 0)) left (zeros t) mission_left (mission_zeros u) checked (wrong pair line number b refl refl refl)
+      → (reply ≡ Err (refusal 0 (fitted line) number 0)) × (left ≡ zeros t) × (mission_left ≡ mission_zeros u)
+  refused-so pair line number b = route-settled ed start route rndf mdf t u reply (Err (refusal 0 (fitted line) number 0)) left (zeros t) mission_left (mission_zeros u) checked (wrong pair line number b refl refl refl)

@@ -1,5 +1,7 @@
 -- A part that judges an accepted pair, whatever it asks of it: where not both right and wrong can be, and wrong in one way only, the contract settles the reply and every lent word (`settled`); where always one of
 -- both is, some reply and memory satisfy it (`some-reply`). Assumes nothing.
+use Rattle.std.specs.Prelude.{Ok, Err}
+use Rattle.replies.specs.Types.{PairReply}
 use mathlib.Core.Path.{◌≡◌, refl, sym, subst, ◌∙◌}
 use mathlib.Core.List.{List}
 use mathlib.Core.Logic.{◌⊎◌, inl, inr}
@@ -14,8 +16,6 @@ use Rattle.route_law.specs.Moves.{GoalPoints}
 use Rattle.route_law.proofs.Goals.{goals-one, goals_of, goals-length}
 use Rattle.room.specs.Room.{fitted}
 use Rattle.refusal.specs.declared.Refusal.{Refusal}
-use Rattle.replies.specs.declared.PairReply.{PairReply}
-use Rattle.replies.specs.declared.PairReply.TheVariants as Pair
 use Rattle.replies.specs.Replies.{refusal, rows_used_of, network_file, mission_file_of, ReadsPair, accepted, rndf_refused_of, mdf_refused_of}
 use Rattle.replies.specs.Short.{AcceptsRndf, AcceptsMdf}
 use Rattle.replies.proofs.Settled.{rndf-accepts-one, mdf-accepts-one, pair-settled, pair-some}
@@ -43,13 +43,13 @@ module _ (ed : Edition) (rndf mdf : Bytes) (t : Lent) (u : MissionLent) where
 
   -- ## What the reader replies to it
   abbrev pub read-reply : Pairs → PairReply
-  read-reply p = Pair.Accepted (rows_used_of p.net) (network_file p.net) (record { goals = length p.mission.goals; limits = length p.mission.limits }) (mission_file_of p.mission)
+  read-reply p = Ok (rows_used_of p.net, network_file p.net, record { goals = length p.mission.goals; limits = length p.mission.limits }, mission_file_of p.mission)
 
   pub read-so : (p : Pairs) → ReadsPair (reading (law_of ed)) rndf mdf t u (read-reply p) (filled p.net t) (mission_filled p.mission u)
   read-so p = accepted p.net p.mission p.network_accepted p.mission_accepted refl refl refl
 
-  not-unread : (p : Pairs) (why : Refusal) (l : Lent) (k : MissionLent) → ReadsPair (reading (law_of ed)) rndf mdf t u (Pair.Refused why) l k → ⊥
-  not-unread p why l k x = pair-never-both (pair-settled ed rndf mdf t u (read-reply p) (Pair.Refused why) (filled p.net t) l (mission_filled p.mission u) k (read-so p) x).0
+  not-unread : (p : Pairs) (why : Refusal) (l : Lent) (k : MissionLent) → ReadsPair (reading (law_of ed)) rndf mdf t u (Err why) l k → ⊥
+  not-unread p why l k x = pair-never-both (pair-settled ed rndf mdf t u (read-reply p) (Err why) (filled p.net t) l (mission_filled p.mission u) k (read-so p) x).0
 
   module _ (Right : Network Field → List ℕ → Type 0) (Wrong : Network Field → List ℕ → (line number : ℕ) → Type 0) where
     abbrev Judged : PairReply → Lent → MissionLent → Type 0
@@ -59,7 +59,7 @@ module _ (ed : Edition) (rndf mdf : Bytes) (t : Lent) (u : MissionLent) where
     module _ (not-both : (n : Network Field) (goals : List ℕ) (line number : ℕ) → Right n goals → Wrong n goals line number → ⊥)
         (one-wrong : (n : Network Field) (goals : List ℕ) (line number line' number' : ℕ) → Wrong n goals line number → Wrong n goals line' number' → (line ≡ line') × (number ≡ number')) where
       pub settled : (r r' : PairReply) (l l' : Lent) (k k' : MissionLent) → Judged r l k → Judged r' l' k' → (r ≡ r') × (l ≡ l') × (k ≡ k')
-      settled r r' l l' k k' (unread why x e) (unread why' x' e') = let s = pair-settled ed rndf mdf t u (Pair.Refused why) (Pair.Refused why') l l' k k' x x' in (e ∙ s.0 ∙ sym e', s.1, s.2)
+      settled r r' l l' k k' (unread why x e) (unread why' x' e') = let s = pair-settled ed rndf mdf t u (Err why) (Err why') l l' k k' x x' in (e ∙ s.0 ∙ sym e', s.1, s.2)
       settled r r' l l' k k' (unread why x e) (wrong p i j h e' y z) = absurd (not-unread p why l k x)
       settled r r' l l' k k' (unread why x e) (right p h x') = absurd (not-unread p why l k x)
       settled r r' l l' k k' (wrong p i j h e y z) (unread why x e') = absurd (not-unread p why l' k' x)
@@ -68,7 +68,7 @@ module _ (ed : Edition) (rndf mdf : Bytes) (t : Lent) (u : MissionLent) where
       settled r r' l l' k k' (right q h' x) (wrong p i j h e y z) = absurd (not-both p.net p.goals i j (carried Right p q h') h)
       settled r r' l l' k k' (wrong p i j h e y z) (wrong q i' j' h' e' y' z') =
           let b = one-wrong p.net p.goals i j i' j' h (carried (λ n g. Wrong n g i' j') p q h') in
-          (e ∙ (λ s. Pair.Refused (refusal 0 (fitted (b.0 s)) (b.1 s) 0)) ∙ sym e', y ∙ sym y', z ∙ sym z')
+          (e ∙ (λ s. Err (refusal 0 (fitted (b.0 s)) (b.1 s) 0)) ∙ sym e', y ∙ sym y', z ∙ sym z')
       settled r r' l l' k k' (right p h x) (right q h' x') = pair-settled ed rndf mdf t u r r' l l' k k' x x'
 
     -- ## One there is. 01: "`num_checkpoints` > 0": there are goals
@@ -87,7 +87,7 @@ module _ (ed : Edition) (rndf mdf : Bytes) (t : Lent) (u : MissionLent) where
 
       told : (p : Pairs) → Right p.net p.goals ⊎ ((line : ℕ) × (number : ℕ) × Wrong p.net p.goals line number) → Some
       told p (inl h) = record { reply = read-reply p; left = filled p.net t; mission_left = mission_filled p.mission u; judged = right p h (read-so p) }
-      told p (inr f) = record { reply = Pair.Refused (refusal 0 (fitted f.0) f.1 0); left = zeros t; mission_left = mission_zeros u; judged = wrong p f.0 f.1 f.2 refl refl refl }
+      told p (inr f) = record { reply = Err (refusal 0 (fitted f.0) f.1 0); left = zeros t; mission_left = mission_zeros u; judged = wrong p f.0 f.1 f.2 refl refl refl }
 
       pub some-reply : Some
       some-reply = let s = pair-some ed rndf mdf t u in go s.reply s.left s.mission_left s.reads

@@ -1,5 +1,6 @@
 -- THE THEOREM of document 01's "Prove that no second reply or memory would satisfy it", for the checker of routes (L5): its contract settles the reply and every lent word, for all texts, tables, starts and routes; and some reply and memory
 -- satisfy it. Assumes nothing.
+use Rattle.replies.specs.Types.{PairReply}
 use mathlib.Core.Path.{◌≡◌}
 use mathlib.Core.List.{List}
 use Prim.Native.Nat.{ℕ}
@@ -10,7 +11,6 @@ use Rattle.law.specs.Tables.{Lent, MissionLent}
 use Rattle.route_law.specs.Moves.{Move, points_declared}
 use Rattle.route_law.proofs.Settled as Routes
 use Rattle.route_law.proofs.Decided.{decide}
-use Rattle.replies.specs.declared.PairReply.{PairReply}
 use Rattle.pair_checks.specs.Checks.{Good, Bad, ChecksRoute}
 use Rattle.pair_checks.proofs.Judged.{settled, Some, some-reply}
 

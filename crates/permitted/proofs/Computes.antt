@@ -12,7 +12,7 @@ use Rattle.grammar.specs.MissionStatements.{Limit}
 use Rattle.grammar.specs.Forms.{yes?, le?, eq?, and?, via}
 use Rattle.grammar.specs.Permitted.{between?, part?, point?, on_earth?, checkpoint?, entry?, exit?, perimeter_exit?}
 use Rattle.grammar.specs.MissionPlaces.{not_above?, limit?}
-use Rattle.statement.specs.declared.Id.{Id}
+use Rattle.number.specs.declared.Id.{Id}
 use Rattle.statement.specs.Meaning.{the_the_point_of}
 use Rattle.permitted.specs.Tests.{is_counted, is_at_most, is_up_to, is_the_number, is_the_part, is_point_of, is_numbered, is_latitude, is_longitude, is_the_point, is_own_stop, is_own_checkpoint, is_entry_of, is_inner_entry, is_own_exit, is_perimeter_exit}
 use Rattle.permitted.specs.MissionTests.{is_not_above, is_limit}

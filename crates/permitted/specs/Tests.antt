@@ -4,7 +4,7 @@ use Rattle.grammar.specs.Statements.{part_id, point_id}
 use Rattle.grammar.specs.Network.{GoodExit, GoodPerimeterExit}
 use Rattle.grammar.specs.Forms.{yes?, tested}
 use Rattle.grammar.specs.Permitted.{between?, point?, entry?, exit?, perimeter_exit?, counted, upto, at_most, the_number_of, the_part_of, the_point_of, own_stop_of, own_checkpoint_of, own_exit_of}
-use Rattle.statement.specs.declared.Id.{Id}
+use Rattle.number.specs.declared.Id.{Id}
 use Rattle.statement.specs.Meaning.{the_the_point_of}
 
 unfoldable pub is_counted : ℕ → Bool

@@ -12,10 +12,10 @@ ghost use Rattle.permitted.specs.Tests.{is_counted, is_at_most, is_up_to, is_the
 ghost use Rattle.permitted.specs.MissionTests.{is_not_above, is_limit};
 ghost use Rattle.permitted.specs.Owed.{owing};
 
-use statement::Id;
+use number::Id;
 use units::{
-    CheckpointNumber, CheckpointNumberRead, Feet, FeetRead, LARGEST_INTEGER, LARGEST_LATITUDE,
-    LARGEST_LONGITUDE, LEAST_LATITUDE, LEAST_LONGITUDE, Mph, MphRead, SegmentId, SegmentIdRead,
+    CheckpointNumber, Feet, LARGEST_INTEGER, LARGEST_LATITUDE, LARGEST_LONGITUDE, LEAST_LATITUDE,
+    LEAST_LONGITUDE, Mph, SegmentId,
 };
 
 // ## Numbers by their kinds
@@ -24,8 +24,8 @@ pub fn lane_width(n: u32) -> bool
     ensures { result ≡ is_at_most n }
 {
     match Feet::new(n) {
-        FeetRead::Is(_) => true,
-        FeetRead::Refused => false,
+        Some(_) => true,
+        None => false,
     }
 }
 
@@ -41,8 +41,8 @@ fn speed(n: u32) -> bool
     ensures { result ≡ is_at_most n }
 {
     match Mph::new(n) {
-        MphRead::Is(_) => true,
-        MphRead::Refused => false,
+        Some(_) => true,
+        None => false,
     }
 }
 
@@ -51,8 +51,8 @@ pub fn checkpoint_number(n: u32) -> bool
     ensures { result ≡ is_counted n }
 {
     match CheckpointNumber::new(n) {
-        CheckpointNumberRead::Is(_) => true,
-        CheckpointNumberRead::Refused => false,
+        Some(_) => true,
+        None => false,
     }
 }
 
@@ -61,8 +61,8 @@ fn segment_id(n: u32) -> bool
     ensures { result ≡ is_counted n }
 {
     match SegmentId::new(n) {
-        SegmentIdRead::Is(_) => true,
-        SegmentIdRead::Refused => false,
+        Some(_) => true,
+        None => false,
     }
 }
 

@@ -2,7 +2,7 @@
 use Rattle.std.specs.Prelude.{Bool, true, false, List, ℕ, suc, pred, ◌-◌, eqb, ltb}
 use Rattle.terms.specs.Words.{pick}
 use Rattle.grammar.specs.PlaceTable.{cell, rndf_table_of}
-use Rattle.statement.specs.declared.Id.{Id}
+use Rattle.number.specs.declared.Id.{Id}
 use Rattle.statement.specs.declared.Statement.{Statement}
 use Rattle.statement.specs.declared.Statement.TheVariants as st
 use Rattle.statement.specs.Kinds.{kind_of}

@@ -16,10 +16,11 @@ ghost use Rattle.place.specs.Step.{major_of, minor_of, first_marked_of, around_o
 ghost use Rattle.place_table.specs.Verdicts.{verdict_of};
 ghost use Rattle.place_table.specs.RndfRows.{segment_due, zone_due, end_file_due};
 
+use number::Id;
 use permitted;
 use place_table;
-use place_table::{Verdict, rndf};
-use statement::{Id, Statement};
+use place_table::rndf;
+use statement::Statement;
 
 // The open part, with its identifiers.
 #[derive(Clone, Copy)]
@@ -409,39 +410,35 @@ impl Place {
     }
 
     // By the cell of a kind, before any field is read: 5, 6, or the statement may stand.
-    pub fn refuses(self, cell: u8) -> Verdict
+    pub fn refuses(self, cell: u8) -> Result<(), u8>
         ensures { result ≡ verdict_of (refuses_by self.given cell) }
     {
         if cell < place_table::OFTEN {
-            return Verdict::Taken;
+            return Ok(());
         }
         if cell < place_table::REFUSED {
             if self.has(cell - place_table::OFTEN) {
-                Verdict::Refused(6)
+                Err(6)
             } else {
-                Verdict::Taken
+                Ok(())
             }
         } else {
-            Verdict::Refused(5)
+            Err(5)
         }
     }
 
     // 9 where a value is not permitted here, 25 where an option is still owed; of a statement whose kind may stand here.
-    pub fn tested(self, cell: u8, s: Statement) -> Verdict
+    pub fn tested(self, cell: u8, s: Statement) -> Result<(), u8>
         ensures { result ≡ verdict_of (tested_of self s cell) }
     {
         if self.permits(s) {
             if cell < place_table::OFTEN {
-                if self.ready() {
-                    Verdict::Taken
-                } else {
-                    Verdict::Refused(25)
-                }
+                if self.ready() { Ok(()) } else { Err(25) }
             } else {
-                Verdict::Taken
+                Ok(())
             }
         } else {
-            Verdict::Refused(9)
+            Err(9)
         }
     }
 

@@ -19,13 +19,6 @@ use statement::kinds;
 pub mod mdf;
 pub mod rndf;
 
-// What becomes of a statement: it is taken, or refused with a number of document 01.
-#[derive(Clone, Copy)]
-pub enum Verdict {
-    Taken,
-    Refused(u8),
-}
-
 // A cell that is refused with 5.
 pub const REFUSED: u8 = 255;
 

@@ -1,4 +1,5 @@
 -- What the judge makes of a content whose fields are known. Assumes nothing.
+use Rattle.std.specs.Prelude.{Some}
 use mathlib.Core.Path.{◌≡◌, refl, sym, ap, ◌∙◌}
 use mathlib.Core.List.{List, [], ◌∷◌}
 use mathlib.Core.Bool.{Bool, true, false}
@@ -14,7 +15,6 @@ use Rattle.line.specs.Forms.{fields_at, fields_in_of, field_in, listed, part}
 use Rattle.line.proofs.Spans.{fields-listed}
 use Rattle.statement.specs.declared.Statement.{Statement}
 use Rattle.made_out.specs.Made.{shapes, needs_of, made_of, made_from}
-use Rattle.made_out.specs.declared.Made.TheVariants.{Is}
 use Rattle.place.specs.declared.Place.{Place}
 use Rattle.judge.specs.Judging.{Got, blank, Judging, taken, valued, of_kind, known, told}
 use Rattle.judge.specs.RndfLine.{rndf_kind, judging}
@@ -63,7 +63,7 @@ module _ (base : ℕ) (c : Bytes) where
       (n, ap (λ (f : Field). f.bytes) p, ap (λ (f : Field). f.bytes) q, ap (λ (f : Field). f.bytes) r)
 
 -- so many fields, one at least, and as many as the kind needs
-pub makes : (c : Bytes) (base k : ℕ) (st : Statement) (n : ℕ) → (fields_in_of c).count ≡ n → 0 < n → needs_of (get_or shapes k 0) ≡ n → made_of c base (fields_in_of c) k ≡ Is st → Makes c base k st
+pub makes : (c : Bytes) (base k : ℕ) (st : Statement) (n : ℕ) → (fields_in_of c).count ≡ n → 0 < n → needs_of (get_or shapes k 0) ≡ n → made_of c base (fields_in_of c) k ≡ Some st → Makes c base k st
 makes c base k st n e h d m = record { some = ne_eqb (fields_in_of c).count 0 (λ q. omega arith); needed = eq-eqb (fields_in_of c).count (needs_of (get_or shapes k 0)) (e ∙ sym d); made = m }
 
 -- ## What is told of them

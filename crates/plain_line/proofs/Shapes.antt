@@ -30,7 +30,7 @@ use Rattle.word.specs.Keywords.{rndf_keywords, ShortField}
 use Rattle.word.proofs.Keywords.{rndf-field, rndf-no-digit}
 use Rattle.word.proofs.Boundary.{boundary-word-field}
 use Rattle.word.specs.Number.{index_of}
-use Rattle.statement.specs.declared.Id.{Id}
+use Rattle.number.specs.declared.Id.{Id}
 use Rattle.statement.specs.declared.Statement.{Statement}
 use Rattle.statement.specs.declared.Statement.TheVariants as st
 use Rattle.made_out.specs.Made.{shapes, needs_of, named_of, name_made_of, numbered_of, paired_of, sided_of, bare_of, side_made_of, made_of}

@@ -1,5 +1,5 @@
 -- Fields of a plain line as they stand in the text, and the statement that they make. Assumes nothing.
-use Rattle.std.specs.Prelude.{◌≡◌, List, [], ◌∷◌, ◌++◌, true, false, ◌⊎◌, ℕ, ◌≤◌, ◌<◌, length, get_or, eqb}
+use Rattle.std.specs.Prelude.{◌≡◌, List, [], ◌∷◌, ◌++◌, true, false, ◌⊎◌, ℕ, ◌≤◌, ◌<◌, length, get_or, eqb, Some, None, Option}
 use Rattle.terms.specs.Ascii.{Bytes}
 use Rattle.scan.specs.Allowed.{separates, all}
 use Rattle.line.specs.Content.{Field, SpellsFields}
@@ -7,13 +7,8 @@ use Rattle.line.specs.Forms.{fields_at, fields_in_of, part}
 use Rattle.line_fields.specs.LineFields.{last_of, last_start_of}
 use Rattle.statement.specs.declared.Statement.{Statement}
 use Rattle.made_out.specs.Made.{shapes, needs_of, made_of}
-use Rattle.made_out.specs.declared.Made.TheVariants.{Is}
 use Rattle.judge.specs.RndfLine.{rndf_kind}
 use Rattle.plain_parts.specs.Stands.{stretch}
-use Rattle.plain_line.specs.declared.Fields as DF
-use Rattle.plain_line.specs.declared.Fields.TheVariants as Fields
-use Rattle.plain_line.specs.declared.Behind as DB
-use Rattle.plain_line.specs.declared.Behind.TheVariants as Behind
 
 -- a stretch of the text that spells fields, whatever separators stand behind it
 abbrev pub Spelt : Bytes → ℕ → ℕ → List Field → Type 0
@@ -23,7 +18,7 @@ Spelt s from stop fields = (blank : Bytes) → all separates blank ≡ true → 
 pub record Makes (content : Bytes) (base k : ℕ) (st : Statement) : Type 0 where
   pub some : eqb (fields_in_of content).count 0 ≡ false
   pub needed : eqb (fields_in_of content).count (needs_of (get_or shapes k 0)) ≡ true
-  pub made : made_of content base (fields_in_of content) k ≡ Is st
+  pub made : made_of content base (fields_in_of content) k ≡ Some st
 
 -- the fields behind a keyword
 pub record BehindIt (s : Bytes) (from stop k : ℕ) (st : Statement) (last : ℕ) : Type 0 where
@@ -34,9 +29,9 @@ pub record BehindIt (s : Bytes) (from stop k : ℕ) (st : Statement) (last : ℕ
   pub makes : (content : Bytes) (base : ℕ) (word : Field) → fields_at base content ≡ word ∷ fields → Makes content base k st
   pub lastly : (word : Field) → (last_of word fields).start ≡ last
 
-abbrev pub BehindStands : Bytes → ℕ → ℕ → DB.Behind → Type 0
-BehindStands s from k (Behind.Is st stop last) = BehindIt s from stop k st last
-BehindStands s from k Behind.No = Unit {0}
+abbrev pub BehindStands : Bytes → ℕ → ℕ → Option (Statement × ℕ × ℕ) → Type 0
+BehindStands s from k (Some (st, stop, last)) = BehindIt s from stop k st last
+BehindStands s from k None = Unit {0}
 
 -- all fields of a line
 pub record Says (s : Bytes) (from stop k : ℕ) (st : Statement) (last : ℕ) : Type 0 where
@@ -49,9 +44,9 @@ pub record Says (s : Bytes) (from stop k : ℕ) (st : Statement) (last : ℕ) : 
   pub makes : (content : Bytes) (base : ℕ) → fields_at base content ≡ fields → Makes content base k st
   pub lastly : last_start_of fields ≡ last
 
-abbrev pub FieldsStand : Bytes → ℕ → DF.Fields → Type 0
-FieldsStand s from (Fields.Say k st stop last) = Says s from stop k st last
-FieldsStand s from Fields.No = Unit {0}
+abbrev pub FieldsStand : Bytes → ℕ → Option (ℕ × Statement × ℕ × ℕ) → Type 0
+FieldsStand s from (Some (k, st, stop, last)) = Says s from stop k st last
+FieldsStand s from None = Unit {0}
 
 -- what stands behind the keyword of a kind, where it is told
 abbrev pub Shape : ℕ → ℕ → Type 0

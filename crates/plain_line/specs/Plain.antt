@@ -1,5 +1,5 @@
 -- What a plain line says: its end is the line's, its last field starts where it is said to, and the judge makes of the line what it makes of the statement alone. Assumes nothing.
-use Rattle.std.specs.Prelude.{◌≡◌, List, ℕ, ◌-◌, ◌≤◌}
+use Rattle.std.specs.Prelude.{◌≡◌, List, ℕ, ◌-◌, ◌≤◌, Some, None, Option}
 use Rattle.terms.specs.Ascii.{Bytes}
 use Rattle.scan.specs.Reach.{reach, stops_by}
 use Rattle.scan.specs.declared.Until.TheVariants.{Byte}
@@ -9,8 +9,6 @@ use Rattle.place.specs.declared.Place.{Place}
 use Rattle.judge.specs.Judging.{Got, blank, line}
 use Rattle.judge.specs.RndfLine.{judging}
 use Rattle.plain_parts.specs.Stands.{stretch, LineEnds}
-use Rattle.plain_parts.specs.declared.Reached as DR
-use Rattle.plain_parts.specs.declared.Reached.TheVariants as Reached
 unfoldable pub use Rattle.plain_fields.specs.LineStands.{stated}
 use Rattle.plain_line.specs.declared.Plain as DP
 use Rattle.plain_line.specs.declared.Plain.TheVariants as Plain
@@ -27,13 +25,13 @@ pub record EndsShort (s : Bytes) (from stop end : ℕ) : Type 0 where
   pub short : end - from ≤ 512
 
 -- an end, told where the line has no more bytes than that
-abbrev pub FewBytes : (from end : ℕ) → DR.Reached → Type 0
-FewBytes from end (Reached.At stop) = (stop ≡ end) × (from ≤ end) × (end - from ≤ 512)
-FewBytes from end Reached.No = Unit {0}
+abbrev pub FewBytes : (from end : ℕ) → Option ℕ → Type 0
+FewBytes from end (Some stop) = (stop ≡ end) × (from ≤ end) × (end - from ≤ 512)
+FewBytes from end None = Unit {0}
 
-abbrev pub ShortEnd : Bytes → ℕ → ℕ → DR.Reached → Type 0
-ShortEnd s from stop (Reached.At end) = EndsShort s from stop end
-ShortEnd s from stop Reached.No = Unit {0}
+abbrev pub ShortEnd : Bytes → ℕ → ℕ → Option ℕ → Type 0
+ShortEnd s from stop (Some end) = EndsShort s from stop end
+ShortEnd s from stop None = Unit {0}
 
 abbrev pub PlainStands : Bytes → ℕ → DP.Plain → Type 0
 PlainStands s from (Plain.Said k st stop last) = LineGets s from stop (λ table p. stated (judging table) k st p) × (last ≡ last_start_of (line_fields_of from (stretch s from stop)))

@@ -14,28 +14,11 @@ ghost use Rattle.plain_line.specs.Fields.{BehindStands, FieldsStand, Shape};
 ghost use Rattle.plain_line.specs.Plain.{FewBytes, ShortEnd, PlainStands};
 
 use made_out::{bare, named, numbered, paired, sided};
-use number::is_name_length;
-use plain_parts::{
-    CoordinateAt, IntegerAt, PairAt, Reached, TripleAt, coordinate_at, end_at, gap_at, integer_at,
-    name_end, pair_at, triple_at,
-};
-use plain_word::{WordAt, boundary_at, keyword_at};
+use number::{Id, is_name_length};
+use plain_parts::{coordinate_at, end_at, gap_at, integer_at, name_end, pair_at, triple_at};
+use plain_word::{boundary_at, keyword_at};
 use scan::{is_digit, not_separator_from};
-use statement::{Id, Statement, kinds};
-
-// The fields of a line: a statement with its kind, the place behind the last of them, and where that one starts.
-#[derive(Clone, Copy)]
-enum Fields {
-    Say(u8, Statement, usize, usize),
-    No,
-}
-
-// The fields behind a keyword: the statement that they make with it, the place behind the last of them, and where that one starts.
-#[derive(Clone, Copy)]
-enum Behind {
-    Is(Statement, usize, usize),
-    No,
-}
+use statement::{Statement, kinds};
 
 // A line: a statement with its kind, the line's end, and where its last field starts; or none, and the end.
 #[derive(Clone, Copy)]
@@ -46,34 +29,34 @@ pub enum Plain {
 }
 
 // A point's line: an identifier and two coordinates.
-fn point_said(s: &[u8], from: usize) -> Fields
+fn point_said(s: &[u8], from: usize) -> Option<(u8, Statement, usize, usize)>
     ensures { FieldsStand s.now from result }
 {
-    let TripleAt::Is(x, y, z, i) = triple_at(s, from) else {
-        return Fields::No;
+    let Some((x, y, z, i)) = triple_at(s, from) else {
+        return None;
     };
-    let Reached::At(b) = gap_at(s, i) else {
-        return Fields::No;
+    let Some(b) = gap_at(s, i) else {
+        return None;
     };
-    let CoordinateAt::Is(latitude, j) = coordinate_at(s, b) else {
-        return Fields::No;
+    let Some((latitude, j)) = coordinate_at(s, b) else {
+        return None;
     };
-    let Reached::At(c) = gap_at(s, j) else {
-        return Fields::No;
+    let Some(c) = gap_at(s, j) else {
+        return None;
     };
-    let CoordinateAt::Is(longitude, k) = coordinate_at(s, c) else {
-        return Fields::No;
+    let Some((longitude, k)) = coordinate_at(s, c) else {
+        return None;
     };
-    Fields::Say(
+    Some((
         kinds::POINT,
         Statement::Point(Id { x, y, z }, latitude, longitude),
         k,
         c,
-    )
+    ))
 }
 
 // A name behind a keyword: its start, which must fit into 32 bits, and its length.
-fn name_behind(s: &[u8], from: usize, kind: u8) -> Behind
+fn name_behind(s: &[u8], from: usize, kind: u8) -> Option<(Statement, usize, usize)>
     requires { (get_or shapes kind 0 ≡ 1) × (from ≤ length s.now) }
     ensures { BehindStands s.now from kind result }
 {
@@ -81,85 +64,85 @@ fn name_behind(s: &[u8], from: usize, kind: u8) -> Behind
     let n = e - from;
     if is_name_length(n) {
         if from < 4294967296 {
-            return Behind::Is(named(kind, from as u32, n as u32), e, from);
+            return Some((named(kind, from as u32, n as u32), e, from));
         }
     }
-    Behind::No
+    None
 }
 
 // An integer behind a keyword.
-fn number_behind(s: &[u8], from: usize, kind: u8) -> Behind
+fn number_behind(s: &[u8], from: usize, kind: u8) -> Option<(Statement, usize, usize)>
     requires { get_or shapes kind 0 ≡ 2 }
     ensures { BehindStands s.now from kind result }
 {
-    let IntegerAt::Is(n, e) = integer_at(s, from) else {
-        return Behind::No;
+    let Some((n, e)) = integer_at(s, from) else {
+        return None;
     };
-    Behind::Is(numbered(kind, n), e, from)
+    Some((numbered(kind, n), e, from))
 }
 
 // An identifier m.n.
-fn pair_behind(s: &[u8], from: usize, kind: u8) -> Behind
+fn pair_behind(s: &[u8], from: usize, kind: u8) -> Option<(Statement, usize, usize)>
     requires { get_or shapes kind 0 ≡ 3 }
     ensures { BehindStands s.now from kind result }
 {
-    let PairAt::Is(m, n, e) = pair_at(s, from) else {
-        return Behind::No;
+    let Some((m, n, e)) = pair_at(s, from) else {
+        return None;
     };
-    Behind::Is(paired(kind, m, n), e, from)
+    Some((paired(kind, m, n), e, from))
 }
 
 // A boundary word.
-fn side_behind(s: &[u8], from: usize, kind: u8) -> Behind
+fn side_behind(s: &[u8], from: usize, kind: u8) -> Option<(Statement, usize, usize)>
     requires { get_or shapes kind 0 ≡ 4 }
     ensures { BehindStands s.now from kind result }
 {
-    let WordAt::Is(b, e) = boundary_at(s, from) else {
-        return Behind::No;
+    let Some((b, e)) = boundary_at(s, from) else {
+        return None;
     };
-    Behind::Is(sided(kind, b), e, from)
+    Some((sided(kind, b), e, from))
 }
 
 // A checkpoint's point and number.
-fn checkpoint_behind(s: &[u8], from: usize) -> Behind
+fn checkpoint_behind(s: &[u8], from: usize) -> Option<(Statement, usize, usize)>
     ensures { BehindStands s.now from 14 result }
 {
-    let TripleAt::Is(x, y, z, i) = triple_at(s, from) else {
-        return Behind::No;
+    let Some((x, y, z, i)) = triple_at(s, from) else {
+        return None;
     };
-    let Reached::At(b) = gap_at(s, i) else {
-        return Behind::No;
+    let Some(b) = gap_at(s, i) else {
+        return None;
     };
-    let IntegerAt::Is(n, e) = integer_at(s, b) else {
-        return Behind::No;
+    let Some((n, e)) = integer_at(s, b) else {
+        return None;
     };
-    Behind::Is(Statement::Checkpoint(Id { x, y, z }, n), e, b)
+    Some((Statement::Checkpoint(Id { x, y, z }, n), e, b))
 }
 
 // A stop's point.
-fn stop_behind(s: &[u8], from: usize) -> Behind
+fn stop_behind(s: &[u8], from: usize) -> Option<(Statement, usize, usize)>
     ensures { BehindStands s.now from 15 result }
 {
-    let TripleAt::Is(x, y, z, e) = triple_at(s, from) else {
-        return Behind::No;
+    let Some((x, y, z, e)) = triple_at(s, from) else {
+        return None;
     };
-    Behind::Is(Statement::Stop(Id { x, y, z }), e, from)
+    Some((Statement::Stop(Id { x, y, z }), e, from))
 }
 
 // An exit's point and entry.
-fn exit_behind(s: &[u8], from: usize) -> Behind
+fn exit_behind(s: &[u8], from: usize) -> Option<(Statement, usize, usize)>
     ensures { BehindStands s.now from 16 result }
 {
-    let TripleAt::Is(x, y, z, i) = triple_at(s, from) else {
-        return Behind::No;
+    let Some((x, y, z, i)) = triple_at(s, from) else {
+        return None;
     };
-    let Reached::At(b) = gap_at(s, i) else {
-        return Behind::No;
+    let Some(b) = gap_at(s, i) else {
+        return None;
     };
-    let TripleAt::Is(to_x, to_y, to_z, e) = triple_at(s, b) else {
-        return Behind::No;
+    let Some((to_x, to_y, to_z, e)) = triple_at(s, b) else {
+        return None;
     };
-    Behind::Is(
+    Some((
         Statement::Exit(
             Id { x, y, z },
             Id {
@@ -170,7 +153,7 @@ fn exit_behind(s: &[u8], from: usize) -> Behind
         ),
         e,
         b,
-    )
+    ))
 }
 
 // What stands behind the keyword of a kind, as in `made_out`; 9 for kinds of which it is not told here.
@@ -209,19 +192,19 @@ fn shape_of(kind: u8) -> u8
 }
 
 // Checkpoints, stops and exits.
-fn mark_behind(s: &[u8], from: usize, kind: u8) -> Behind
+fn mark_behind(s: &[u8], from: usize, kind: u8) -> Option<(Statement, usize, usize)>
     ensures { BehindStands s.now from kind result }
 {
     match kind {
         kinds::CHECKPOINT => checkpoint_behind(s, from),
         kinds::STOP => stop_behind(s, from),
         kinds::EXIT => exit_behind(s, from),
-        _ => Behind::No,
+        _ => None,
     }
 }
 
 // The fields behind the keyword of a kind with this shape.
-fn shape_behind(s: &[u8], from: usize, kind: u8, shape: u8) -> Behind
+fn shape_behind(s: &[u8], from: usize, kind: u8, shape: u8) -> Option<(Statement, usize, usize)>
     requires { Shape kind shape × (from ≤ length s.now) }
     ensures { BehindStands s.now from kind result }
 {
@@ -235,27 +218,27 @@ fn shape_behind(s: &[u8], from: usize, kind: u8, shape: u8) -> Behind
 }
 
 // A line that begins with a keyword.
-fn word_said(s: &[u8], from: usize) -> Fields
+fn word_said(s: &[u8], from: usize) -> Option<(u8, Statement, usize, usize)>
     ensures { FieldsStand s.now from result }
 {
-    let WordAt::Is(kind, w) = keyword_at(s, from) else {
-        return Fields::No;
+    let Some((kind, w)) = keyword_at(s, from) else {
+        return None;
     };
     let shape = shape_of(kind);
     if shape == 0 {
-        return Fields::Say(kind, bare(kind), w, from);
+        return Some((kind, bare(kind), w, from));
     }
-    let Reached::At(b) = gap_at(s, w) else {
-        return Fields::No;
+    let Some(b) = gap_at(s, w) else {
+        return None;
     };
-    let Behind::Is(said, e, last) = shape_behind(s, b, kind, shape) else {
-        return Fields::No;
+    let Some((said, e, last)) = shape_behind(s, b, kind, shape) else {
+        return None;
     };
-    Fields::Say(kind, said, e, last)
+    Some((kind, said, e, last))
 }
 
 // The fields of a line, the first of which starts there.
-fn fields_said(s: &[u8], from: usize) -> Fields
+fn fields_said(s: &[u8], from: usize) -> Option<(u8, Statement, usize, usize)>
     requires { from < length s.now }
     ensures { FieldsStand s.now from result }
 {
@@ -267,19 +250,19 @@ fn fields_said(s: &[u8], from: usize) -> Fields
 }
 
 // The end of a line that starts at `from`, where the line has at most 512 bytes.
-fn short_end(from: usize, end: usize) -> Reached
+fn short_end(from: usize, end: usize) -> Option<usize>
     ensures { FewBytes from end result }
 {
     if from <= end {
         if end - from <= 512 {
-            return Reached::At(end);
+            return Some(end);
         }
     }
-    Reached::No
+    None
 }
 
 // The end of a line that starts at `from`, of which all up to `stop` is known. Most lines end right there, and those are told here: a call for each costs a twentieth of the reading.
-fn end_of(text: &[u8], from: usize, stop: usize) -> Reached
+fn end_of(text: &[u8], from: usize, stop: usize) -> Option<usize>
     ensures { ShortEnd text.now from stop result }
 {
     if stop < text.len() {
@@ -287,8 +270,8 @@ fn end_of(text: &[u8], from: usize, stop: usize) -> Reached
             return short_end(from, stop);
         }
     }
-    let Reached::At(end) = end_at(text, stop) else {
-        return Reached::No;
+    let Some(end) = end_at(text, stop) else {
+        return None;
     };
     short_end(from, end)
 }
@@ -297,7 +280,7 @@ fn end_of(text: &[u8], from: usize, stop: usize) -> Reached
 fn blank_line(text: &[u8], from: usize) -> Plain
     ensures { PlainStands text.now from result }
 {
-    let Reached::At(e) = end_of(text, from, from) else {
+    let Some(e) = end_of(text, from, from) else {
         return Plain::No;
     };
     Plain::Blank(e)
@@ -310,13 +293,13 @@ pub fn plain_line(text: &[u8], from: usize) -> Plain
     let at = not_separator_from(text, from);
     if at < text.len() {
         match fields_said(text, at) {
-            Fields::Say(kind, said, stop, last) => {
-                let Reached::At(e) = end_of(text, from, stop) else {
+            Some((kind, said, stop, last)) => {
+                let Some(e) = end_of(text, from, stop) else {
                     return Plain::No;
                 };
                 Plain::Said(kind, said, e, last)
             }
-            Fields::No => blank_line(text, from),
+            None => blank_line(text, from),
         }
     } else {
         Plain::No

@@ -1,4 +1,5 @@
 -- What a line of an MDF gets at a place, told as the program tells it. Assumes nothing.
+use Rattle.std.specs.Prelude.{Some, Ok, Err, Result}
 use mathlib.Core.Path.{◌≡◌, refl, sym, ap, ◌∙◌}
 use mathlib.Core.List.{List}
 use Prim.Native.Nat.{ℕ, ◌+◌, ◌≤◌, ◌<◌}
@@ -11,8 +12,6 @@ use Rattle.scan.specs.declared.Until.TheVariants.{Byte}
 use Rattle.scan.proofs.Reach.{reach_le, reach-from}
 use Rattle.statement.specs.declared.Order.{Order}
 use Rattle.mission_place.specs.declared.MissionPlace.{MissionPlace}
-use Rattle.mission_place.specs.declared.MissionOutcome.{MissionOutcome}
-use Rattle.mission_place.specs.declared.MissionOutcome.TheVariants.{Next, Refused}
 use Rattle.mission_place.specs.Step.{number_kind_of}
 use Rattle.mission_place.specs.Abstract.{seen}
 use Rattle.judge.specs.Judging.{Got, bad, blank, said, taken, line}
@@ -22,14 +21,13 @@ use Rattle.mission_judge.specs.MdfLine.{judging, verdict, line_by}
 use Rattle.plain_parts.specs.Stands.{stretch}
 use Rattle.plain_parts.proofs.Stretches.{stretch-long}
 use Rattle.plain_fields.specs.LineStands.{stated}
-use Rattle.plain_order.specs.declared.PlainOrder.TheVariants as PlainOrder
 use Rattle.plain_order.specs.Orders.{OrderLine, stood_as, LineSays}
 
 -- ## A plain line
-pub stood-says : (table : List (List ℕ)) (s : Bytes) (from k : ℕ) (p : MissionPlace) (o : Order) (e : ℕ) → OrderLine s from k (PlainOrder.Is o e) → number_kind_of p ≡ k → (v : MissionOutcome) → taken (judging table) o (seen v) ≡ stated (judging table) k o p
+pub stood-says : (table : List (List ℕ)) (s : Bytes) (from k : ℕ) (p : MissionPlace) (o : Order) (e : ℕ) → OrderLine s from k (Some (o, e)) → number_kind_of p ≡ k → (v : Result MissionPlace ℕ) → taken (judging table) o (seen v) ≡ stated (judging table) k o p
     → LineSays table s from p (stood_as o e (seen v))
-stood-says table s from k p o e h due (Next q) got = (h.ends, h.gets table p due ∙ sym got)
-stood-says table s from k p o e h due (Refused n) got = rw (← h.ends) (h.gets table p due ∙ sym got)
+stood-says table s from k p o e h due (Ok q) got = (h.ends, h.gets table p due ∙ sym got)
+stood-says table s from k p o e h due (Err n) got = rw (← h.ends) (h.gets table p due ∙ sym got)
 
 -- ## A line that is cut
 got-blank : (g : Got Order MissionPlace) → verdict g ≡ Verdict.Blank → g ≡ blank

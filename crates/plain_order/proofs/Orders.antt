@@ -1,4 +1,5 @@
 -- THE LAW: a plain line of an MDF gets what its order alone gets at the place. Assumes nothing.
+use Rattle.std.specs.Prelude.{Some}
 use mathlib.Core.Path.{◌≡◌, refl, ap, ◌∙◌}
 use mathlib.Core.List.{List, [], ◌∷◌, head-eq_of_cons-eq, tail-eq_of_cons-eq}
 use mathlib.Core.Bool.{true}
@@ -17,7 +18,6 @@ use Rattle.line.specs.declared.Span.{Span}
 use Rattle.number.specs.Decimal.{decimal}
 use Rattle.number.specs.Executable.{digits, the_integer_of}
 use Rattle.number.specs.Spelling.{SpellsInteger}
-use Rattle.number.specs.declared.Number.TheVariants as Number
 use Rattle.number.proofs.Digits.{plain-long}
 use Rattle.number.proofs.Decimals.{decimal-plain}
 use Rattle.number.proofs.Integers.{integer-only, integer-digits}
@@ -36,7 +36,6 @@ use Rattle.plain_fields.specs.LineStands.{LineStands, stated}
 use Rattle.plain_fields.proofs.Fields.{last-field, field-ahead, blank-ahead, line-stands}
 use Rattle.plain_fields.proofs.Judged.{plain-judged}
 use Rattle.plain_order.specs.Orders.{SpellsOrder, one, three, OrderStands, OrderLine}
-use Rattle.plain_order.specs.declared.PlainOrder.TheVariants as PlainOrder
 
 -- ## An integer is a field that begins with a digit
 integer-long : (w : Bytes) (n : ℕ) → SpellsInteger w n → 0 < length w
@@ -60,11 +59,11 @@ module _ (s : Bytes) where
   abbrev Blank : ℕ → ℕ → Type 0
   Blank a b = Stands s a b (λ w. all separates w ≡ true)
 
-  pub goal-stands : (from a n stop : ℕ) → Stands s from a (λ w. SpellsInteger w n) → LineEnds s a stop → OrderStands s from 11 (PlainOrder.Is (or.Goal n) stop)
+  pub goal-stands : (from a n stop : ℕ) → Stands s from a (λ w. SpellsInteger w n) → LineEnds s a stop → OrderStands s from 11 (Some (or.Goal n, stop))
   goal-stands from a n stop h e = (_, one h.spelled, last-field s stop from a (as-field from a n h) e)
 
   pub limit-stands : (from a second b third d i m n stop : ℕ) → Stands s from a (λ w. SpellsInteger w i) → Blank a second → Stands s second b (λ w. SpellsInteger w m) → Blank b third → Stands s third d (λ w. SpellsInteger w n) → LineEnds s d stop
-      → OrderStands s from 12 (PlainOrder.Is (or.Limit i m n) stop)
+      → OrderStands s from 12 (Some (or.Limit i m n, stop))
   limit-stands from a second b third d i m n stop x p y q z e =
       (_, three x.spelled y.spelled z.spelled, field-ahead s stop from a second _ (as-field from a i x) p (field-ahead s stop second b third _ (as-field second b m y) q (last-field s stop third d (as-field third d n z) e)))
 
@@ -75,7 +74,7 @@ module _ (p : MissionPlace) where
   kind-is w n h = rw (integer-first w n h)
 
 -- the integer that a field says, where the field is found in a content
-read_is : (base : ℕ) (c : Bytes) (f : Span) (g : Field) (n : ℕ) → field_in base c f ≡ g → SpellsInteger g.bytes n → the_integer_of (part c f) ≡ Number.Is n
+read_is : (base : ℕ) (c : Bytes) (f : Span) (g : Field) (n : ℕ) → field_in base c f ≡ g → SpellsInteger g.bytes n → the_integer_of (part c f) ≡ Some n
 read_is base c f g n e h = ap (λ (x : Field). the_integer_of x.bytes) e ∙ integer-only g.bytes n h
 
 plain-is : (table : List (List ℕ)) (p : MissionPlace) (s : Bytes) (from stop : ℕ) {k : ℕ} {fs : List Field} {o : Order} → number_kind_of p ≡ k → SpellsOrder k fs o → LineStands s from stop fs
@@ -88,14 +87,14 @@ plain-is table p s from stop e (three {f = f} {g = g} {h = h} {i = i} {a = a} {b
     (λ c v q. let r = tail-eq_of_cons-eq q in rw (read_is from c v.a f i (head-eq_of_cons-eq q) x, read_is from c v.b g a (head-eq_of_cons-eq r) y, read_is from c v.c h b (head-eq_of_cons-eq (tail-eq_of_cons-eq r)) z) refl)
 
 -- ## A plain line
-module _ (s : Bytes) (from at kind : ℕ) (there : at ≡ reach (stops_by NotSeparator) s from) (o : Order) (stop : ℕ) (h : OrderStands s at kind (PlainOrder.Is o stop)) where
+module _ (s : Bytes) (from at kind : ℕ) (there : at ≡ reach (stops_by NotSeparator) s from) (o : Order) (stop : ℕ) (h : OrderStands s at kind (Some (o, stop))) where
   pub order-behind : from ≤ stop
   order-behind =
       let k = h.2.order in
       let e = h.2.ends.order in
       omega arith
 
-  pub order-line : stop - from ≤ 512 → OrderLine s from kind (PlainOrder.Is o stop)
+  pub order-line : stop - from ≤ 512 → OrderLine s from kind (Some (o, stop))
   order-line short =
       let l = line-stands s from stop h.0 (blank-ahead s stop from at h.0 (omega arith) (rw there (blank-to s from)) h.2) short in
       record { ends = l.ends; gets = λ table p due. plain-is table p s from stop due h.1 l }

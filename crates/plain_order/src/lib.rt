@@ -11,30 +11,18 @@ ghost use Rattle.plain_fields.specs.LineStands.{stated};
 ghost use Rattle.judge.specs.Judging.{taken};
 ghost use Rattle.mission_place.specs.Abstract.{seen};
 ghost use Rattle.mission_judge.specs.MdfLine.{judging};
-ghost use Rattle.plain_order.specs.Orders.{OrderStands, OrderLine, stood_as, LineSays, number_of};
+ghost use Rattle.plain_order.specs.Orders.{OrderStands, OrderLine, stood_as, LineSays};
 
 use mission_judge::{MissionVerdict, mission_judge_line};
-use mission_place::{MissionOutcome, MissionPlace};
-use place_table::Verdict;
-use plain_parts::{IntegerAt, Reached, end_at, gap_at, integer_at};
+use mission_place::MissionPlace;
+use plain_parts::{end_at, gap_at, integer_at};
 use scan::{far_byte_from, not_separator_from};
 use statement::{Order, orders};
 
 const LF: u8 = 10;
 
-// An order, and where its line ends.
-#[derive(Clone, Copy)]
-enum PlainOrder {
-    Is(Order, usize),
-    No,
-}
-
 // A line that is not blank is made out as one order, with the place behind it and the line's end; or it is refused.
-#[derive(Clone, Copy)]
-pub enum MissionSaid {
-    Is(Order, MissionPlace, usize),
-    Refused(u8),
-}
+pub type MissionSaid = Result<(Order, MissionPlace, usize), u8>;
 
 // A line: nothing, and where it ends; or what it says.
 #[derive(Clone, Copy)]
@@ -43,99 +31,87 @@ pub enum MissionLine {
     Filled(MissionSaid),
 }
 
-impl MissionSaid {
-    // The number that a line is refused with, where it is.
-    pub fn number(self) -> u8
-        ensures { result ≡ number_of self }
-    {
-        match self {
-            MissionSaid::Is(_, _, _) => 0,
-            MissionSaid::Refused(n) => n,
-        }
-    }
-}
-
 // One integer, then the line's end.
-fn goal_at(text: &[u8], from: usize) -> PlainOrder
+fn goal_at(text: &[u8], from: usize) -> Option<(Order, usize)>
     ensures { OrderStands text.now from 11 result }
 {
-    let IntegerAt::Is(n, a) = integer_at(text, from) else {
-        return PlainOrder::No;
+    let Some((n, a)) = integer_at(text, from) else {
+        return None;
     };
-    let Reached::At(stop) = end_at(text, a) else {
-        return PlainOrder::No;
+    let Some(stop) = end_at(text, a) else {
+        return None;
     };
-    PlainOrder::Is(Order::Goal(n), stop)
+    Some((Order::Goal(n), stop))
 }
 
 // Three integers, then the line's end.
-fn limit_at(text: &[u8], from: usize) -> PlainOrder
+fn limit_at(text: &[u8], from: usize) -> Option<(Order, usize)>
     ensures { OrderStands text.now from 12 result }
 {
-    let IntegerAt::Is(id, a) = integer_at(text, from) else {
-        return PlainOrder::No;
+    let Some((id, a)) = integer_at(text, from) else {
+        return None;
     };
-    let Reached::At(second) = gap_at(text, a) else {
-        return PlainOrder::No;
+    let Some(second) = gap_at(text, a) else {
+        return None;
     };
-    let IntegerAt::Is(minimum, b) = integer_at(text, second) else {
-        return PlainOrder::No;
+    let Some((minimum, b)) = integer_at(text, second) else {
+        return None;
     };
-    let Reached::At(third) = gap_at(text, b) else {
-        return PlainOrder::No;
+    let Some(third) = gap_at(text, b) else {
+        return None;
     };
-    let IntegerAt::Is(maximum, d) = integer_at(text, third) else {
-        return PlainOrder::No;
+    let Some((maximum, d)) = integer_at(text, third) else {
+        return None;
     };
-    let Reached::At(stop) = end_at(text, d) else {
-        return PlainOrder::No;
+    let Some(stop) = end_at(text, d) else {
+        return None;
     };
-    PlainOrder::Is(Order::Limit(id, minimum, maximum), stop)
+    Some((Order::Limit(id, minimum, maximum), stop))
 }
 
-fn order_at(text: &[u8], from: usize, kind: u8) -> PlainOrder
+fn order_at(text: &[u8], from: usize, kind: u8) -> Option<(Order, usize)>
     ensures { OrderStands text.now from kind result }
 {
     match kind {
         orders::GOAL => goal_at(text, from),
         orders::LIMIT => limit_at(text, from),
-        _ => PlainOrder::No,
+        _ => None,
     }
 }
 
 // The line that starts at a place, where it is plain and a goal or a limit is due, as `kind` says.
-fn plain_order(text: &[u8], from: usize, kind: u8) -> PlainOrder
+fn plain_order(text: &[u8], from: usize, kind: u8) -> Option<(Order, usize)>
     ensures { OrderLine text.now from kind result }
 {
     let at = not_separator_from(text, from);
-    let PlainOrder::Is(o, stop) = order_at(text, at, kind) else {
-        return PlainOrder::No;
+    let Some((o, stop)) = order_at(text, at, kind) else {
+        return None;
     };
     if stop - from <= 512 {
-        PlainOrder::Is(o, stop)
+        Some((o, stop))
     } else {
-        PlainOrder::No
+        None
     }
 }
 
 // The place behind an order of a plain line, or the number that its kind or its place refuses it with.
-fn stand(table: &[[u8; 13]; 12], kind: u8, said: Order, p: MissionPlace) -> MissionOutcome
+fn stand(table: &[[u8; 13]; 12], kind: u8, said: Order, p: MissionPlace) -> Result<MissionPlace, u8>
     ensures { taken (judging table.now) said (seen result) ≡ stated (judging table.now) kind said p }
 {
     let cell = p.cell(table, kind);
-    if let Verdict::Refused(n) = p.refuses(cell) {
-        return MissionOutcome::Refused(n);
+    if let Err(n) = p.refuses(cell) {
+        return Err(n);
     }
     p.step(cell, said)
 }
 
 // The line of an order that ends there, by what becomes of the order at its place.
-fn stood(s: Order, e: usize, o: MissionOutcome) -> MissionLine
+fn stood(s: Order, e: usize, o: Result<MissionPlace, u8>) -> MissionLine
     ensures { result ≡ stood_as s e (seen o) }
 {
     match o {
-        MissionOutcome::Next(q) => MissionLine::Filled(MissionSaid::Is(s, q, e)),
-        MissionOutcome::Refused(n) => MissionLine::Filled(MissionSaid::Refused(n)),
+        Ok(q) => MissionLine::Filled(Ok((s, q, e))),
+        Err(n) => MissionLine::Filled(Err(n)),
     }
 }
 
@@ -147,8 +123,8 @@ fn cut_at(table: &[[u8; 13]; 12], text: &[u8], from: usize, p: MissionPlace) -> 
     let e = far_byte_from(text, from, LF);
     match mission_judge_line(table, &text[from..e], from, p) {
         MissionVerdict::Blank => MissionLine::Blank(e),
-        MissionVerdict::Said(s, q) => MissionLine::Filled(MissionSaid::Is(s, q, e)),
-        MissionVerdict::Bad(n) => MissionLine::Filled(MissionSaid::Refused(n)),
+        MissionVerdict::Said(s, q) => MissionLine::Filled(Ok((s, q, e))),
+        MissionVerdict::Bad(n) => MissionLine::Filled(Err(n)),
     }
 }
 
@@ -157,11 +133,11 @@ pub fn line_said(table: &[[u8; 13]; 12], text: &[u8], from: usize, p: MissionPla
     ensures { from < length text.now → length text.now < 4294967296 → LineSays table.now text.now from p result }
 {
     if text.len() <= from {
-        return MissionLine::Filled(MissionSaid::Refused(1));
+        return MissionLine::Filled(Err(1));
     }
     let kind = p.number_kind();
     match plain_order(text, from, kind) {
-        PlainOrder::Is(s, e) => stood(s, e, stand(table, kind, s, p)),
-        PlainOrder::No => cut_at(table, text, from, p),
+        Some((s, e)) => stood(s, e, stand(table, kind, s, p)),
+        None => cut_at(table, text, from, p),
     }
 }

@@ -1,4 +1,5 @@
 -- Where a line ends, as a program tells it that reads on from a place: separators, perhaps a comment, perhaps one CR, then an LF or the text's end. Assumes nothing.
+use Rattle.std.specs.Prelude.{Some, None, Option}
 use mathlib.Core.Path.{◌≡◌, refl, sym, ap, ap₂, subst, ◌∙◌}
 use mathlib.Core.List.{[], ◌∷◌, ◌++◌}
 use mathlib.Core.Bool.{Bool, true, false, ◌&&◌}
@@ -20,8 +21,6 @@ use Rattle.scan.proofs.Bytes.{all-parts}
 use Rattle.line.specs.Content.{Without, Comment}
 use Rattle.line.proofs.Finds.{find-here, find_first}
 use Rattle.plain_parts.specs.Stands.{stretch, Stands, OpeningStands, BareEnds, BareStands, Ends, NoteStands, LineEnds, EndStands}
-use Rattle.plain_parts.specs.declared.Reached as DR
-use Rattle.plain_parts.specs.declared.Reached.TheVariants as Reached
 use Rattle.plain_parts.proofs.Stretches.{join, one, ahead}
 
 -- ## Separators
@@ -48,9 +47,9 @@ ends-here s at h e = record { order = omega arith; inside = h; cr = inl (nothing
 pub ends-behind : (s : Bytes) (at : ℕ) → at < length s → get_or s at 0 ≡ 13 → (at + 1 ≡ length s) ⊎ (get_or s (at + 1) 0 ≡ 10) → BareEnds s at (at + 1)
 ends-behind s at h c e = record { order = omega arith; inside = omega arith; cr = inr (one s at h ∙ ap (λ (b : ℕ). b ∷ []) c); last = e }
 
-pub no_note : (s : Bytes) (at : ℕ) (r : DR.Reached) → BareStands s at r → NoteStands s at r
-no_note s at (Reached.At stop) h = record { note = []; return = stretch s at stop; order = h.order; inside = h.inside; spelled = refl; comment = inl refl; cr = h.cr; last = h.last }
-no_note s at Reached.No h = tt
+pub no_note : (s : Bytes) (at : ℕ) (r : Option ℕ) → BareStands s at r → NoteStands s at r
+no_note s at (Some stop) h = record { note = []; return = stretch s at stop; order = h.order; inside = h.inside; spelled = refl; comment = inl refl; cr = h.cr; last = h.last }
+no_note s at None h = tt
 
 -- ## A comment
 pub opening : (s : Bytes) (at : ℕ) → at + 2 ≤ length s → OpeningStands s at (eqb (get_or s at 0) 47 && eqb (get_or s (at + 1) 0) 42)
@@ -119,19 +118,19 @@ module _ (s : Bytes) (from close : ℕ) (opened : OpeningStands s from true) (e 
         }
 
 -- ## All together
-pub behind-note : (s : Bytes) (from at : ℕ) (r : DR.Reached) → Stands s from at Comment → BareStands s at r → NoteStands s from r
-behind-note s from at (Reached.At stop) c h =
+pub behind-note : (s : Bytes) (from at : ℕ) (r : Option ℕ) → Stands s from at Comment → BareStands s at r → NoteStands s from r
+behind-note s from at (Some stop) c h =
     let o = c.order in
     let p = h.order in
     record { note = stretch s from at; return = stretch s at stop; order = omega arith; inside = h.inside; spelled = sym (join s from at stop (omega arith) p); comment = inr c.spelled; cr = h.cr; last = h.last }
-behind-note s from at Reached.No c h = tt
+behind-note s from at None c h = tt
 
-pub behind-blank : (s : Bytes) (from : ℕ) (r : DR.Reached) → NoteStands s (reach skips s from) r → EndStands s from r
-behind-blank s from (Reached.At stop) h = record { at = reach skips s from; order = omega arith; blank = blank-to s from; ends = h }
-behind-blank s from Reached.No h = tt
+pub behind-blank : (s : Bytes) (from : ℕ) (r : Option ℕ) → NoteStands s (reach skips s from) r → EndStands s from r
+behind-blank s from (Some stop) h = record { at = reach skips s from; order = omega arith; blank = blank-to s from; ends = h }
+behind-blank s from None h = tt
 
 -- a line ends where its LF stands
 pub line-ends-here : (s : Bytes) (at : ℕ) → at < length s → get_or s at 0 ≡ 10 → LineEnds s at at
 unfolding all
 line-ends-here s at h e =
-    record { at = at; order = omega arith; blank = ap (all separates) (nothing s at); ends = no_note s at (Reached.At at) (ends-here s at (omega arith) (inr e)) }
+    record { at = at; order = omega arith; blank = ap (all separates) (nothing s at); ends = no_note s at (Some at) (ends-here s at (omega arith) (inr e)) }

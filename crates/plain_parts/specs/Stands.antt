@@ -1,27 +1,15 @@
--- What each answer says of the text that it was read from: the stretch from a place up to the place that is answered spells the value. `No` says nothing. Assumes nothing.
-use Rattle.std.specs.Prelude.{◌≡◌, List, [], ◌∷◌, ◌++◌, Bool, true, false, ◌&&◌, ◌⊎◌, ℕ, ◌+◌, ◌-◌, ◌*◌, ◌≤◌, ◌<◌, length, take, drop, get_or, eqb}
+-- What each answer says of the text that it was read from: the stretch from a place up to the place that is answered spells the value. `None` says nothing. Assumes nothing.
+use Rattle.std.specs.Prelude.{◌≡◌, List, [], ◌∷◌, ◌++◌, Bool, true, false, ◌&&◌, ◌⊎◌, ℕ, ◌+◌, ◌-◌, ◌*◌, ◌≤◌, ◌<◌, length, take, drop, get_or, eqb, ℤ, Some, None, Option}
 use Prim.Native.Char.{code}
 use Rattle.terms.specs.Ascii.{Bytes}
 use Rattle.number.specs.Spelling.{SpellsInteger, SpellsPair, SpellsTriple}
-use Rattle.plain_parts.specs.declared.IntegerAt as DI
-use Rattle.plain_parts.specs.declared.IntegerAt.TheVariants as IntegerAt
 use Rattle.terms.specs.Ascii.{ascii}
 use Rattle.terms.specs.Words.{pick}
 use Rattle.number.specs.Decimal.{decimal, padded}
 use Rattle.coordinate.specs.Spelling.{SpellsCoordinate}
-use Rattle.plain_parts.specs.declared.DegreesAt as DD
-use Rattle.plain_parts.specs.declared.DegreesAt.TheVariants as DegreesAt
-use Rattle.plain_parts.specs.declared.CoordinateAt as DC
-use Rattle.plain_parts.specs.declared.CoordinateAt.TheVariants as CoordinateAt
 use Rattle.scan.specs.Allowed.{separates, field_byte, all}
 use Rattle.scan.specs.Reach.{other}
 use Rattle.line.specs.Content.{Comment}
-use Rattle.plain_parts.specs.declared.Reached as DR
-use Rattle.plain_parts.specs.declared.Reached.TheVariants as Reached
-use Rattle.plain_parts.specs.declared.PairAt as DP
-use Rattle.plain_parts.specs.declared.PairAt.TheVariants as PairAt
-use Rattle.plain_parts.specs.declared.TripleAt as DT
-use Rattle.plain_parts.specs.declared.TripleAt.TheVariants as TripleAt
 
 -- the bytes of a text from a place up to another
 abbrev pub stretch : Bytes → ℕ → ℕ → Bytes
@@ -33,21 +21,21 @@ pub record Stands (s : Bytes) (from stop : ℕ) (Is : Bytes → Type 0) : Type 0
   pub inside : stop ≤ length s
   pub spelled : Is (stretch s from stop)
 
-abbrev pub IntegerStands : Bytes → ℕ → DI.IntegerAt → Type 0
-IntegerStands s from (IntegerAt.Is v stop) = Stands s from stop (λ w. SpellsInteger w v)
-IntegerStands s from IntegerAt.No = Unit {0}
+abbrev pub IntegerStands : Bytes → ℕ → Option (ℕ × ℕ) → Type 0
+IntegerStands s from (Some (v, stop)) = Stands s from stop (λ w. SpellsInteger w v)
+IntegerStands s from None = Unit {0}
 
 abbrev pub DotStands : Bytes → ℕ → Bool → Type 0
 DotStands s at true = (at < length s) × (get_or s at 0 ≡ code ".")
 DotStands s at false = Unit {0}
 
-abbrev pub PairStands : Bytes → ℕ → DP.PairAt → Type 0
-PairStands s from (PairAt.Is m n stop) = Stands s from stop (λ w. SpellsPair w m n)
-PairStands s from PairAt.No = Unit {0}
+abbrev pub PairStands : Bytes → ℕ → Option (ℕ × ℕ × ℕ) → Type 0
+PairStands s from (Some (m, n, stop)) = Stands s from stop (λ w. SpellsPair w m n)
+PairStands s from None = Unit {0}
 
-abbrev pub TripleStands : Bytes → ℕ → DT.TripleAt → Type 0
-TripleStands s from (TripleAt.Is x y z stop) = Stands s from stop (λ w. SpellsTriple w x y z)
-TripleStands s from TripleAt.No = Unit {0}
+abbrev pub TripleStands : Bytes → ℕ → Option (ℕ × ℕ × ℕ × ℕ) → Type 0
+TripleStands s from (Some (x, y, z, stop)) = Stands s from stop (λ w. SpellsTriple w x y z)
+TripleStands s from None = Unit {0}
 
 -- six digits, where the number has no more
 abbrev pub SixStand : Bytes → ℕ → ℕ → Type 0
@@ -62,21 +50,21 @@ pub record SpellsDegrees (field : Bytes) (count : ℕ) : Type 0 where
   pub spelled : field ≡ decimal degrees ++ (code "." ∷ padded 6 millionths)
   pub counted : count ≡ degrees * 1000000 + millionths
 
-abbrev pub DegreesStand : Bytes → ℕ → DD.DegreesAt → Type 0
-DegreesStand s from (DegreesAt.Is m stop) = Stands s from stop (λ w. SpellsDegrees w m)
-DegreesStand s from DegreesAt.No = Unit {0}
+abbrev pub DegreesStand : Bytes → ℕ → Option (ℕ × ℕ) → Type 0
+DegreesStand s from (Some (m, stop)) = Stands s from stop (λ w. SpellsDegrees w m)
+DegreesStand s from None = Unit {0}
 
 abbrev pub behind_minus_of : Bytes → ℕ → ℕ
 behind_minus_of s from = pick (eqb (get_or s from 0) (code "-")) (from + 1) from
 
-abbrev pub CoordinateStands : Bytes → ℕ → DC.CoordinateAt → Type 0
-CoordinateStands s from (CoordinateAt.Is z stop) = Stands s from stop (λ w. SpellsCoordinate w z)
-CoordinateStands s from CoordinateAt.No = Unit {0}
+abbrev pub CoordinateStands : Bytes → ℕ → Option (ℤ × ℕ) → Type 0
+CoordinateStands s from (Some (z, stop)) = Stands s from stop (λ w. SpellsCoordinate w z)
+CoordinateStands s from None = Unit {0}
 
 -- one separator or more
-abbrev pub GapStands : Bytes → ℕ → DR.Reached → Type 0
-GapStands s from (Reached.At stop) = Stands s from stop (λ w. all separates w ≡ true)
-GapStands s from Reached.No = Unit {0}
+abbrev pub GapStands : Bytes → ℕ → Option ℕ → Type 0
+GapStands s from (Some stop) = Stands s from stop (λ w. all separates w ≡ true)
+GapStands s from None = Unit {0}
 
 -- the two bytes with which a comment opens
 abbrev pub OpeningStands : Bytes → ℕ → Bool → Type 0
@@ -84,9 +72,9 @@ OpeningStands s at true = (at + 2 ≤ length s) × (stretch s at (at + 2) ≡ as
 OpeningStands s at false = Unit {0}
 
 -- a comment, and what separates behind it
-abbrev pub CommentStands : Bytes → ℕ → DR.Reached → Type 0
-CommentStands s from (Reached.At stop) = Stands s from stop Comment
-CommentStands s from Reached.No = Unit {0}
+abbrev pub CommentStands : Bytes → ℕ → Option ℕ → Type 0
+CommentStands s from (Some stop) = Stands s from stop Comment
+CommentStands s from None = Unit {0}
 
 -- perhaps one CR; then an LF or the text's end
 pub record BareEnds (s : Bytes) (from stop : ℕ) : Type 0 where
@@ -95,9 +83,9 @@ pub record BareEnds (s : Bytes) (from stop : ℕ) : Type 0 where
   pub cr : (stretch s from stop ≡ []) ⊎ (stretch s from stop ≡ code "\r" ∷ [])
   pub last : (stop ≡ length s) ⊎ (get_or s stop 0 ≡ code "\n")
 
-abbrev pub BareStands : Bytes → ℕ → DR.Reached → Type 0
-BareStands s from (Reached.At stop) = BareEnds s from stop
-BareStands s from Reached.No = Unit {0}
+abbrev pub BareStands : Bytes → ℕ → Option ℕ → Type 0
+BareStands s from (Some stop) = BareEnds s from stop
+BareStands s from None = Unit {0}
 
 -- what may stand behind the fields of a line and its separators: perhaps a comment, perhaps one CR; then an LF or the text's end
 pub record Ends (s : Bytes) (from stop : ℕ) : Type 0 where
@@ -110,9 +98,9 @@ pub record Ends (s : Bytes) (from stop : ℕ) : Type 0 where
   pub cr : (return ≡ []) ⊎ (return ≡ code "\r" ∷ [])
   pub last : (stop ≡ length s) ⊎ (get_or s stop 0 ≡ code "\n")
 
-abbrev pub NoteStands : Bytes → ℕ → DR.Reached → Type 0
-NoteStands s from (Reached.At stop) = Ends s from stop
-NoteStands s from Reached.No = Unit {0}
+abbrev pub NoteStands : Bytes → ℕ → Option ℕ → Type 0
+NoteStands s from (Some stop) = Ends s from stop
+NoteStands s from None = Unit {0}
 
 -- the same behind separators
 pub record LineEnds (s : Bytes) (from stop : ℕ) : Type 0 where
@@ -121,9 +109,9 @@ pub record LineEnds (s : Bytes) (from stop : ℕ) : Type 0 where
   pub blank : all separates (stretch s from at) ≡ true
   pub ends : Ends s at stop
 
-abbrev pub EndStands : Bytes → ℕ → DR.Reached → Type 0
-EndStands s from (Reached.At stop) = LineEnds s from stop
-EndStands s from Reached.No = Unit {0}
+abbrev pub EndStands : Bytes → ℕ → Option ℕ → Type 0
+EndStands s from (Some stop) = LineEnds s from stop
+EndStands s from None = Unit {0}
 
 -- a byte of a field, with which no comment opens
 abbrev pub name_byte : ℕ → Bool

@@ -1,5 +1,5 @@
 // The parts of a plain line, read where they stand in the text, in one pass and without cutting the line first: an integer, identifiers, a coordinate, a name, what separates fields,
-// and the line's end. Where a function answers, the bytes up to the place that it answers are what it says (specs/Stands); `No` says nothing, and such a line is cut and judged
+// and the line's end. Where a function answers, the bytes up to the place that it answers are what it says (specs/Stands); `None` says nothing, and such a line is cut and judged
 // as any other.
 //
 // specs/Stands: what each answer says of the text. proofs/Stretches: stretches of a text joined; Digits, Joined and Signs: numbers; Names; Ended: a comment, and where a line ends.
@@ -21,32 +21,21 @@ const CR: u8 = 13;
 // Above every number of six digits.
 const NO_SIX: u32 = 1000000;
 
-// An integer, and the place behind it.
-#[derive(Clone, Copy)]
-pub enum IntegerAt {
-    Is(u32, usize),
-    No,
-}
-
 // The integer 0, whose digit stands there: no further digit, and something behind it.
-fn zero_at(s: &[u8], from: usize) -> IntegerAt
+fn zero_at(s: &[u8], from: usize) -> Option<(u32, usize)>
     requires { Stands s.now from (from + 1) (λ w. SpellsInteger w 0) }
     ensures { IntegerStands s.now from result }
 {
     let i = from + 1;
     if i < s.len() {
-        if is_digit(s[i]) {
-            IntegerAt::No
-        } else {
-            IntegerAt::Is(0, i)
-        }
+        if is_digit(s[i]) { None } else { Some((0, i)) }
     } else {
-        IntegerAt::No
+        None
     }
 }
 
 // The integer whose first digit, `first`, stands there and is no zero.
-fn digits_from(s: &[u8], from: usize, first: u32) -> IntegerAt
+fn digits_from(s: &[u8], from: usize, first: u32) -> Option<(u32, usize)>
     requires { Stands s.now from (from + 1) (λ w. SpellsInteger w first) × (0 < first) }
     ensures { IntegerStands s.now from result }
 {
@@ -55,18 +44,18 @@ fn digits_from(s: &[u8], from: usize, first: u32) -> IntegerAt
         let d = s[i];
         if is_digit(d) {
             if 9999 < v {
-                return IntegerAt::No;
+                return None;
             }
             v = v * 10 + ((d - b'0') as u32);
         } else {
-            return IntegerAt::Is(v, i);
+            return Some((v, i));
         }
     }
-    IntegerAt::No
+    None
 }
 
 // 1 to 5 digits, no leading zero but 0 itself, and something behind them. The zero goes its own way, so that no turn of the loop tests for it.
-pub fn integer_at(s: &[u8], from: usize) -> IntegerAt
+pub fn integer_at(s: &[u8], from: usize) -> Option<(u32, usize)>
     ensures { IntegerStands s.now from result }
 {
     if from < s.len() {
@@ -79,10 +68,10 @@ pub fn integer_at(s: &[u8], from: usize) -> IntegerAt
                 digits_from(s, from, v)
             }
         } else {
-            IntegerAt::No
+            None
         }
     } else {
-        IntegerAt::No
+        None
     }
 }
 
@@ -93,55 +82,41 @@ fn dot_at(s: &[u8], at: usize) -> bool
     if at < s.len() { s[at] == b'.' } else { false }
 }
 
-// An identifier m.n, and the place behind it.
-#[derive(Clone, Copy)]
-pub enum PairAt {
-    Is(u32, u32, usize),
-    No,
-}
-
-pub fn pair_at(s: &[u8], from: usize) -> PairAt
+pub fn pair_at(s: &[u8], from: usize) -> Option<(u32, u32, usize)>
     ensures { PairStands s.now from result }
 {
-    let IntegerAt::Is(m, p) = integer_at(s, from) else {
-        return PairAt::No;
+    let Some((m, p)) = integer_at(s, from) else {
+        return None;
     };
     if dot_at(s, p) {
-        let IntegerAt::Is(n, e) = integer_at(s, p + 1) else {
-            return PairAt::No;
+        let Some((n, e)) = integer_at(s, p + 1) else {
+            return None;
         };
-        PairAt::Is(m, n, e)
+        Some((m, n, e))
     } else {
-        PairAt::No
+        None
     }
-}
-
-// An identifier x.y.z, and the place behind it.
-#[derive(Clone, Copy)]
-pub enum TripleAt {
-    Is(u32, u32, u32, usize),
-    No,
 }
 
 // Not by `pair_at`: one call more for each identifier costs a twentieth of the time on a text with many.
-pub fn triple_at(s: &[u8], from: usize) -> TripleAt
+pub fn triple_at(s: &[u8], from: usize) -> Option<(u32, u32, u32, usize)>
     ensures { TripleStands s.now from result }
 {
-    let IntegerAt::Is(x, p) = integer_at(s, from) else {
-        return TripleAt::No;
+    let Some((x, p)) = integer_at(s, from) else {
+        return None;
     };
     if dot_at(s, p) {
-        let IntegerAt::Is(y, q) = integer_at(s, p + 1) else {
-            return TripleAt::No;
+        let Some((y, q)) = integer_at(s, p + 1) else {
+            return None;
         };
         if dot_at(s, q) {
-            let IntegerAt::Is(z, e) = integer_at(s, q + 1) else {
-                return TripleAt::No;
+            let Some((z, e)) = integer_at(s, q + 1) else {
+                return None;
             };
-            return TripleAt::Is(x, y, z, e);
+            return Some((x, y, z, e));
         }
     }
-    TripleAt::No
+    None
 }
 
 // Six digits, as a number; NO_SIX where there are none.
@@ -166,30 +141,23 @@ fn six_at(s: &[u8], from: usize) -> u32
     v
 }
 
-// A count of millionths of a degree, and the place behind it.
-#[derive(Clone, Copy)]
-enum DegreesAt {
-    Is(u32, usize),
-    No,
-}
-
 // 1 to 3 digits with no leading zero but a single 0, a point, six digits.
-fn degrees_at(s: &[u8], from: usize) -> DegreesAt
+fn degrees_at(s: &[u8], from: usize) -> Option<(u32, usize)>
     ensures { DegreesStand s.now from result }
 {
-    let IntegerAt::Is(whole, p) = integer_at(s, from) else {
-        return DegreesAt::No;
+    let Some((whole, p)) = integer_at(s, from) else {
+        return None;
     };
     if 999 < whole {
-        return DegreesAt::No;
+        return None;
     }
     if dot_at(s, p) {
         let part = six_at(s, p + 1);
         if part < NO_SIX {
-            return DegreesAt::Is(whole * 1000000 + part, p + 7);
+            return Some((whole * 1000000 + part, p + 7));
         }
     }
-    DegreesAt::No
+    None
 }
 
 // Behind a minus, where one stands there.
@@ -213,40 +181,22 @@ fn with_sign(minus: bool, m: u32) -> i32
     if minus { below } else { above }
 }
 
-// A coordinate, and the place behind it.
-#[derive(Clone, Copy)]
-pub enum CoordinateAt {
-    Is(i32, usize),
-    No,
-}
-
-pub fn coordinate_at(s: &[u8], from: usize) -> CoordinateAt
+pub fn coordinate_at(s: &[u8], from: usize) -> Option<(i32, usize)>
     ensures { CoordinateStands s.now from result }
 {
     let a = behind_minus(s, from);
-    let DegreesAt::Is(m, e) = degrees_at(s, a) else {
-        return CoordinateAt::No;
+    let Some((m, e)) = degrees_at(s, a) else {
+        return None;
     };
-    CoordinateAt::Is(with_sign(from < a, m), e)
-}
-
-// A place further on.
-#[derive(Clone, Copy)]
-pub enum Reached {
-    At(usize),
-    No,
+    Some((with_sign(from < a, m), e))
 }
 
 // Behind one separator or more.
-pub fn gap_at(s: &[u8], from: usize) -> Reached
+pub fn gap_at(s: &[u8], from: usize) -> Option<usize>
     ensures { GapStands s.now from result }
 {
     let a = not_separator_from(s, from);
-    if from < a {
-        Reached::At(a)
-    } else {
-        Reached::No
-    }
+    if from < a { Some(a) } else { None }
 }
 
 // A comment opens there.
@@ -263,7 +213,7 @@ fn opening_at(s: &[u8], at: usize) -> bool
 
 // Behind a comment that opens there, and the separators behind it. A separator may stand inside a comment too, so that one scan for what may not tells of all up to that place. An
 // opening that its line does not close is followed further than the line, but once: such a text is refused.
-fn comment_at(s: &[u8], from: usize) -> Reached
+fn comment_at(s: &[u8], from: usize) -> Option<usize>
     ensures { CommentStands s.now from result }
 {
     if opening_at(s, from) {
@@ -272,62 +222,58 @@ fn comment_at(s: &[u8], from: usize) -> Reached
         if close < s.len() {
             let e = not_separator_from(s, close + 2);
             if e <= not_inside_from(s, a) {
-                return Reached::At(e);
+                return Some(e);
             }
         }
     }
-    Reached::No
+    None
 }
 
 // The end of a line with one CR there.
-fn return_end(s: &[u8], from: usize) -> Reached
+fn return_end(s: &[u8], from: usize) -> Option<usize>
     requires { (from < length s.now) × (get_or s.now from 0 ≡ 13) }
     ensures { BareStands s.now from result }
 {
     let e = from + 1;
     if e < s.len() {
-        if s[e] == LF {
-            Reached::At(e)
-        } else {
-            Reached::No
-        }
+        if s[e] == LF { Some(e) } else { None }
     } else {
-        Reached::At(e)
+        Some(e)
     }
 }
 
 // The line's end there, or behind one CR.
-fn bare_end(s: &[u8], at: usize) -> Reached
+fn bare_end(s: &[u8], at: usize) -> Option<usize>
     ensures { BareStands s.now at result }
 {
     if at < s.len() {
         let b = s[at];
         if b == LF {
-            Reached::At(at)
+            Some(at)
         } else if b == CR {
             return_end(s, at)
         } else {
-            Reached::No
+            None
         }
     } else if at == s.len() {
-        Reached::At(at)
+        Some(at)
     } else {
-        Reached::No
+        None
     }
 }
 
 // The end of a line whose comment opens there.
-fn comment_end(s: &[u8], from: usize) -> Reached
+fn comment_end(s: &[u8], from: usize) -> Option<usize>
     ensures { NoteStands s.now from result }
 {
-    let Reached::At(e) = comment_at(s, from) else {
-        return Reached::No;
+    let Some(e) = comment_at(s, from) else {
+        return None;
     };
     bare_end(s, e)
 }
 
 // The line's end, where nothing but separators, a comment and one CR stands before it.
-pub fn end_at(s: &[u8], from: usize) -> Reached
+pub fn end_at(s: &[u8], from: usize) -> Option<usize>
     ensures { EndStands s.now from result }
 {
     let at = not_separator_from(s, from);

@@ -1,12 +1,10 @@
 -- A keyword or a boundary word that stands in a text, and what a row of the code's tables holds. Assumes nothing.
-use Rattle.std.specs.Prelude.{◌≡◌, [], Bool, true, false, ℕ, ◌+◌, ◌-◌, ◌≤◌, ◌<◌, ltb, length, get_or, take, drop}
+use Rattle.std.specs.Prelude.{◌≡◌, [], Bool, true, false, ℕ, ◌+◌, ◌-◌, ◌≤◌, ◌<◌, ltb, length, get_or, take, drop, Some, None, Option}
 use Rattle.terms.specs.Ascii.{Bytes}
 use Rattle.terms.specs.Words.{pick}
 use Rattle.word.specs.Keywords.{rndf_keywords, boundary_of, Boundary}
 use Rattle.word.specs.Packed.{packed}
 use Rattle.plain_word.specs.declared.Row.{Row}
-use Rattle.plain_word.specs.declared.WordAt as DW
-use Rattle.plain_word.specs.declared.WordAt.TheVariants as WordAt
 
 -- the k-th keyword stands in the text from a place up to another
 pub record KeywordAt (s : Bytes) (from stop k : ℕ) : Type 0 where
@@ -21,14 +19,14 @@ pub record BoundaryAt (s : Bytes) (from stop b : ℕ) : Type 0 where
   pub inside : stop ≤ length s
   pub boundary : Boundary b (take (stop - from) (drop from s))
 
--- what an answer says; `No` says nothing
-abbrev pub KeywordStands : Bytes → ℕ → DW.WordAt → Type 0
-KeywordStands s from (WordAt.Is k stop) = KeywordAt s from stop k
-KeywordStands s from WordAt.No = Unit {0}
+-- what an answer says; `None` says nothing
+abbrev pub KeywordStands : Bytes → ℕ → Option (ℕ × ℕ) → Type 0
+KeywordStands s from (Some (k, stop)) = KeywordAt s from stop k
+KeywordStands s from None = Unit {0}
 
-abbrev pub BoundaryStands : Bytes → ℕ → DW.WordAt → Type 0
-BoundaryStands s from (WordAt.Is b stop) = BoundaryAt s from stop b
-BoundaryStands s from WordAt.No = Unit {0}
+abbrev pub BoundaryStands : Bytes → ℕ → Option (ℕ × ℕ) → Type 0
+BoundaryStands s from (Some (b, stop)) = BoundaryAt s from stop b
+BoundaryStands s from None = Unit {0}
 
 -- ## The tables
 -- the word with a number: a keyword, and from 29 on a boundary word

@@ -14,13 +14,6 @@ ghost use Rattle.std.specs.Prelude.{◌≡◌, ◌<◌, ◌≤◌, ◌+◌, ◌*
 ghost use Rattle.word.specs.Packed.{packed};
 ghost use Rattle.plain_word.specs.Stands.{IsRow, MiddleStands, RowStands, KeywordStands, BoundaryStands};
 
-// A word's number, and the place behind it.
-#[derive(Clone, Copy)]
-pub enum WordAt {
-    Is(u8, usize),
-    No,
-}
-
 // A word: its number, its size, and its letters as numbers: the first eight and the last eight. Where it has no eight they are four.
 // Numbers are those of keywords; behind them, from 29 on, those of boundary words.
 #[derive(Clone, Copy)]
@@ -181,43 +174,43 @@ fn stands(s: &[u8], from: usize, row: Row) -> bool
 }
 
 // The keyword that stands there, and the place behind it.
-pub fn keyword_at(s: &[u8], from: usize) -> WordAt
+pub fn keyword_at(s: &[u8], from: usize) -> Option<(u8, usize)>
     ensures { KeywordStands s.now from result }
 {
     if s.len() < 8 {
-        return WordAt::No;
+        return None;
     }
     if s.len() - 8 < from {
-        return WordAt::No;
+        return None;
     }
     let row = row_at(place_at(s, from));
     if s.len() - from < row.1 {
-        return WordAt::No;
+        return None;
     }
     if stands(s, from, row) {
-        WordAt::Is(row.0, from + row.1)
+        Some((row.0, from + row.1))
     } else {
-        WordAt::No
+        None
     }
 }
 
 // The boundary word that stands there, 1 to 4, and the place behind it.
-pub fn boundary_at(s: &[u8], from: usize) -> WordAt
+pub fn boundary_at(s: &[u8], from: usize) -> Option<(u8, usize)>
     ensures { BoundaryStands s.now from result }
 {
     if s.len() < 8 {
-        return WordAt::No;
+        return None;
     }
     if s.len() - 8 < from {
-        return WordAt::No;
+        return None;
     }
     let row = side_row(s[from + 7]);
     if s.len() - from < row.1 {
-        return WordAt::No;
+        return None;
     }
     if long_stands(s, from, row) {
-        WordAt::Is(row.0 - 28, from + row.1)
+        Some((row.0 - 28, from + row.1))
     } else {
-        WordAt::No
+        None
     }
 }

@@ -1,11 +1,9 @@
 -- Executable: what a reader of an RNDF has so far, and what a statement changes in it, over the program's types. Assumes nothing.
-use Rattle.std.specs.Prelude.{ℕ, suc, ◌+◌}
+use Rattle.std.specs.Prelude.{ℕ, suc, ◌+◌, Some, None, Option}
 use Rattle.grammar.specs.Tables.{first_spot_of}
 use Rattle.room.specs.Room.{fitted}
 use Rattle.units.specs.Made.{feet, feet_of, missing_feet}
 use Rattle.units.specs.declared.Feet.{Feet}
-use Rattle.units.specs.declared.FeetRead.{FeetRead}
-use Rattle.units.specs.declared.FeetRead.TheVariants as F
 use Rattle.rows.specs.declared.Stretch.{Stretch}
 use Rattle.rows.specs.declared.FileRow.{FileRow}
 use Rattle.rows.specs.declared.SegmentRow.{SegmentRow}
@@ -20,9 +18,9 @@ use Rattle.progress.specs.declared.Progress.{Progress}
 
 -- ## Numbers
 -- a width that was refused counts as missing
-abbrev pub width_read : FeetRead → Feet
-width_read (F.Is f) = f
-width_read F.Refused = missing_feet
+abbrev pub width_read : Option Feet → Feet
+width_read (Some f) = f
+width_read None = missing_feet
 
 unfoldable pub width_of : ℕ → Feet
 width_of n = width_read (feet_of n)

@@ -18,7 +18,7 @@ ghost use Rattle.statement.specs.declared.Statement.TheVariants as st;
 use room::in_word;
 use rows::{ExitRow, FileRow, LaneRow, PointRow, SegmentRow, SpotRow, StopRow, Stretch, ZoneRow};
 use statement::Statement;
-use units::{CheckpointNumber, CheckpointNumberRead, Feet, FeetRead};
+use units::{CheckpointNumber, Feet};
 
 #[derive(Clone, Copy)]
 pub struct Progress {
@@ -52,7 +52,7 @@ pub enum Row {
     Zone(ZoneRow),
     Spot(SpotRow),
     Point(PointRow),
-    Checkpoint(CheckpointNumberRead, u32),
+    Checkpoint(Option<CheckpointNumber>, u32),
     Stop(StopRow),
     Exit(ExitRow),
 }
@@ -62,8 +62,8 @@ fn feet(n: u32) -> Feet
     ensures { result ≡ width_of n }
 {
     match Feet::new(n) {
-        FeetRead::Is(width) => width,
-        FeetRead::Refused => Feet::missing(),
+        Some(width) => width,
+        None => Feet::missing(),
     }
 }
 

@@ -1,4 +1,6 @@
 -- WHAT THE EDITIONS TELL APART, from the contract of `read_rndf`: `solid_yellow` and a zone without spots in each of them; so a reader that does not heed the edition is shut out. Request L10. Assumes nothing.
+use Rattle.std.specs.Prelude.{Ok, Err}
+use Rattle.replies.specs.Types.{RndfReply}
 use mathlib.Core.Path.{◌≡◌, refl, sym, ap, ◌∙◌}
 use Prim.Native.Nat.{ℕ, ◌≤◌}
 use native.Mathlib.Omega.{arith}
@@ -26,8 +28,6 @@ use Rattle.law_columns.specs.Finding as Finding
 use Rattle.law_columns.specs.Files.{rndf_column_in_of}
 use Rattle.edition.specs.declared.Edition.TheVariants.{March2007, December2006}
 use Rattle.edition.specs.Editions.{rules_of}
-use Rattle.replies.specs.declared.RndfReply.{RndfReply}
-use Rattle.replies.specs.declared.RndfReply.TheVariants as Reply
 use Rattle.replies.specs.Replies.{longest, bad_line, unended}
 use Rattle.replies.specs.Short.{RefusesRndf}
 use Rattle.promises.specs.Yards.{yellow, no_spots, used}
@@ -70,8 +70,8 @@ edition-cases t = record {
 }
 
 abbrev line_in : RndfReply → ℕ
-line_in (Reply.Accepted c file) = 0
-line_in (Reply.Refused x) = x.line
+line_in (Ok (c, file)) = 0
+line_in (Err x) = x.line
 
 -- no reader meets the contract of both editions: one that does not heed it is shut out, already on either of these texts
 module _ (f : Reader) where

@@ -1,4 +1,5 @@
 -- WHAT WAS ACCEPTED BEFORE L3, and what the edition of December 6, 2006 accepts (L10), is accepted, with the same reply and the same tables: the rules were only widened. From the contracts alone. Assumes nothing.
+use Rattle.std.specs.Prelude.{Ok}
 use mathlib.Core.Path.{◌≡◌, refl, subst}
 use mathlib.Core.List.{List}
 use native.Mathlib.Omega.{arith}
@@ -17,8 +18,6 @@ use Rattle.rows.specs.declared.FileRow.{FileRow}
 use Rattle.rows.specs.declared.MissionFileRow.{MissionFileRow}
 use Rattle.counts.specs.declared.Counts.{Counts}
 use Rattle.counts.specs.declared.MissionCounts.{MissionCounts}
-use Rattle.replies.specs.declared.RndfReply.TheVariants as Reply
-use Rattle.replies.specs.declared.PairReply.TheVariants as Pair
 use Rattle.replies.specs.Replies.{ReadsRndf, ReadsPair}
 use Rattle.replies.specs.Short.{AcceptsRndf, AcceptsMdf}
 use Rattle.edition.specs.declared.Edition as Asked
@@ -120,12 +119,12 @@ module _ (earlier later : Rules) (options : (ls : List (List Line)) (l : List Li
     mdf-accepts : (n : Network Field) (text : Bytes) (u : MissionLent) (m : Mission Field) → AcceptsMdf earlier n text u m → AcceptsMdf later n text u m
     mdf-accepts n text u m a = record { size = a.size; spelled = text-by SpellsMission mission-by m text a.spelled; room = a.room; right = a.right }
 
-    rndf-kept : (text : Bytes) (t left : Lent) (c : Counts) (file : FileRow) → ReadsRndf earlier text t (Reply.Accepted c file) left → ReadsRndf later text t (Reply.Accepted c file) left
+    rndf-kept : (text : Bytes) (t left : Lent) (c : Counts) (file : FileRow) → ReadsRndf earlier text t (Ok (c, file)) left → ReadsRndf later text t (Ok (c, file)) left
     rndf-kept text t left c file (ReadsRndf.accepted n a e f) = ReadsRndf.accepted n (rndf-accepts text t n a) e f
     rndf-kept text t left c file (ReadsRndf.refused line number column a e f) = absurd (subst IsAccepted e tt)
 
     pair-kept : (rndf mdf : Bytes) (t left : Lent) (u mission_left : MissionLent) (c : Counts) (file : FileRow) (d : MissionCounts) (own : MissionFileRow)
-        → ReadsPair earlier rndf mdf t u (Pair.Accepted c file d own) left mission_left → ReadsPair later rndf mdf t u (Pair.Accepted c file d own) left mission_left
+        → ReadsPair earlier rndf mdf t u (Ok (c, file, d, own)) left mission_left → ReadsPair later rndf mdf t u (Ok (c, file, d, own)) left mission_left
     pair-kept rndf mdf t left u k c file d own (ReadsPair.accepted n m a b e f g) = ReadsPair.accepted n m (rndf-accepts rndf t n a) (mdf-accepts n mdf u m b) e f g
     pair-kept rndf mdf t left u k c file d own (ReadsPair.rndf_refused_of line number column a e f g) = absurd (subst IsPairAccepted e tt)
     pair-kept rndf mdf t left u k c file d own (ReadsPair.mdf_refused_of n line number column a b e f g) = absurd (subst IsPairAccepted e tt)

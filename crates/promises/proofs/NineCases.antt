@@ -1,4 +1,6 @@
 -- THE NINE CASES of yard A, yard A itself, and yard A with L1's limit, from the contract of `read_pair` alone, in each edition. Document 01, "Yard A": "The nine cases marked P stand together in a single table under one theorem." Assumes nothing.
+use Rattle.std.specs.Prelude.{Ok}
+use Rattle.replies.specs.Types.{PairReply}
 use mathlib.Core.Path.{◌≡◌, refl, ◌∙◌}
 use mathlib.Core.Logic.{inl, inr}
 use Prim.Native.Nat.{ℕ, ◌≤◌}
@@ -8,8 +10,6 @@ use lib.ListN.{length}
 use Rattle.terms.specs.Ascii.{Bytes, ascii}
 use Rattle.law.specs.Tables.{Lent, MissionLent, HasRoom, MissionHasRoom, filled, mission_filled}
 use Rattle.law.specs.Faults.{MissionFits}
-use Rattle.replies.specs.declared.PairReply.{PairReply}
-use Rattle.replies.specs.declared.PairReply.TheVariants as Pair
 use Rattle.replies.specs.Replies.{longest, bad_line, bad_reference, refusal, mission_file_of, ReadsPair}
 use Rattle.replies.specs.Short.{AcceptsMdf, RefusesRndf, RefusesMdf}
 use Rattle.edition.specs.declared.Edition.{Edition}
@@ -90,25 +90,25 @@ its-file minimum maximum = refl
 
 -- with any limit of segment 1
 taken-with : (edition : Edition) (mdf : Bytes) (minimum maximum : ℕ) (t : Lent) (u : MissionLent) → HasRoom network t → AcceptsMdf (rules_of edition) network mdf u (mission_with 7 minimum maximum) → (r : PairReply) (l : Lent) (k : MissionLent) → ReadsPair (rules_of edition) yard mdf t u r l k
-    → (r ≡ Pair.Accepted counts yard_file mission_counts round_file) × (l ≡ filled network t) × (k ≡ mission_filled (mission_with 7 minimum maximum) u)
+    → (r ≡ Ok (counts, yard_file, mission_counts, round_file)) × (l ≡ filled network t) × (k ≡ mission_filled (mission_with 7 minimum maximum) u)
 taken-with edition mdf minimum maximum t u room a r l k x =
     let s = spelled-pair-accepted edition yard mdf t u r l k x network (mission_with 7 minimum maximum) (yard-taken edition t room) a in
-    (s.0 ∙ (λ i. Pair.Accepted (replied.0 i) (replied.1 i) mission_counts (its-file minimum maximum i)), s.1, s.2)
+    (s.0 ∙ (λ i. Ok (replied.0 i, replied.1 i, mission_counts, its-file minimum maximum i)), s.1, s.2)
 
 pub yard_a : (edition : Edition) (t : Lent) (u : MissionLent) → HasRoom network t → MissionHasRoom mission u → (r : PairReply) (l : Lent) (k : MissionLent) → ReadsPair (rules_of edition) yard round t u r l k
-    → (r ≡ Pair.Accepted counts yard_file mission_counts round_file) × (l ≡ filled network t) × (k ≡ mission_filled mission u)
+    → (r ≡ Ok (counts, yard_file, mission_counts, round_file)) × (l ≡ filled network t) × (k ≡ mission_filled mission u)
 yard_a edition t u room mission-room = taken-with edition round 0 15 t u room (round-taken edition u mission-room)
 
 -- L1: "`1>5>0` is then accepted"
 pub minimum-without-maximum : (edition : Edition) (t : Lent) (u : MissionLent) → HasRoom network t → MissionHasRoom mission_5_0 u → (r : PairReply) (l : Lent) (k : MissionLent) → ReadsPair (rules_of edition) yard limit_5_0 t u r l k
-    → (r ≡ Pair.Accepted counts yard_file mission_counts round_file) × (l ≡ filled network t) × (k ≡ mission_filled mission_5_0 u)
+    → (r ≡ Ok (counts, yard_file, mission_counts, round_file)) × (l ≡ filled network t) × (k ≡ mission_filled mission_5_0 u)
 minimum-without-maximum edition t u room mission-room = taken-with edition limit_5_0 5 0 t u room (record { size = small.limit_5_0; spelled = (spelled edition).limit_5_0; room = mission-room; right = fitting 5 0 })
 
 -- every word, in tables that were in use and are longer than needed
 mission-words-are : mission_filled mission mission_used ≡ round_words
 mission-words-are = refl
 
-pub yard-a-read : (edition : Edition) (r : PairReply) (l : Lent) (k : MissionLent) → ReadsPair (rules_of edition) yard round used mission_used r l k → (r ≡ Pair.Accepted counts yard_file mission_counts round_file) × (l ≡ yard_words) × (k ≡ round_words)
+pub yard-a-read : (edition : Edition) (r : PairReply) (l : Lent) (k : MissionLent) → ReadsPair (rules_of edition) yard round used mission_used r l k → (r ≡ Ok (counts, yard_file, mission_counts, round_file)) × (l ≡ yard_words) × (k ≡ round_words)
 yard-a-read edition r l k x =
     let a = yard_a edition used mission_used room_in-used (record { goals = lit≤ tt; limits = lit≤ tt }) r l k x in
     (a.0, a.1 ∙ words_are, a.2 ∙ mission-words-are)
@@ -117,7 +117,7 @@ yard-a-read edition r l k x =
 zero-kept : mission_filled mission_5_0 mission_used ≡ words_5_0
 zero-kept = refl
 
-pub minimum-without-maximum-read : (edition : Edition) (r : PairReply) (l : Lent) (k : MissionLent) → ReadsPair (rules_of edition) yard limit_5_0 used mission_used r l k → (r ≡ Pair.Accepted counts yard_file mission_counts round_file) × (l ≡ yard_words) × (k ≡ words_5_0)
+pub minimum-without-maximum-read : (edition : Edition) (r : PairReply) (l : Lent) (k : MissionLent) → ReadsPair (rules_of edition) yard limit_5_0 used mission_used r l k → (r ≡ Ok (counts, yard_file, mission_counts, round_file)) × (l ≡ yard_words) × (k ≡ words_5_0)
 minimum-without-maximum-read edition r l k x =
     let a = minimum-without-maximum edition used mission_used room_in-used (record { goals = lit≤ tt; limits = lit≤ tt }) r l k x in
     (a.0, a.1 ∙ words_are, a.2 ∙ zero-kept)

@@ -1,4 +1,6 @@
 -- PROMISES, in document 01's words, in each edition (L10), of whatever meets the contract of `read_pair`: the contract is the only thing that is known of the reader. Assumes nothing.
+use Rattle.std.specs.Prelude.{Ok, Err}
+use Rattle.replies.specs.Types.{PairReply}
 use mathlib.Core.Path.{◌≡◌, refl, sym, ap, subst, ◌∙◌}
 use mathlib.Core.List.{List}
 use mathlib.Core.Logic.{◌⊎◌, inl, inr}
@@ -17,8 +19,6 @@ use Rattle.rows.specs.declared.MissionFileRow.{MissionFileRow}
 use Rattle.counts.specs.declared.Counts.{Counts}
 use Rattle.counts.specs.declared.MissionCounts.{MissionCounts}
 use Rattle.refusal.specs.declared.Refusal.{Refusal}
-use Rattle.replies.specs.declared.PairReply.{PairReply}
-use Rattle.replies.specs.declared.PairReply.TheVariants as Pair
 use Rattle.replies.specs.Replies.{longest, unended, refusal, rows_used_of, network_file, mission_file_of, ReadsPair, accepted, rndf_refused_of, mdf_refused_of}
 use Rattle.replies.specs.Short.{AcceptsRndf, AcceptsMdf}
 use Rattle.replies.proofs.Settled.{pair-settled}
@@ -32,56 +32,56 @@ use Rattle.promises.proofs.Names as Names
 
 -- ## Acceptance and refusal are not the same
 abbrev refusal_in : Refusal → PairReply → Refusal
-refusal_in y (Pair.Accepted c file d own) = y
-refusal_in y (Pair.Refused x) = x
+refusal_in y (Ok (c, file, d, own)) = y
+refusal_in y (Err x) = x
 
 abbrev counts_in : Counts → PairReply → Counts
-counts_in y (Pair.Accepted c file d own) = c
-counts_in y (Pair.Refused x) = y
+counts_in y (Ok (c, file, d, own)) = c
+counts_in y (Err x) = y
 
 abbrev file_in : FileRow → PairReply → FileRow
-file_in y (Pair.Accepted c file d own) = file
-file_in y (Pair.Refused x) = y
+file_in y (Ok (c, file, d, own)) = file
+file_in y (Err x) = y
 
 abbrev mission-counts_in : MissionCounts → PairReply → MissionCounts
-mission-counts_in y (Pair.Accepted c file d own) = d
-mission-counts_in y (Pair.Refused x) = y
+mission-counts_in y (Ok (c, file, d, own)) = d
+mission-counts_in y (Err x) = y
 
 abbrev mission-file_in : MissionFileRow → PairReply → MissionFileRow
-mission-file_in y (Pair.Accepted c file d own) = own
-mission-file_in y (Pair.Refused x) = y
+mission-file_in y (Ok (c, file, d, own)) = own
+mission-file_in y (Err x) = y
 
-pub pair-not-both : {c : Counts} {file : FileRow} {d : MissionCounts} {own : MissionFileRow} {x : Refusal} → Pair.Accepted c file d own ≡ Pair.Refused x → ⊥
+pub pair-not-both : {c : Counts} {file : FileRow} {d : MissionCounts} {own : MissionFileRow} {x : Refusal} → ◌≡◌ {A = PairReply} (Ok (c, file, d, own)) (Err x) → ⊥
 pair-not-both e = subst IsPairAccepted e tt
 
 module _ (edition : Edition) (rndf mdf : Bytes) (t : Lent) (u : MissionLent) where
   -- ## Acceptance
   -- only pairs that spell a network and a mission with every reference right are accepted, and only where there is room ..
-  pub pair-accepted-spelled : (c : Counts) (file : FileRow) (d : MissionCounts) (own : MissionFileRow) (l : Lent) (k : MissionLent) → ReadsPair (rules_of edition) rndf mdf t u (Pair.Accepted c file d own) l k → PairAcceptable (rules_of edition) rndf mdf t u
+  pub pair-accepted-spelled : (c : Counts) (file : FileRow) (d : MissionCounts) (own : MissionFileRow) (l : Lent) (k : MissionLent) → ReadsPair (rules_of edition) rndf mdf t u (Ok (c, file, d, own)) l k → PairAcceptable (rules_of edition) rndf mdf t u
   pair-accepted-spelled c file d own l k (accepted n m a b e p q) = record { net = n; mission = m; network_accepted = a; mission_accepted = b }
   pair-accepted-spelled c file d own l k (rndf_refused_of line number column b e p q) = absurd (pair-not-both e)
   pair-accepted-spelled c file d own l k (mdf_refused_of n line number column a b e p q) = absurd (pair-not-both e)
 
   -- .. and all these are: demand 3. The reply and the tables are then the network's and the mission's: demand 2
   pub spelled-pair-accepted : (r : PairReply) (l : Lent) (k : MissionLent) → ReadsPair (rules_of edition) rndf mdf t u r l k → (n : Network Field) (m : Mission Field) → AcceptsRndf (rules_of edition) rndf t n → AcceptsMdf (rules_of edition) n mdf u m
-      → (r ≡ Pair.Accepted (rows_used_of n) (network_file n) (mission_rows_used m) (mission_file_of m)) × (l ≡ filled n t) × (k ≡ mission_filled m u)
-  spelled-pair-accepted r l k x n m a b = pair-settled (inner edition) rndf mdf t u r (Pair.Accepted (rows_used_of n) (network_file n) (mission_rows_used m) (mission_file_of m)) l (filled n t) k (mission_filled m u) x (accepted n m a b refl refl refl)
+      → (r ≡ Ok (rows_used_of n, network_file n, mission_rows_used m, mission_file_of m)) × (l ≡ filled n t) × (k ≡ mission_filled m u)
+  spelled-pair-accepted r l k x n m a b = pair-settled (inner edition) rndf mdf t u r (Ok (rows_used_of n, network_file n, mission_rows_used m, mission_file_of m)) l (filled n t) k (mission_filled m u) x (accepted n m a b refl refl refl)
 
   -- accepted if and only if so. There is only one such network, and only one such mission: Forms.one-spelled, one-mission edition
   pub pair-accepted-exactly : (r : PairReply) (l : Lent) (k : MissionLent) → ReadsPair (rules_of edition) rndf mdf t u r l k → (IsPairAccepted r → PairAcceptable (rules_of edition) rndf mdf t u) × (PairAcceptable (rules_of edition) rndf mdf t u → IsPairAccepted r)
   pair-accepted-exactly r l k x = (λ e. go r e x, λ a. subst IsPairAccepted (sym (spelled-pair-accepted r l k x a.net a.mission a.network_accepted a.mission_accepted).0) tt)
     where
       go : (r : PairReply) → IsPairAccepted r → ReadsPair (rules_of edition) rndf mdf t u r l k → PairAcceptable (rules_of edition) rndf mdf t u
-      go (Pair.Accepted c file d own) e x = pair-accepted-spelled c file d own l k x
-      go (Pair.Refused y) e x = absurd e
+      go (Ok (c, file, d, own)) e x = pair-accepted-spelled c file d own l k x
+      go (Err y) e x = absurd e
 
   -- ## Meaning
   -- 01: "Acceptance replies with the rows used of each table; rows beyond are zero."
-  pub pair-tables-are : (c : Counts) (file : FileRow) (d : MissionCounts) (own : MissionFileRow) (l : Lent) (k : MissionLent) → ReadsPair (rules_of edition) rndf mdf t u (Pair.Accepted c file d own) l k → (n : Network Field) (m : Mission Field) → SpellsText (rules_of edition) SpellsNetwork n rndf → SpellsText (rules_of edition) SpellsMission m mdf
+  pub pair-tables-are : (c : Counts) (file : FileRow) (d : MissionCounts) (own : MissionFileRow) (l : Lent) (k : MissionLent) → ReadsPair (rules_of edition) rndf mdf t u (Ok (c, file, d, own)) l k → (n : Network Field) (m : Mission Field) → SpellsText (rules_of edition) SpellsNetwork n rndf → SpellsText (rules_of edition) SpellsMission m mdf
       → Meant t u n m c file d own l k
   pair-tables-are c file d own l k x n m h g =
       let a = pair-accepted-spelled c file d own l k x in
-      let s = spelled-pair-accepted (Pair.Accepted c file d own) l k x a.net a.mission a.network_accepted a.mission_accepted in
+      let s = spelled-pair-accepted (Ok (c, file, d, own)) l k x a.net a.mission a.network_accepted a.mission_accepted in
       let p = one-spelled edition rndf a.net n a.network_accepted.spelled h in
       let q = one-mission edition mdf a.mission m a.mission_accepted.spelled g in
       record {
@@ -94,14 +94,14 @@ module _ (edition : Edition) (rndf mdf : Bytes) (t : Lent) (u : MissionLent) whe
       }
 
   -- 01: "The rows of each table are as many as its count lines declare together ..; checkpoints, stops and exits have a row for each of their lines."
-  pub pair-counts-declared : (c : Counts) (file : FileRow) (d : MissionCounts) (own : MissionFileRow) (l : Lent) (k : MissionLent) → ReadsPair (rules_of edition) rndf mdf t u (Pair.Accepted c file d own) l k
+  pub pair-counts-declared : (c : Counts) (file : FileRow) (d : MissionCounts) (own : MissionFileRow) (l : Lent) (k : MissionLent) → ReadsPair (rules_of edition) rndf mdf t u (Ok (c, file, d, own)) l k
       → (n : Network Field) (m : Mission Field) (h : SpellsText (rules_of edition) SpellsNetwork n rndf) (g : SpellsText (rules_of edition) SpellsMission m mdf) → (c ≡ declared h.said) × (d ≡ mission_declared g.said)
   pair-counts-declared c file d own l k x n m h g =
       let s = pair-tables-are c file d own l k x n m h g in
       (s.counted ∙ network-counted edition n h.said h.net, s.mission_counted ∙ mission_counted edition m g.said g.net)
 
   -- 01: "Asking for a name returns that stretch of the caller's own text": its bytes
-  pub pair-names-asked : (c : Counts) (file : FileRow) (d : MissionCounts) (own : MissionFileRow) (l : Lent) (k : MissionLent) → ReadsPair (rules_of edition) rndf mdf t u (Pair.Accepted c file d own) l k → (n : Network Field) (m : Mission Field) → SpellsText (rules_of edition) SpellsNetwork n rndf → SpellsText (rules_of edition) SpellsMission m mdf
+  pub pair-names-asked : (c : Counts) (file : FileRow) (d : MissionCounts) (own : MissionFileRow) (l : Lent) (k : MissionLent) → ReadsPair (rules_of edition) rndf mdf t u (Ok (c, file, d, own)) l k → (n : Network Field) (m : Mission Field) → SpellsText (rules_of edition) SpellsNetwork n rndf → SpellsText (rules_of edition) SpellsMission m mdf
       → NamesAsked rndf file n × MissionNamesAsked mdf own m
   pair-names-asked c file d own l k x n m h g =
       let s = pair-tables-are c file d own l k x n m h g in (
@@ -111,27 +111,27 @@ module _ (edition : Edition) (rndf mdf : Bytes) (t : Lent) (u : MissionLent) whe
 
   -- ## Refusal
   -- 01: "All lent tables .. are then zero over their whole length"; "file (1 RNDF, 2 MDF)"
-  pub pair-refusal_zero : (x : Refusal) (l : Lent) (k : MissionLent) → ReadsPair (rules_of edition) rndf mdf t u (Pair.Refused x) l k → ((x.file ≡ 1) ⊎ (x.file ≡ 2)) × (l ≡ zeros t) × (k ≡ mission_zeros u)
+  pub pair-refusal_zero : (x : Refusal) (l : Lent) (k : MissionLent) → ReadsPair (rules_of edition) rndf mdf t u (Err x) l k → ((x.file ≡ 1) ⊎ (x.file ≡ 2)) × (l ≡ zeros t) × (k ≡ mission_zeros u)
   pair-refusal_zero x l k (accepted n m a b e p q) = absurd (pair-not-both (sym e))
   pair-refusal_zero x l k (rndf_refused_of line number column b e p q) = (inl (ap (λ (y : Refusal). y.file) (ap (refusal_in x) e)), p, q)
   pair-refusal_zero x l k (mdf_refused_of n line number column a b e p q) = (inr (ap (λ (y : Refusal). y.file) (ap (refusal_in x) e)), p, q)
 
   -- file, line, number and column are those of the first refusal, in document 01's order: the RNDF's, else the MDF's for the network that the RNDF spells
-  pub pair-refusal-right : (x : Refusal) (l : Lent) (k : MissionLent) → ReadsPair (rules_of edition) rndf mdf t u (Pair.Refused x) l k → PairRefuses (rules_of edition) rndf mdf t u x
+  pub pair-refusal-right : (x : Refusal) (l : Lent) (k : MissionLent) → ReadsPair (rules_of edition) rndf mdf t u (Err x) l k → PairRefuses (rules_of edition) rndf mdf t u x
   pair-refusal-right x l k (accepted n m a b e p q) = absurd (pair-not-both (sym e))
   pair-refusal-right x l k (rndf_refused_of line number column b e p q) = subst (PairRefuses (rules_of edition) rndf mdf t u) (sym (ap (refusal_in x) e)) (inl (refl, b))
   pair-refusal-right x l k (mdf_refused_of n line number column a b e p q) = subst (PairRefuses (rules_of edition) rndf mdf t u) (sym (ap (refusal_in x) e)) (inr (refl, (n, a, b)))
 
-  pub pair-refusal-only : (r : PairReply) (l : Lent) (k : MissionLent) → ReadsPair (rules_of edition) rndf mdf t u r l k → (x : Refusal) → PairRefuses (rules_of edition) rndf mdf t u x → (r ≡ Pair.Refused x) × (l ≡ zeros t) × (k ≡ mission_zeros u)
-  pair-refusal-only r l k h x (inl b) = pair-settled (inner edition) rndf mdf t u r (Pair.Refused x) l (zeros t) k (mission_zeros u) h (rndf_refused_of x.line x.number x.column b.1 (ap (λ (y : ℕ). Pair.Refused (refusal y x.line x.number x.column)) b.0) refl refl)
-  pair-refusal-only r l k h x (inr b) = pair-settled (inner edition) rndf mdf t u r (Pair.Refused x) l (zeros t) k (mission_zeros u) h (mdf_refused_of b.1.0 x.line x.number x.column b.1.1 b.1.2 (ap (λ (y : ℕ). Pair.Refused (refusal y x.line x.number x.column)) b.0) refl refl)
+  pub pair-refusal-only : (r : PairReply) (l : Lent) (k : MissionLent) → ReadsPair (rules_of edition) rndf mdf t u r l k → (x : Refusal) → PairRefuses (rules_of edition) rndf mdf t u x → (r ≡ Err x) × (l ≡ zeros t) × (k ≡ mission_zeros u)
+  pair-refusal-only r l k h x (inl b) = pair-settled (inner edition) rndf mdf t u r (Err x) l (zeros t) k (mission_zeros u) h (rndf_refused_of x.line x.number x.column b.1 (ap (λ (y : ℕ). Err (refusal y x.line x.number x.column)) b.0) refl refl)
+  pair-refusal-only r l k h x (inr b) = pair-settled (inner edition) rndf mdf t u r (Err x) l (zeros t) k (mission_zeros u) h (mdf_refused_of b.1.0 x.line x.number x.column b.1.1 b.1.2 (ap (λ (y : ℕ). Err (refusal y x.line x.number x.column)) b.0) refl refl)
 
   -- 10 is replied to every RNDF that is not too long, whose lines begin some well-formed text, and which is none; to every such MDF with an RNDF that is accepted; and to no other pair (pair-refused-end)
-  pub rndf-end-refused : (r : PairReply) (l : Lent) (k : MissionLent) (line : ℕ) → ReadsPair (rules_of edition) rndf mdf t u r l k → length rndf ≤ longest → RefusedEnd (rules_of edition) SpellsNetwork rndf line → (r ≡ Pair.Refused (refusal 1 line 10 0)) × (l ≡ zeros t) × (k ≡ mission_zeros u)
+  pub rndf-end-refused : (r : PairReply) (l : Lent) (k : MissionLent) (line : ℕ) → ReadsPair (rules_of edition) rndf mdf t u r l k → length rndf ≤ longest → RefusedEnd (rules_of edition) SpellsNetwork rndf line → (r ≡ Err (refusal 1 line 10 0)) × (l ≡ zeros t) × (k ≡ mission_zeros u)
   rndf-end-refused r l k line h size e = pair-refusal-only r l k h (refusal 1 line 10 0) (inl (refl, unended size (rndf-end-unended edition rndf line e)))
 
   pub mdf-end-refused : (r : PairReply) (l : Lent) (k : MissionLent) (line : ℕ) → ReadsPair (rules_of edition) rndf mdf t u r l k → (n : Network Field) → AcceptsRndf (rules_of edition) rndf t n → length mdf ≤ longest → RefusedEnd (rules_of edition) SpellsMission mdf line
-      → (r ≡ Pair.Refused (refusal 2 line 10 0)) × (l ≡ zeros t) × (k ≡ mission_zeros u)
+      → (r ≡ Err (refusal 2 line 10 0)) × (l ≡ zeros t) × (k ≡ mission_zeros u)
   mdf-end-refused r l k line h n a size e = pair-refusal-only r l k h (refusal 2 line 10 0) (inr (refl, (n, a, unended size (mdf-end-unended edition mdf line e))))
 
   -- ## What each number tells, of the file that is named
@@ -144,7 +144,7 @@ module _ (edition : Edition) (rndf mdf : Bytes) (t : Lent) (u : MissionLent) whe
   abbrev Wrong : Network Field → Mission Field → List Line → Line → ℕ → Type 0
   Wrong n m = MdfFault n
 
-  module _ (x : Refusal) (l : Lent) (k : MissionLent) (h : ReadsPair (rules_of edition) rndf mdf t u (Pair.Refused x) l k) where
+  module _ (x : Refusal) (l : Lent) (k : MissionLent) (h : ReadsPair (rules_of edition) rndf mdf t u (Err x) l k) where
     -- no other number is replied than those that the next five tell of
     pub pair-refused-number : OneOfFive x.number
     pair-refused-number = go (pair-refusal-right x l k h)

@@ -1,4 +1,6 @@
 -- SHUT OUT, as document 01 asks ("The contracts have to shut out: .."): each reader of an RNDF with its MDF that it names does not meet the contract in any edition, already on the one or two pairs that are named here. Assumes nothing.
+use Rattle.std.specs.Prelude.{Ok, Err}
+use Rattle.replies.specs.Types.{PairReply}
 use mathlib.Core.Path.{◌≡◌, sym, ap, subst, ◌∙◌}
 use mathlib.Core.List.{List, [], ◌∷◌}
 use mathlib.Core.Logic.{◌⊎◌, inl, inr}
@@ -13,8 +15,6 @@ use Rattle.rows.specs.declared.MissionFileRow.{MissionFileRow}
 use Rattle.counts.specs.declared.Counts.{Counts}
 use Rattle.counts.specs.declared.MissionCounts.{MissionCounts}
 use Rattle.refusal.specs.declared.Refusal.{Refusal}
-use Rattle.replies.specs.declared.PairReply.{PairReply}
-use Rattle.replies.specs.declared.PairReply.TheVariants as Pair
 use Rattle.replies.specs.Replies.{rows_used_of, ReadsPair}
 use Rattle.replies.proofs.Settled.{pair-some}
 use Rattle.law_columns.specs.Files.{rndf_column_in_of}
@@ -41,11 +41,11 @@ first-of [] = 0
 first-of (a ∷ l) = a
 
 abbrev file_in : PairReply → ℕ
-file_in (Pair.Accepted c file d own) = 0
-file_in (Pair.Refused x) = x.file
+file_in (Ok (c, file, d, own)) = 0
+file_in (Err x) = x.file
 
 module _ (edition : Edition) (f : PairReader) where
-  on-yard : On edition f yard round → ((done f yard round).reply ≡ Pair.Accepted counts yard_file mission_counts round_file) × ((done f yard round).left ≡ yard_words) × ((done f yard round).mission_left ≡ round_words)
+  on-yard : On edition f yard round → ((done f yard round).reply ≡ Ok (counts, yard_file, mission_counts, round_file)) × ((done f yard round).left ≡ yard_words) × ((done f yard round).mission_left ≡ round_words)
   on-yard m = yard-a-read edition (done f yard round).reply (done f yard round).left (done f yard round).mission_left m
 
   -- a wrong second line of the RNDF, and a wrong limit of the MDF
@@ -56,7 +56,7 @@ module _ (edition : Edition) (f : PairReader) where
   wrong-limit = limit-refused edition used mission_used room_in-used
 
   -- 01: "a reader that refuses all": it would refuse yard A
-  pub refuses-all : On edition f yard round → (x : Refusal) → (done f yard round).reply ≡ Pair.Refused x → ⊥
+  pub refuses-all : On edition f yard round → (x : Refusal) → (done f yard round).reply ≡ Err x → ⊥
   refuses-all m x e = pair-not-both (sym (on-yard m).0 ∙ e)
 
   -- 01: "one with a single fixed reply": it would reply the same to yard A and with a wrong limit in its MDF
@@ -85,7 +85,7 @@ module _ (edition : Edition) (f : PairReader) where
 
   -- 01: "one that invents row counts": of any pair they are those of the network and the mission that it spells
   pub invents-counts : (rndf mdf : Bytes) (t : Lent) (u : MissionLent) → PairMeets edition f rndf mdf t u → (c : Counts) (file : FileRow) (d : MissionCounts) (own : MissionFileRow) (n : Network Field) (m : Mission Field) → SpellsText (rules_of edition) SpellsNetwork n rndf → SpellsText (rules_of edition) SpellsMission m mdf
-      → (f rndf mdf t u).reply ≡ Pair.Accepted c file d own → ((c ≡ rows_used_of n) × (d ≡ mission_rows_used m) → ⊥) → ⊥
+      → (f rndf mdf t u).reply ≡ Ok (c, file, d, own) → ((c ≡ rows_used_of n) × (d ≡ mission_rows_used m) → ⊥) → ⊥
   invents-counts rndf mdf t u x c file d own n m h g e not =
       let s = pair-tables-are edition rndf mdf t u c file d own (f rndf mdf t u).left (f rndf mdf t u).mission_left (subst (λ (r : PairReply). ReadsPair (rules_of edition) rndf mdf t u r (f rndf mdf t u).left (f rndf mdf t u).mission_left) e x) n m h g in
       not (s.counted, s.mission_counted)

@@ -1,4 +1,6 @@
 -- PROMISES, in document 01's words, in each edition (L10), of whatever meets the contract of `read_rndf`: the contract is the only thing that is known of the reader. Assumes nothing.
+use Rattle.std.specs.Prelude.{Ok, Err}
+use Rattle.replies.specs.Types.{RndfReply}
 use mathlib.Core.Path.{◌≡◌, refl, sym, ap, subst, ◌∙◌}
 use Prim.Native.Nat.{ℕ, ◌≤◌, ◌<◌}
 use lib.ListN.{length}
@@ -13,8 +15,6 @@ use Rattle.law.specs.Faults.{Sound, RndfFault}
 use Rattle.rows.specs.declared.FileRow.{FileRow}
 use Rattle.counts.specs.declared.Counts.{Counts}
 use Rattle.refusal.specs.declared.Refusal.{Refusal}
-use Rattle.replies.specs.declared.RndfReply.{RndfReply}
-use Rattle.replies.specs.declared.RndfReply.TheVariants as Reply
 use Rattle.replies.specs.Replies.{longest, unended, refusal, rows_used_of, network_file, ReadsRndf, accepted, refused}
 use Rattle.replies.specs.Short.{AcceptsRndf, RefusesRndf}
 use Rattle.replies.proofs.Settled.{rndf-settled}
@@ -28,78 +28,78 @@ use Rattle.promises.proofs.Names as Names
 
 -- ## Acceptance and refusal are not the same
 abbrev refusal_in : Refusal → RndfReply → Refusal
-refusal_in y (Reply.Accepted c file) = y
-refusal_in y (Reply.Refused x) = x
+refusal_in y (Ok (c, file)) = y
+refusal_in y (Err x) = x
 
 abbrev counts_in : Counts → RndfReply → Counts
-counts_in d (Reply.Accepted c file) = c
-counts_in d (Reply.Refused x) = d
+counts_in d (Ok (c, file)) = c
+counts_in d (Err x) = d
 
 abbrev file_in : FileRow → RndfReply → FileRow
-file_in d (Reply.Accepted c file) = file
-file_in d (Reply.Refused x) = d
+file_in d (Ok (c, file)) = file
+file_in d (Err x) = d
 
-pub not-both : {c : Counts} {file : FileRow} {x : Refusal} → Reply.Accepted c file ≡ Reply.Refused x → ⊥
+pub not-both : {c : Counts} {file : FileRow} {x : Refusal} → ◌≡◌ {A = RndfReply} (Ok (c, file)) (Err x) → ⊥
 not-both e = subst IsAccepted e tt
 
 module _ (edition : Edition) (text : Bytes) (t : Lent) where
   -- ## Acceptance
   -- only texts that spell a network with every reference right are accepted, and only where there is room for its rows ..
-  pub accepted-spelled : (c : Counts) (file : FileRow) (l : Lent) → ReadsRndf (rules_of edition) text t (Reply.Accepted c file) l → Acceptable (rules_of edition) text t
+  pub accepted-spelled : (c : Counts) (file : FileRow) (l : Lent) → ReadsRndf (rules_of edition) text t (Ok (c, file)) l → Acceptable (rules_of edition) text t
   accepted-spelled c file l (accepted n a e k) = (n, a)
   accepted-spelled c file l (refused line number column a e k) = absurd (not-both e)
 
   -- .. and all these are: demand 3. The reply and the tables are then the network's: demand 2
-  pub spelled-accepted : (r : RndfReply) (l : Lent) → ReadsRndf (rules_of edition) text t r l → (n : Network Field) → AcceptsRndf (rules_of edition) text t n → (r ≡ Reply.Accepted (rows_used_of n) (network_file n)) × (l ≡ filled n t)
-  spelled-accepted r l x n a = rndf-settled (inner edition) text t r (Reply.Accepted (rows_used_of n) (network_file n)) l (filled n t) x (accepted n a refl refl)
+  pub spelled-accepted : (r : RndfReply) (l : Lent) → ReadsRndf (rules_of edition) text t r l → (n : Network Field) → AcceptsRndf (rules_of edition) text t n → (r ≡ Ok (rows_used_of n, network_file n)) × (l ≡ filled n t)
+  spelled-accepted r l x n a = rndf-settled (inner edition) text t r (Ok (rows_used_of n, network_file n)) l (filled n t) x (accepted n a refl refl)
 
   -- accepted if and only if so. There is only one such network: Forms.one-spelled
   pub accepted-exactly : (r : RndfReply) (l : Lent) → ReadsRndf (rules_of edition) text t r l → (IsAccepted r → Acceptable (rules_of edition) text t) × (Acceptable (rules_of edition) text t → IsAccepted r)
   accepted-exactly r l x = (λ e. go r e x, λ a. subst IsAccepted (sym (spelled-accepted r l x a.0 a.1).0) tt)
     where
       go : (r : RndfReply) → IsAccepted r → ReadsRndf (rules_of edition) text t r l → Acceptable (rules_of edition) text t
-      go (Reply.Accepted c file) e x = accepted-spelled c file l x
-      go (Reply.Refused y) e x = absurd e
+      go (Ok (c, file)) e x = accepted-spelled c file l x
+      go (Err y) e x = absurd e
 
   -- ## Meaning
   -- 01: "Acceptance replies with the rows used of each table; rows beyond are zero."
-  pub tables-are : (c : Counts) (file : FileRow) (l : Lent) → ReadsRndf (rules_of edition) text t (Reply.Accepted c file) l → (n : Network Field) → SpellsText (rules_of edition) SpellsNetwork n text → (c ≡ rows_used_of n) × (file ≡ network_file n) × (l ≡ filled n t)
+  pub tables-are : (c : Counts) (file : FileRow) (l : Lent) → ReadsRndf (rules_of edition) text t (Ok (c, file)) l → (n : Network Field) → SpellsText (rules_of edition) SpellsNetwork n text → (c ≡ rows_used_of n) × (file ≡ network_file n) × (l ≡ filled n t)
   tables-are c file l x n h =
       let a = accepted-spelled c file l x in
-      let s = spelled-accepted (Reply.Accepted c file) l x n (subst (AcceptsRndf (rules_of edition) text t) (one-spelled edition text a.0 n a.1.spelled h) a.1) in
+      let s = spelled-accepted (Ok (c, file)) l x n (subst (AcceptsRndf (rules_of edition) text t) (one-spelled edition text a.0 n a.1.spelled h) a.1) in
       (ap (counts_in c) s.0, ap (file_in file) s.0, s.1)
 
   -- 01: "The rows of each table are as many as its count lines declare together ..; checkpoints, stops and exits have a row for each of their lines."
-  pub counts-declared : (c : Counts) (file : FileRow) (l : Lent) → ReadsRndf (rules_of edition) text t (Reply.Accepted c file) l → (n : Network Field) (h : SpellsText (rules_of edition) SpellsNetwork n text) → c ≡ declared h.said
+  pub counts-declared : (c : Counts) (file : FileRow) (l : Lent) → ReadsRndf (rules_of edition) text t (Ok (c, file)) l → (n : Network Field) (h : SpellsText (rules_of edition) SpellsNetwork n text) → c ≡ declared h.said
   counts-declared c file l x n h = (tables-are c file l x n h).0 ∙ network-counted edition n h.said h.net
 
   -- 01: "Asking for a name returns that stretch of the caller's own text": its bytes
-  pub names-asked : (c : Counts) (file : FileRow) (l : Lent) → ReadsRndf (rules_of edition) text t (Reply.Accepted c file) l → (n : Network Field) → SpellsText (rules_of edition) SpellsNetwork n text → NamesAsked text file n
+  pub names-asked : (c : Counts) (file : FileRow) (l : Lent) → ReadsRndf (rules_of edition) text t (Ok (c, file)) l → (n : Network Field) → SpellsText (rules_of edition) SpellsNetwork n text → NamesAsked text file n
   names-asked c file l x n h = subst (λ (row : FileRow). NamesAsked text row n) (sym (tables-are c file l x n h).1) (Names.names-asked text edition n h)
 
   -- ## Refusal
   -- 01: "All lent tables .. are then zero over their whole length"; "1, 11 and 19 of a part that takes no MDF give file 1"
-  pub refusal_zero : (x : Refusal) (l : Lent) → ReadsRndf (rules_of edition) text t (Reply.Refused x) l → (x.file ≡ 1) × (l ≡ zeros t)
+  pub refusal_zero : (x : Refusal) (l : Lent) → ReadsRndf (rules_of edition) text t (Err x) l → (x.file ≡ 1) × (l ≡ zeros t)
   refusal_zero x l (accepted n a e k) = absurd (not-both (sym e))
   refusal_zero x l (refused line number column a e k) = (ap (λ (y : Refusal). y.file) (ap (refusal_in x) e), k)
 
   -- line, number and column are those of the first refusal, in document 01's order
-  pub refusal-right : (x : Refusal) (l : Lent) → ReadsRndf (rules_of edition) text t (Reply.Refused x) l → RefusesRndf (rules_of edition) text t x.line x.number x.column
+  pub refusal-right : (x : Refusal) (l : Lent) → ReadsRndf (rules_of edition) text t (Err x) l → RefusesRndf (rules_of edition) text t x.line x.number x.column
   refusal-right x l (accepted n a e k) = absurd (not-both (sym e))
   refusal-right x l (refused line number column a e k) = subst (λ (y : Refusal). RefusesRndf (rules_of edition) text t y.line y.number y.column) (sym (ap (refusal_in x) e)) a
 
-  pub refusal-only : (r : RndfReply) (l : Lent) (line number column : ℕ) → ReadsRndf (rules_of edition) text t r l → RefusesRndf (rules_of edition) text t line number column → (r ≡ Reply.Refused (refusal 1 line number column)) × (l ≡ zeros t)
-  refusal-only r l line number column x a = rndf-settled (inner edition) text t r (Reply.Refused (refusal 1 line number column)) l (zeros t) x (refused line number column a refl refl)
+  pub refusal-only : (r : RndfReply) (l : Lent) (line number column : ℕ) → ReadsRndf (rules_of edition) text t r l → RefusesRndf (rules_of edition) text t line number column → (r ≡ Err (refusal 1 line number column)) × (l ≡ zeros t)
+  refusal-only r l line number column x a = rndf-settled (inner edition) text t r (Err (refusal 1 line number column)) l (zeros t) x (refused line number column a refl refl)
 
   -- 10 is replied to every text that is not too long, whose lines begin some well-formed text, and which is none; and to no other (refused_end)
-  pub end_refused : (r : RndfReply) (l : Lent) (line : ℕ) → ReadsRndf (rules_of edition) text t r l → length text ≤ longest → RefusedEnd (rules_of edition) SpellsNetwork text line → (r ≡ Reply.Refused (refusal 1 line 10 0)) × (l ≡ zeros t)
+  pub end_refused : (r : RndfReply) (l : Lent) (line : ℕ) → ReadsRndf (rules_of edition) text t r l → length text ≤ longest → RefusedEnd (rules_of edition) SpellsNetwork text line → (r ≡ Err (refusal 1 line 10 0)) × (l ≡ zeros t)
   end_refused r l line x size e = refusal-only r l line 10 0 x (unended size (rndf-end-unended edition text line e))
 
   -- ## What each number tells
   abbrev Roomy : Network Field → Type 0
   Roomy n = HasRoom n t
 
-  module _ (x : Refusal) (l : Lent) (h : ReadsRndf (rules_of edition) text t (Reply.Refused x) l) where
+  module _ (x : Refusal) (l : Lent) (h : ReadsRndf (rules_of edition) text t (Err x) l) where
     -- no other number is replied than those that the next five tell of
     pub refused-number : OneOfFive x.number
     refused-number = number_by (rules_of edition) SpellsNetwork Roomy Sound RndfFault text (the_rndf_form_of edition text) rndf-reference x.line x.number x.column (refusal-right x l h)

@@ -1,4 +1,6 @@
 -- SHUT OUT, as document 01 asks ("The contracts have to shut out: .."): each reader of an RNDF that it names does not meet the contract in any edition, already on the one or two texts that are named here. Assumes nothing.
+use Rattle.std.specs.Prelude.{Ok, Err}
+use Rattle.replies.specs.Types.{RndfReply}
 use mathlib.Core.Path.{◌≡◌, sym, ap, subst, ◌∙◌}
 use mathlib.Core.List.{List, [], ◌∷◌}
 use Prim.Native.Nat.{ℕ}
@@ -10,8 +12,6 @@ use Rattle.law.specs.Tables.{Lent, zeros}
 use Rattle.rows.specs.declared.FileRow.{FileRow}
 use Rattle.counts.specs.declared.Counts.{Counts}
 use Rattle.refusal.specs.declared.Refusal.{Refusal}
-use Rattle.replies.specs.declared.RndfReply.{RndfReply}
-use Rattle.replies.specs.declared.RndfReply.TheVariants as Reply
 use Rattle.replies.specs.Replies.{rows_used_of, ReadsRndf}
 use Rattle.replies.specs.Short.{RefusesRndf}
 use Rattle.replies.proofs.Settled.{rndf-some}
@@ -35,15 +35,15 @@ second-of (a ∷ []) = 0
 second-of (a ∷ b ∷ l) = b
 
 abbrev line_in : RndfReply → ℕ
-line_in (Reply.Accepted c file) = 0
-line_in (Reply.Refused x) = x.line
+line_in (Ok (c, file)) = 0
+line_in (Err x) = x.line
 
 module _ (edition : Edition) (f : Reader) where
-  on-yard : Meets edition f yard used → ((f yard used).0 ≡ Reply.Accepted counts yard_file) × ((f yard used).1 ≡ yard_words)
+  on-yard : Meets edition f yard used → ((f yard used).0 ≡ Ok (counts, yard_file)) × ((f yard used).1 ≡ yard_words)
   on-yard m = yard-read edition (f yard used).0 (f yard used).1 m
 
   -- 01: "a reader that refuses all": it would refuse yard A
-  pub refuses-all : Meets edition f yard used → (x : Refusal) → (f yard used).0 ≡ Reply.Refused x → ⊥
+  pub refuses-all : Meets edition f yard used → (x : Refusal) → (f yard used).0 ≡ Err x → ⊥
   refuses-all m x e = not-both (sym (on-yard m).0 ∙ e)
 
   -- 01: "one with a single fixed reply": it would reply the same to yard A and to a text with a wrong second line
@@ -67,10 +67,10 @@ module _ (edition : Edition) (f : Reader) where
   writes-zeros m e = let z : ◌≡◌ {A = ℕ} 0 2 = ap (λ (l : Lent). second-of l.lanes) (sym e ∙ (on-yard m).1) in omega arith
 
   -- 01: "one that invents row counts": of any text they are those of the network that it spells, and of yard A 1 segment, 1 lane, 2 points, 1 checkpoint and 1 exit, whatever is lent
-  pub invents-counts : (text : Bytes) (t : Lent) → Meets edition f text t → (c : Counts) (file : FileRow) (n : Network Field) → SpellsText (rules_of edition) SpellsNetwork n text → (f text t).0 ≡ Reply.Accepted c file → (c ≡ rows_used_of n → ⊥) → ⊥
+  pub invents-counts : (text : Bytes) (t : Lent) → Meets edition f text t → (c : Counts) (file : FileRow) (n : Network Field) → SpellsText (rules_of edition) SpellsNetwork n text → (f text t).0 ≡ Ok (c, file) → (c ≡ rows_used_of n → ⊥) → ⊥
   invents-counts text t m c file n h e not = not (tables-are edition text t c file (f text t).1 (subst (λ (r : RndfReply). ReadsRndf (rules_of edition) text t r (f text t).1) e m) n h).0
 
-  pub invents-yard-counts : (t : Lent) → Meets edition f yard t → (c : Counts) (file : FileRow) → (f yard t).0 ≡ Reply.Accepted c file → (c ≡ counts → ⊥) → ⊥
+  pub invents-yard-counts : (t : Lent) → Meets edition f yard t → (c : Counts) (file : FileRow) → (f yard t).0 ≡ Ok (c, file) → (c ≡ counts → ⊥) → ⊥
   invents-yard-counts t m c file e not = invents-counts yard t m c file network (spelled edition).yard e (λ q. not (q ∙ replied.0))
 
   -- 01: "one that judges only the first line, lane or segment and nods the rest through": it would accept a text whose first line, lane or segment is good, and whose second is not

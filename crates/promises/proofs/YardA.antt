@@ -1,4 +1,6 @@
 -- YARD A'S RNDF alone, from the contract of `read_rndf`, in each edition: what it gets, and what one change of it each gets. Document 01, "Yard A". Assumes nothing.
+use Rattle.std.specs.Prelude.{Ok}
+use Rattle.replies.specs.Types.{RndfReply}
 use mathlib.Core.Path.{◌≡◌, refl, ◌∙◌}
 use mathlib.Core.List.{[]}
 use Prim.Native.Nat.{ℕ, ◌≤◌}
@@ -8,8 +10,6 @@ use lib.ListN.{length}
 use Rattle.terms.specs.Ascii.{Bytes, ascii}
 use Rattle.law.specs.Tables.{Lent, HasRoom, filled}
 use Rattle.law.specs.Faults.{Sound, waypoint, first}
-use Rattle.replies.specs.declared.RndfReply.{RndfReply}
-use Rattle.replies.specs.declared.RndfReply.TheVariants as Reply
 use Rattle.replies.specs.Replies.{longest, bad_line, unended, bad_reference, rows_used_of, network_file, ReadsRndf}
 use Rattle.replies.specs.Short.{AcceptsRndf, RefusesRndf}
 use Rattle.edition.specs.declared.Edition.{Edition}
@@ -49,10 +49,10 @@ pub replied : (rows_used_of network ≡ counts) × (network_file network ≡ yar
 unfolding ascii
 replied = (refl, refl)
 
-pub yard-accepted : (edition : Edition) (t : Lent) (r : RndfReply) (l : Lent) → ReadsRndf (rules_of edition) yard t r l → HasRoom network t → (r ≡ Reply.Accepted counts yard_file) × (l ≡ filled network t)
+pub yard-accepted : (edition : Edition) (t : Lent) (r : RndfReply) (l : Lent) → ReadsRndf (rules_of edition) yard t r l → HasRoom network t → (r ≡ Ok (counts, yard_file)) × (l ≡ filled network t)
 yard-accepted edition t r l x room =
     let a = spelled-accepted edition yard t r l x network (yard-taken edition t room) in
-    (a.0 ∙ (λ i. Reply.Accepted (replied.0 i) (replied.1 i)), a.1)
+    (a.0 ∙ (λ i. Ok (replied.0 i, replied.1 i)), a.1)
 
 -- its words, in tables that were in use
 pub room_in-used : HasRoom network used
@@ -61,7 +61,7 @@ room_in-used = record { segments = lit≤ tt; lanes = lit≤ tt; zones = lit≤ 
 pub words_are : filled network used ≡ yard_words
 words_are = refl
 
-pub yard-read : (edition : Edition) (r : RndfReply) (l : Lent) → ReadsRndf (rules_of edition) yard used r l → (r ≡ Reply.Accepted counts yard_file) × (l ≡ yard_words)
+pub yard-read : (edition : Edition) (r : RndfReply) (l : Lent) → ReadsRndf (rules_of edition) yard used r l → (r ≡ Ok (counts, yard_file)) × (l ≡ yard_words)
 yard-read edition r l x = let a = yard-accepted edition used r l x room_in-used in (a.0, a.1 ∙ words_are)
 
 -- ## One change each

@@ -1,5 +1,6 @@
 -- WHAT A READER MUST BELIEVE. What is accepted, and what asking for a name gives. Document 01, "How much a contract has to say", "Tables". Assumes nothing.
-use Rattle.std.specs.Prelude.{◌≡◌}
+use Rattle.replies.specs.Types.{PairReply, RndfReply}
+use Rattle.std.specs.Prelude.{◌≡◌, Ok, Err}
 use Rattle.terms.specs.Words.{[], Option, none, some, length, Bytes, Each}
 use Rattle.line.specs.Line.{Field}
 use Rattle.law.specs.Network.{Network, Mission, Rules}
@@ -9,20 +10,16 @@ use Rattle.rows.specs.declared.MissionFileRow.{MissionFileRow}
 use Rattle.rows.specs.Name.{name_of}
 use Rattle.counts.specs.declared.Counts.{Counts}
 use Rattle.counts.specs.declared.MissionCounts.{MissionCounts}
-use Rattle.replies.specs.declared.RndfReply.{RndfReply}
-use Rattle.replies.specs.declared.RndfReply.TheVariants as Reply
-use Rattle.replies.specs.declared.PairReply.{PairReply}
-use Rattle.replies.specs.declared.PairReply.TheVariants as Pair
 use Rattle.replies.specs.Replies.{an_rndf, an_mdf, Accepts, rows_used_of, stretch, network_file, mission_file_of}
 
 -- ## Replies that accept
 abbrev pub IsAccepted : RndfReply → Type 0
-IsAccepted (Reply.Accepted c file) = Unit {0}
-IsAccepted (Reply.Refused x) = ⊥
+IsAccepted (Ok (c, file)) = Unit {0}
+IsAccepted (Err x) = ⊥
 
 abbrev pub IsPairAccepted : PairReply → Type 0
-IsPairAccepted (Pair.Accepted c file d own) = Unit {0}
-IsPairAccepted (Pair.Refused x) = ⊥
+IsPairAccepted (Ok (c, file, d, own)) = Unit {0}
+IsPairAccepted (Err x) = ⊥
 
 -- ## Texts to be accepted. 01: "every pair that spells a network and mission is accepted"
 -- the text spells a network whose references are right; it is not too long, and there is room

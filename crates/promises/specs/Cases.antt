@@ -1,23 +1,20 @@
 -- WHAT A READER MUST BELIEVE. The table of yard A's nine cases, and what it is that a text, or a pair, is refused. Document 01, "Yard A"; the columns: document 02, L7; in each edition: L10. Assumes nothing.
-use Rattle.std.specs.Prelude.{◌≡◌, ◌∷◌}
+use Rattle.replies.specs.Types.{PairReply, RndfReply}
+use Rattle.std.specs.Prelude.{◌≡◌, ◌∷◌, Err}
 use Rattle.terms.specs.Words.{List, [], ℕ, Bytes, Each}
 use Rattle.edition.specs.declared.Edition.{Edition}
 use Rattle.edition.specs.declared.Edition.TheVariants.{March2007, December2006}
 use Rattle.edition.specs.Editions.{rules_of}
 use Rattle.law.specs.Tables.{Lent, MissionLent, zeros, mission_zeros}
-use Rattle.replies.specs.declared.RndfReply.{RndfReply}
-use Rattle.replies.specs.declared.RndfReply.TheVariants as Reply
-use Rattle.replies.specs.declared.PairReply.{PairReply}
-use Rattle.replies.specs.declared.PairReply.TheVariants as Pair
 use Rattle.replies.specs.Replies.{refusal, ReadsRndf, ReadsPair}
 use Rattle.promises.specs.Yards.{yard, entry-3, exit_from_3, three_waypoints, one_waypoint, without_end, line_8_twice, round, goal_8, limit_10_5, yellow, no_spots}
 
 -- whatever meets the contract in an edition gives this reply, and leaves all lent tables zero
 abbrev pub Refused : Edition → Bytes → Lent → (line number column : ℕ) → Type 0
-Refused edition text t line number column = (r : RndfReply) (l : Lent) → ReadsRndf (rules_of edition) text t r l → (r ≡ Reply.Refused (refusal 1 line number column)) × (l ≡ zeros t)
+Refused edition text t line number column = (r : RndfReply) (l : Lent) → ReadsRndf (rules_of edition) text t r l → (r ≡ Err (refusal 1 line number column)) × (l ≡ zeros t)
 
 abbrev pub PairRefused : Edition → (rndf mdf : Bytes) → Lent → MissionLent → (file line number column : ℕ) → Type 0
-PairRefused edition rndf mdf t u file line number column = (r : PairReply) (l : Lent) (k : MissionLent) → ReadsPair (rules_of edition) rndf mdf t u r l k → (r ≡ Pair.Refused (refusal file line number column)) × (l ≡ zeros t) × (k ≡ mission_zeros u)
+PairRefused edition rndf mdf t u file line number column = (r : PairReply) (l : Lent) (k : MissionLent) → ReadsPair (rules_of edition) rndf mdf t u r l k → (r ≡ Err (refusal file line number column)) × (l ≡ zeros t) × (k ≡ mission_zeros u)
 
 pub record Case : Type 0 where
   pub rndf : Bytes

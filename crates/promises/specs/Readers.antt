@@ -1,10 +1,9 @@
 -- WHAT A READER MUST BELIEVE. What a reader does, and that it meets its contract on some texts and lent tables. Document 01, "The contracts have to shut out". Assumes nothing.
+use Rattle.replies.specs.Types.{PairReply, RndfReply}
 use Rattle.terms.specs.Words.{Bytes}
 use Rattle.edition.specs.declared.Edition.{Edition}
 use Rattle.edition.specs.Editions.{rules_of}
 use Rattle.law.specs.Tables.{Lent, MissionLent}
-use Rattle.replies.specs.declared.RndfReply.{RndfReply}
-use Rattle.replies.specs.declared.PairReply.{PairReply}
 use Rattle.replies.specs.Replies.{ReadsRndf, ReadsPair}
 use Rattle.promises.specs.Yards.{used, mission_used}
 

@@ -1,4 +1,6 @@
 -- THE THEOREM of L13, over the contracts: "L5 has a good route exactly when this, given the room, accepts" (`agreed`); and a work space with as many rows as the lent point table has is room enough (`enough`). Assumes nothing.
+use Rattle.std.specs.Prelude.{Err}
+use Rattle.replies.specs.Types.{PairReply}
 use mathlib.Core.Path.{◌≡◌, sym, subst}
 use mathlib.Core.List.{List}
 use Prim.Native.Nat.{ℕ, ◌/◌, ◌≤◌}
@@ -11,8 +13,6 @@ use Rattle.route_law.specs.Moves.{Move, points_declared}
 use Rattle.route_law.proofs.Goals.{goals-length}
 use Rattle.reach_law.proofs.Agreed as Any
 use Rattle.refusal.specs.declared.Refusal.{Refusal}
-use Rattle.replies.specs.declared.PairReply.{PairReply}
-use Rattle.replies.specs.declared.PairReply.TheVariants as Pair
 use Rattle.pair_checks.specs.Checks.{AcceptedPair, right, Good, ChecksRoute}
 use Rattle.pair_checks.proofs.Judged.{read-reply, read-so}
 use Rattle.pair_checks.proofs.AllAndOnly as Route
@@ -20,7 +20,7 @@ use Rattle.reach_checks.specs.Checks.{Can, ChecksMission}
 use Rattle.reach_checks.specs.Agree.{IsAcceptance, SomeRoute, RowForEachPoint, RouteExactlyIfDriven}
 use Rattle.reach_checks.proofs.AllAndOnly as Mission
 
-not-refused : (r : PairReply) → IsAcceptance r → (why : Refusal) → r ≡ Pair.Refused why → ⊥
+not-refused : (r : PairReply) → IsAcceptance r → (why : Refusal) → r ≡ Err why → ⊥
 not-refused r a why e = subst IsAcceptance e a
 
 module _ (ed : Edition) (start : ℕ) (rndf mdf : Bytes) (t : Lent) (u : MissionLent) where

@@ -1,17 +1,16 @@
 -- WHAT A READER MUST BELIEVE. That both parts agree, as a statement of their contracts. Request L13: "Prove with it that L5 has a good route exactly when this, given the room, accepts." No contract rests on it. Assumes nothing.
-use Rattle.std.specs.Prelude.{◌↔◌, ◌≤◌}
+use Rattle.replies.specs.Types.{PairReply}
+use Rattle.std.specs.Prelude.{◌↔◌, ◌≤◌, Ok, Err}
 use Rattle.terms.specs.Words.{List, ℕ, length, Bytes}
 use Rattle.law.specs.Network.{Rules}
 use Rattle.law.specs.Tables.{Lent, MissionLent}
 use Rattle.route_law.specs.Moves.{points_declared}
 use Rattle.pair_checks.specs.Checks.{AcceptedPair, ChecksRoute}
-use Rattle.replies.specs.declared.PairReply.{PairReply}
-use Rattle.replies.specs.declared.PairReply.TheVariants as Pair
 use Rattle.reach_checks.specs.Checks.{ChecksMission}
 
 abbrev pub IsAcceptance : PairReply → Type 0
-IsAcceptance (Pair.Accepted c file d own) = Unit {0}
-IsAcceptance (Pair.Refused why) = ⊥
+IsAcceptance (Ok (c, file, d, own)) = Unit {0}
+IsAcceptance (Err why) = ⊥
 
 module _ (rules : Rules) (rndf mdf : Bytes) (t : Lent) (u : MissionLent) where
   -- "L5 has a good route": the checker of routes accepts some route from this start

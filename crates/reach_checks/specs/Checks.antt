@@ -1,4 +1,5 @@
 -- WHAT A READER MUST BELIEVE. What is replied to the question whether a mission can be driven, and what all that was lent then holds. Request L13. Assumes nothing.
+use Rattle.replies.specs.Types.{PairReply}
 use Rattle.std.specs.Prelude.{◌≡◌}
 use Rattle.terms.specs.Words.{List, ℕ, length, replicate, Bytes}
 use Rattle.line.specs.Line.{Field}
@@ -7,7 +8,6 @@ use Rattle.law.specs.Tables.{Lent, MissionLent}
 use Rattle.route_law.specs.Moves.{Move, points_declared}
 use Rattle.reach_law.specs.Reach.{DriveTaken, DriveFault}
 use Rattle.pair_checks.specs.Checks.{Judges}
-use Rattle.replies.specs.declared.PairReply.{PairReply}
 
 -- "With the moves of L5". rows: those of the work space; start: the row that the caller gives
 module _ (rows start : ℕ) where

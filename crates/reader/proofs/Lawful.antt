@@ -1,4 +1,6 @@
 -- What the proofs of the code say over statements (ByStatements) is what the contracts say over lines (Replies), and the other way round. Assumes nothing.
+use Rattle.std.specs.Prelude.{Ok, Err}
+use Rattle.replies.specs.Types.{PairReply, RndfReply}
 use mathlib.Core.Path.{◌≡◌, refl, sym, ap, ap₂, subst, ◌∙◌}
 use mathlib.Core.Option.{Option, none, some}
 use Prim.Native.Nat.{ℕ}
@@ -25,10 +27,6 @@ use Rattle.law_tables.proofs.MdfFirst.{mdf-first-to_in, mdf-first-back}
 use Rattle.counts.specs.declared.Counts.{Counts}
 use Rattle.network_reader.specs.Replies as N
 use Rattle.mission_reader.specs.MissionReplies as M
-use Rattle.replies.specs.declared.RndfReply.{RndfReply}
-use Rattle.replies.specs.declared.RndfReply.TheVariants as Reply
-use Rattle.replies.specs.declared.PairReply.{PairReply}
-use Rattle.replies.specs.declared.PairReply.TheVariants as Pair
 use Rattle.reader.specs.ByStatements as Old
 use Rattle.replies.specs.Replies as New
 use Rattle.replies.specs.Short as Short
@@ -61,7 +59,7 @@ module _ (ε : Edition) (text : Bytes) (t : Lent) where
   refuses-to_in line number (N.bad_reference n size h room f) = New.bad_reference n size (rndf-to_in ε n text h) (room-to n t room) (rndf-first-to_in ε n text h line number f) (rndf-fault-told_in ε text size n h line number f)
 
   pub rndf-reads-to_in : (reply : RndfReply) (left : Lent) → Old.ReadsRndfIn ε text t reply left → New.ReadsRndf (reading (law_of ε)) text t reply left
-  rndf-reads-to_in reply left (Old.accepted n a e k) = New.accepted n (accepts-to_in n a) (e ∙ ap₂ Reply.Accepted (counts_are n) (file_is n)) (k ∙ filled-same n a.sound t)
+  rndf-reads-to_in reply left (Old.accepted n a e k) = New.accepted n (accepts-to_in n a) (e ∙ (λ i. Ok (counts_are n i, file_is n i))) (k ∙ filled-same n a.sound t)
   rndf-reads-to_in reply left (Old.refused line number a e k) = New.refused line number (rndf_told_of text line number) (refuses-to_in line number a) e k
 
 -- ## In the present one, both ways
@@ -80,9 +78,9 @@ module _ (text : Bytes) (t : Lent) where
   rndf-reads-to = rndf-reads-to_in march text t
 
   pub rndf-reads-back : (reply : RndfReply) (left : Lent) → New.ReadsRndf present text t reply left → Old.ReadsRndf text t reply left
-  rndf-reads-back reply left (New.accepted n a e k) = Old.accepted n (accepts-back n a) (e ∙ sym (ap₂ Reply.Accepted (counts_are n) (file_is n))) (k ∙ sym (filled-same n a.right t))
+  rndf-reads-back reply left (New.accepted n a e k) = Old.accepted n (accepts-back n a) (e ∙ sym (λ i. Ok (counts_are n i, file_is n i))) (k ∙ sym (filled-same n a.right t))
   rndf-reads-back reply left (New.refused line number column a e k) =
-      Old.refused line number (refuses-back line number column a) (e ∙ ap (λ (x : ℕ). Reply.Refused (New.refusal 1 line number x)) (rndf-told-so text t line number column a)) k
+      Old.refused line number (refuses-back line number column a) (e ∙ ap (λ (x : ℕ). Err (New.refusal 1 line number x)) (rndf-told-so text t line number column a)) k
 
 -- ## An MDF for a network
 module _ (n : Network Field) (mdf : Bytes) (u : MissionLent) where
@@ -111,8 +109,8 @@ module _ (n : Network Field) (mdf : Bytes) (u : MissionLent) where
 
 -- ## A pair
 module _ (rndf mdf : Bytes) (t : Lent) (u : MissionLent) where
-  replied : (n : Network Field) (m : Mission Field) → Pair.Accepted (N.rows_used_of (sizes (tables n))) (Rows.network_file n) (M.rows_used_of m) (Rows.mission_file_of m) ≡ Pair.Accepted (New.rows_used_of n) (New.network_file n) (M.rows_used_of m) (New.mission_file_of m)
-  replied n m = λ i. Pair.Accepted (counts_are n i) (file_is n i) (M.rows_used_of m) (mission-file-is m i)
+  replied : (n : Network Field) (m : Mission Field) → ◌≡◌ {A = PairReply} (Ok (N.rows_used_of (sizes (tables n)), Rows.network_file n, M.rows_used_of m, Rows.mission_file_of m)) (Ok (New.rows_used_of n, New.network_file n, M.rows_used_of m, New.mission_file_of m))
+  replied n m = λ i. Ok (counts_are n i, file_is n i, M.rows_used_of m, mission-file-is m i)
 
   pub pair-reads-to_in : (ε : Edition) (reply : PairReply) (left : Lent) (mission_left : MissionLent) → Old.ReadsPairIn ε rndf mdf t u reply left mission_left → New.ReadsPair (reading (law_of ε)) rndf mdf t u reply left mission_left
   pair-reads-to_in ε reply left mission_left (Old.accepted n m a b e k l) = New.accepted n m (accepts-to_in ε rndf t n a) (mdf-accepts-to_in n mdf u ε m b) (e ∙ replied n m) (k ∙ filled-same n a.sound t) (l ∙ mission-filled-same m u)
@@ -125,6 +123,6 @@ module _ (rndf mdf : Bytes) (t : Lent) (u : MissionLent) where
   pub pair-reads-back : (reply : PairReply) (left : Lent) (mission_left : MissionLent) → New.ReadsPair present rndf mdf t u reply left mission_left → Old.ReadsPair rndf mdf t u reply left mission_left
   pair-reads-back reply left mission_left (New.accepted n m a b e k l) = Old.accepted n m (accepts-back rndf t n a) (mdf-accepts-back n mdf u m b) (e ∙ sym (replied n m)) (k ∙ sym (filled-same n a.right t)) (l ∙ sym (mission-filled-same m u))
   pair-reads-back reply left mission_left (New.rndf_refused_of line number column a e k l) =
-      Old.rndf_refused_of line number (refuses-back rndf t line number column a) (e ∙ ap (λ (x : ℕ). Pair.Refused (New.refusal 1 line number x)) (rndf-told-so rndf t line number column a)) k l
+      Old.rndf_refused_of line number (refuses-back rndf t line number column a) (e ∙ ap (λ (x : ℕ). Err (New.refusal 1 line number x)) (rndf-told-so rndf t line number column a)) k l
   pair-reads-back reply left mission_left (New.mdf_refused_of n line number column a b e k l) =
-      Old.mdf_refused_of n line number (accepts-back rndf t n a) (mdf-refuses-back n mdf u line number column b) (e ∙ ap (λ (x : ℕ). Pair.Refused (New.refusal 2 line number x)) (mdf-told-so n mdf u line number column b)) k l
+      Old.mdf_refused_of n line number (accepts-back rndf t n a) (mdf-refuses-back n mdf u line number column b) (e ∙ ap (λ (x : ℕ). Err (New.refusal 2 line number x)) (mdf-told-so n mdf u line number column b)) k l

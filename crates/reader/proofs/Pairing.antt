@@ -1,4 +1,7 @@
 -- THE THEOREM of pairs: what both readers answer together is what document 01 says: the RNDF's refusal, else the MDF's, else the network and the mission. Assumes nothing.
+use Rattle.std.specs.Prelude.{Ok, Err}
+use Rattle.replies.specs.Types.{PairReply}
+use Rattle.mission_reader.specs.Types.{MissionReply}
 use mathlib.Core.Path.{◌≡◌, refl, sym, ap, ap₂, subst, ◌∙◌}
 use mathlib.Core.List.{List}
 use mathlib.Core.Logic.{◌⊎◌, inl, inr}
@@ -29,16 +32,12 @@ use Rattle.network_reader.specs.Reading as N
 use Rattle.network_reader.specs.Reading.{read_of}
 use Rattle.network_reader.proofs.Theorems as NT
 use Rattle.counts.specs.declared.MissionCounts.{MissionCounts}
-use Rattle.mission_reader.specs.declared.MissionReply as DM
-use Rattle.mission_reader.specs.declared.MissionReply.TheVariants as MissionReply
 use Rattle.mission_reader.specs.MissionReplies.{AcceptsMdf, RefusesMdf, Takes}
 use Rattle.mission_reader.specs.MissionReplies as MR
 use Rattle.mission_reader.specs.MissionReading as M
 use Rattle.mission_reader.specs.MissionReading.{rndf_of, mission_of}
 use Rattle.mission_reader.proofs.References.{accepted-rndf}
 use Rattle.mission_reader.proofs.Theorems as MT
-use Rattle.replies.specs.declared.PairReply as DP
-use Rattle.replies.specs.declared.PairReply.TheVariants as Pair
 use Rattle.refusal.specs.declared.Refusal.{Refusal}
 use Rattle.reader.specs.Columns.{rndf_refusal, mdf_refusal}
 use Rattle.reader.specs.ByStatements.{mission_lent, accepted, rndf_refused_of, mdf_refused_of}
@@ -48,20 +47,20 @@ use Rattle.reader.specs.Pairs.{joined_of, Read, outcome, from_mission, from_netw
 use Rattle.reader.specs.Pairs as P
 
 -- ## What the program does
-joined-told : (mdf : Bytes) (c : Counts) (file : FileRow) (left : Lent) (reply : DM.MissionReply) (g l : List ℕ) → outcome (joined_of mdf c file reply) left (mission_lent g l) ≡ from_mission mdf c file left (M.outcome reply g l)
-joined-told mdf c file left (MissionReply.Accepted m f) g l = refl
-joined-told mdf c file left (MissionReply.Refused f) g l = refl
+joined-told : (mdf : Bytes) (c : Counts) (file : FileRow) (left : Lent) (reply : MissionReply) (g l : List ℕ) → outcome (joined_of mdf c file reply) left (mission_lent g l) ≡ from_mission mdf c file left (M.outcome reply g l)
+joined-told mdf c file left (Ok (m, f)) g l = refl
+joined-told mdf c file left (Err f) g l = refl
 
-pub both-accepted : (ε : Edition) (rndf mdf : Bytes) (t left : Lent) (u : MissionLent) (c : Counts) (file : FileRow) (k : ℕ) (reply : DM.MissionReply) (g l : List ℕ) (r : DP.PairReply) → N.accepted c file left ≡ read_of ε rndf t → k ≡ fitted (c.segments + c.zones)
+pub both-accepted : (ε : Edition) (rndf mdf : Bytes) (t left : Lent) (u : MissionLent) (c : Counts) (file : FileRow) (k : ℕ) (reply : MissionReply) (g l : List ℕ) (r : PairReply) → N.accepted c file left ≡ read_of ε rndf t → k ≡ fitted (c.segments + c.zones)
     → M.outcome reply g l ≡ mission_of (rndf_of rndf file.name left.checkpoints c.checkpoints k) mdf u.goals u.limits → r ≡ joined_of mdf c file reply → outcome r left (mission_lent g l) ≡ the_pair_of ε rndf mdf t u
 unfolding the_pair_of
 both-accepted ε rndf mdf t left u c file k reply g l r e p m j =
-    ap (λ (x : DP.PairReply). outcome x left (mission_lent g l)) j
+    ap (λ (x : PairReply). outcome x left (mission_lent g l)) j
     ∙ joined-told mdf c file left reply g l
     ∙ ap (from_mission mdf c file left) (m ∙ ap (λ (x : ℕ). mission_of (rndf_of rndf file.name left.checkpoints c.checkpoints x) mdf u.goals u.limits) p)
     ∙ ap (from_network rndf mdf u) e
 
-pub both-refused : (ε : Edition) (rndf mdf : Bytes) (t left : Lent) (u mission_left : MissionLent) (line number : ℕ) → N.refused line number ≡ read_of ε rndf t → outcome (Pair.Refused (rndf_refusal rndf line number)) left mission_left ≡ the_pair_of ε rndf mdf t u
+pub both-refused : (ε : Edition) (rndf mdf : Bytes) (t left : Lent) (u mission_left : MissionLent) (line number : ℕ) → N.refused line number ≡ read_of ε rndf t → outcome (Err (rndf_refusal rndf line number)) left mission_left ≡ the_pair_of ε rndf mdf t u
 unfolding the_pair_of
 both-refused ε rndf mdf t left u mission_left line number e = ap (from_network rndf mdf u) e
 
@@ -71,7 +70,7 @@ pub record Accepted (ε : Edition) (rndf mdf : Bytes) (t : Lent) (u : MissionLen
   pub mission : Mission Field
   pub accepts : AcceptsRndfIn ε rndf t net
   pub takes : AcceptsMdf net mdf u mission
-  pub reply : Pair.Accepted c file m mission_row ≡ Pair.Accepted (rows_used_of (sizes (tables net))) (network_file net) (MR.rows_used_of mission) (mission_file_of mission)
+  pub reply : ◌≡◌ {A = PairReply} (Ok (c, file, m, mission_row)) (Ok (rows_used_of (sizes (tables net)), network_file net, MR.rows_used_of mission, mission_file_of mission))
   pub holds : left ≡ network_filled net t
   pub mission_holds : mission_left ≡ mission_filled (mission_tables mission) u
 
@@ -100,7 +99,7 @@ module _ (ε : Edition) (rndf mdf : Bytes) (t : Lent) (u : MissionLent) (n : Net
     mission = h.mission;
     accepts = a;
     takes = h.accepts;
-    reply = λ i. Pair.Accepted (p i) (q i) (h.delivers.counted i) (h.delivers.own_row i);
+    reply = λ i. Ok (p i, q i, h.delivers.counted i, h.delivers.own_row i);
     holds = r;
     mission_holds = λ i. mission_lent (h.delivers.goals_hold i) (h.delivers.limits_hold i);
   }
@@ -119,15 +118,15 @@ meant ε rndf mdf t u = go (read_of ε rndf t) (NT.meant ε rndf t)
 
 -- ## The contract
 pub pair-accepted : (ε : Edition) (rndf mdf : Bytes) (t left : Lent) (u mission_left : MissionLent) (c : Counts) (file : FileRow) (m : MissionCounts) (g : MissionFileRow) → P.accepted c file m g left mission_left ≡ the_pair_of ε rndf mdf t u
-    → ReadsPair (reading (law_of ε)) rndf mdf t u (Pair.Accepted c file m g) left mission_left
+    → ReadsPair (reading (law_of ε)) rndf mdf t u (Ok (c, file, m, g)) left mission_left
 pair-accepted ε rndf mdf t left u mission_left c file m g e =
     let h = subst (Meant ε rndf mdf t u) (sym e) (meant ε rndf mdf t u) in
-    pair-reads-to_in rndf mdf t u ε (Pair.Accepted c file m g) left mission_left (accepted h.net h.mission h.accepts h.takes h.reply h.holds h.mission_holds)
+    pair-reads-to_in rndf mdf t u ε (Ok (c, file, m, g)) left mission_left (accepted h.net h.mission h.accepts h.takes h.reply h.holds h.mission_holds)
 
 pub pair-refused : (ε : Edition) (rndf mdf : Bytes) (t behind left : Lent) (u mission-behind mission_left : MissionLent) (why : Refusal) → P.refused why ≡ the_pair_of ε rndf mdf t u
-    → left ≡ zeros behind → zeros behind ≡ zeros t → mission_left ≡ mission_zeros mission-behind → mission_zeros mission-behind ≡ mission_zeros u → ReadsPair (reading (law_of ε)) rndf mdf t u (Pair.Refused why) left mission_left
+    → left ≡ zeros behind → zeros behind ≡ zeros t → mission_left ≡ mission_zeros mission-behind → mission_zeros mission-behind ≡ mission_zeros u → ReadsPair (reading (law_of ε)) rndf mdf t u (Err why) left mission_left
 pair-refused ε rndf mdf t behind left u mission-behind mission_left why e z k y j = go (subst (Meant ε rndf mdf t u) (sym e) (meant ε rndf mdf t u))
   where
-    go : Refused ε rndf mdf t u why → ReadsPair (reading (law_of ε)) rndf mdf t u (Pair.Refused why) left mission_left
-    go (by-rndf line number h f) = pair-reads-to_in rndf mdf t u ε (Pair.Refused why) left mission_left (rndf_refused_of line number h (ap Pair.Refused f) (z ∙ k) (y ∙ j))
-    go (by-mdf n line number a h f) = pair-reads-to_in rndf mdf t u ε (Pair.Refused why) left mission_left (mdf_refused_of n line number a h (ap Pair.Refused f) (z ∙ k) (y ∙ j))
+    go : Refused ε rndf mdf t u why → ReadsPair (reading (law_of ε)) rndf mdf t u (Err why) left mission_left
+    go (by-rndf line number h f) = pair-reads-to_in rndf mdf t u ε (Err why) left mission_left (rndf_refused_of line number h (ap Err f) (z ∙ k) (y ∙ j))
+    go (by-mdf n line number a h f) = pair-reads-to_in rndf mdf t u ε (Err why) left mission_left (mdf_refused_of n line number a h (ap Err f) (z ∙ k) (y ∙ j))

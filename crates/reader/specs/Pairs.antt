@@ -1,5 +1,7 @@
 -- Executable: what a pair gets, and what the lent tables then hold where it is accepted. Assumes nothing.
-use Rattle.std.specs.Prelude.{◌+◌}
+use Rattle.replies.specs.Types.{PairReply}
+use Rattle.mission_reader.specs.Types.{MissionReply}
+use Rattle.std.specs.Prelude.{◌+◌, Ok, Err}
 use Rattle.terms.specs.Ascii.{Bytes}
 use Rattle.grammar.specs.Editions.{Edition}
 use Rattle.rows.specs.declared.FileRow.{FileRow}
@@ -10,27 +12,23 @@ use Rattle.counts.specs.declared.Counts.{Counts}
 use Rattle.network_reader.specs.Reading as N
 use Rattle.network_reader.specs.Reading.{read_of}
 use Rattle.counts.specs.declared.MissionCounts.{MissionCounts}
-use Rattle.mission_reader.specs.declared.MissionReply as DM
-use Rattle.mission_reader.specs.declared.MissionReply.TheVariants as Mission
 use Rattle.mission_reader.specs.MissionReading as M
 use Rattle.mission_reader.specs.MissionReading.{rndf_of, mission_of}
 use Rattle.law.specs.Tables.{mission_lent}
 use Rattle.refusal.specs.declared.Refusal.{Refusal}
-use Rattle.replies.specs.declared.PairReply as DP
-use Rattle.replies.specs.declared.PairReply.TheVariants as Pair
 use Rattle.reader.specs.Columns.{rndf_refusal, mdf_refusal}
 
-abbrev pub joined_of : Bytes → Counts → FileRow → DM.MissionReply → DP.PairReply
-joined_of mdf c file (Mission.Accepted m f) = Pair.Accepted c file m f
-joined_of mdf c file (Mission.Refused f) = Pair.Refused (mdf_refusal mdf f.line f.number)
+abbrev pub joined_of : Bytes → Counts → FileRow → MissionReply → PairReply
+joined_of mdf c file (Ok (m, f)) = Ok (c, file, m, f)
+joined_of mdf c file (Err f) = Err (mdf_refusal mdf f.line f.number)
 
 pub data Read : Type 0 where
   refused : Refusal → Read
   accepted : Counts → FileRow → MissionCounts → MissionFileRow → Lent → MissionLent → Read
 
-abbrev pub outcome : DP.PairReply → Lent → MissionLent → Read
-outcome (Pair.Accepted c f m g) left mission_left = accepted c f m g left mission_left
-outcome (Pair.Refused x) left mission_left = refused x
+abbrev pub outcome : PairReply → Lent → MissionLent → Read
+outcome (Ok (c, f, m, g)) left mission_left = accepted c f m g left mission_left
+outcome (Err x) left mission_left = refused x
 
 abbrev pub from_mission : Bytes → Counts → FileRow → Lent → M.Read → Read
 from_mission mdf c f left (M.refused line number) = refused (mdf_refusal mdf line number)

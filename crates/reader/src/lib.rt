@@ -104,8 +104,8 @@ pub fn read_rndf(
         exits,
     );
     match reply {
-        NetworkReply::Accepted(c, file) => RndfReply::Accepted(c, file),
-        NetworkReply::Refused(fault) => {
+        Ok((c, file)) => Ok((c, file)),
+        Err(fault) => {
             clear_tables(
                 segments,
                 lanes,
@@ -116,7 +116,7 @@ pub fn read_rndf(
                 stops,
                 exits,
             );
-            RndfReply::Refused(rndf_refused(text, fault))
+            Err(rndf_refused(text, fault))
         }
     }
 }
@@ -133,8 +133,8 @@ fn joined(mdf: &[u8], c: Counts, file: FileRow, mission: MissionReply) -> PairRe
     ensures { result ≡ joined_of mdf.now c file mission }
 {
     match mission {
-        MissionReply::Accepted(m, mission_file) => PairReply::Accepted(c, file, m, mission_file),
-        MissionReply::Refused(fault) => PairReply::Refused(mdf_refused(mdf, fault)),
+        Ok((m, mission_file)) => Ok((c, file, m, mission_file)),
+        Err(fault) => Err(mdf_refused(mdf, fault)),
     }
 }
 
@@ -169,7 +169,7 @@ fn read_both(
         exits,
     );
     match network {
-        NetworkReply::Accepted(c, file) => {
+        Ok((c, file)) => {
             let mission = read_mission(
                 rndf,
                 file.name,
@@ -182,7 +182,7 @@ fn read_both(
             );
             joined(mdf, c, file, mission)
         }
-        NetworkReply::Refused(fault) => PairReply::Refused(rndf_refused(rndf, fault)),
+        Err(fault) => Err(rndf_refused(rndf, fault)),
     }
 }
 
@@ -220,13 +220,8 @@ pub fn read_pair(
         limits,
     );
     match reply {
-        PairReply::Accepted(c, file, m, mission_file) => PairReply::Accepted(
-            c,
-            file,
-            m,
-            mission_file,
-        ),
-        PairReply::Refused(why) => {
+        Ok((c, file, m, mission_file)) => Ok((c, file, m, mission_file)),
+        Err(why) => {
             clear_tables(
                 segments,
                 lanes,
@@ -239,7 +234,7 @@ pub fn read_pair(
             );
             clear(goals);
             clear(limits);
-            PairReply::Refused(why)
+            Err(why)
         }
     }
 }

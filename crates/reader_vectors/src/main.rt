@@ -163,19 +163,19 @@ struct Room {
 
 fn put_rndf_reply<W: Write>(to: &mut W, reply: RndfReply) -> io::Result<()> {
     match reply {
-        RndfReply::Accepted(c, f) => put_accepted(to, c, f)?,
-        RndfReply::Refused(why) => put_refused(to, why)?,
+        Ok((c, f)) => put_accepted(to, c, f)?,
+        Err(why) => put_refused(to, why)?,
     }
     put(to, b"\n")
 }
 
 fn put_pair_reply<W: Write>(to: &mut W, reply: PairReply) -> io::Result<()> {
     match reply {
-        PairReply::Accepted(c, f, m, g) => {
+        Ok((c, f, m, g)) => {
             put_accepted(to, c, f)?;
             put_mission(to, m, g)?;
         }
-        PairReply::Refused(why) => put_refused(to, why)?,
+        Err(why) => put_refused(to, why)?,
     }
     put(to, b"\n")
 }

@@ -1,4 +1,5 @@
 -- THE LAW of the entry: where `text` reads an exit of a line, its entry stands at the last field of the line. Assumes nothing.
+use Rattle.std.specs.Prelude.{Some, None, Ok, Err, Result}
 use mathlib.Core.Path.{◌≡◌, refl, sym, ap, subst, ◌∙◌}
 use mathlib.Core.List.{List, [], ◌∷◌, ◌++◌}
 use mathlib.Core.Option.{Option, none, some}
@@ -17,15 +18,11 @@ use Rattle.line.specs.Text.{lf}
 use Rattle.line.specs.Content.{Field}
 use Rattle.line.specs.Lines.{drop_cr}
 use Rattle.line.specs.Forms.{form_of, fields_at}
-use Rattle.line.specs.declared.Form as Form
-use Rattle.line.specs.declared.Form.TheVariants.{Bad, Body}
 use Rattle.line_fields.specs.LineFields.{fields_by, line_fields_of, last_of, last_start_of}
 use Rattle.line_fields.proofs.LastField.{passed, Last, last-there, all-of_it}
 use Rattle.number.specs.Executable.{triple_of}
 use Rattle.number.specs.House.{number_byte}
 use Rattle.number.specs.Spelling.{SpellsTriple}
-use Rattle.number.specs.declared.Triple as DT
-use Rattle.number.specs.declared.Triple.TheVariants as Triple
 use Rattle.number.proofs.House.{triple-bytes}
 use Rattle.number.proofs.Identifiers.{triple-right, triple-only}
 use Rattle.grammar.specs.Language.{as_kind}
@@ -39,6 +36,8 @@ use Rattle.text.specs.RndfWords.{rndf_lexis, rndf_sorts, rndf_make}
 use Rattle.statement.specs.Meaning.{the_the_point_of}
 use Rattle.plain_parts.specs.Stands.{stretch, Stands}
 use Rattle.references.specs.Entry.{no_entry, id_from_of, number_at, entry_at}
+use Rattle.std.specs.Prelude as Rust
+use Rattle.number.specs.declared.Id.{Id}
 
 abbrev Got : Type 0
 Got = Verdict (Statement Field) (Place (rndf Field))
@@ -110,9 +109,9 @@ exit-fields p v q fs e = go (stands (rndf Field) p exit) (eqb (length fs) 2) (re
     go none true none r e = absurd (not_good 8 (some (say exit v)) q e)
     go none true (some w) r e = (w, r, said w (taken_is p (say exit v) q (say exit (rndf_make exit w)) (step (rndf Field) p (say exit (rndf_make exit w))) e))
 
-point-read : (t : DT.Triple) (e : PointId) → triple_from t ≡ some e → the_the_point_of (id_from_of t) ≡ e
-point-read (Triple.Is i) e q = cc
-point-read Triple.No e q = absurd (none-some e q)
+point-read : (t : Rust.Option Id) (e : PointId) → triple_from t ≡ some e → the_the_point_of (id_from_of t) ≡ e
+point-read (Some i) e q = cc
+point-read None e q = absurd (none-some e q)
 
 -- ## The fields of the line
 -- three, of which the last spells the entry
@@ -146,9 +145,9 @@ module _ (p : Place (rndf Field)) (start : ℕ) (t : Statement Field) (q : Place
   unfolding judge line_fields_of
   exit_line line h = go (form_of (drop_cr line)) h
     where
-      go : (f : Form.Form) → formed (rndf Field) rndf_lexis p start (drop_cr line) f ≡ good (some t) q → ExitFields (fields_by start (drop_cr line) f) v
-      go (Bad n) h = absurd (not_good n (some t) q h)
-      go (Body e) h = in-fields (fields_at start (take e (drop_cr line))) h
+      go : (f : Result ℕ ℕ) → formed (rndf Field) rndf_lexis p start (drop_cr line) f ≡ good (some t) q → ExitFields (fields_by start (drop_cr line) f) v
+      go (Err n) h = absurd (not_good n (some t) q h)
+      go (Ok e) h = in-fields (fields_at start (take e (drop_cr line))) h
 
 -- ## In the text
 -- no byte of a number separates fields, opens a comment or ends a line
@@ -165,9 +164,9 @@ blank-ends b e = go (eqb b 9) (eqb b 32) refl refl e
 spelled-bytes : (w : Bytes) (e : PointId) → triple_from (triple_of w) ≡ some e → all number_byte w ≡ true
 spelled-bytes w e h = go (triple_of w) refl h
   where
-    go : (t : DT.Triple) → triple_of w ≡ t → triple_from t ≡ some e → all number_byte w ≡ true
-    go (Triple.Is i) q h = triple-bytes w i.x i.y i.z (triple-right w i q)
-    go Triple.No q h = absurd (none-some e h)
+    go : (t : Rust.Option Id) → triple_of w ≡ t → triple_from t ≡ some e → all number_byte w ≡ true
+    go (Some i) q h = triple-bytes w i.x i.y i.z (triple-right w i q)
+    go None q h = absurd (none-some e h)
 
 -- THE ENTRY of an exit that was read stands at the last field of its line
 pub entry-told : (text : Bytes) (p : Place (rndf Field)) (start : ℕ) (line : Bytes) → start ≤ length text → take (up_to (stops_by (Byte lf)) (drop start text)) (drop start text) ≡ line

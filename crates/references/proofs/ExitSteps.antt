@@ -15,7 +15,7 @@ use Rattle.rows.specs.declared.ExitRow.{ExitRow}
 use Rattle.fill.specs.Resolve.{Look}
 use Rattle.references.specs.Finding.{found}
 use Rattle.references.specs.Exits.{named_at, put_point_of, Outcome, done, at, onward, resolved_from, with_found, left_on, left_from}
-use Rattle.references.specs.declared.Found.{Found}
+use Rattle.std.specs.Prelude as Rust
 
 -- the table with the point, as it is stored
 pub stored : (t : List ℕ) (row i : ℕ) (e : ExitRow) (w : ℕ) (u : List ℕ) → e ≡ exit_at t row → w ≡ fitted i → u ≡ put_row_of exit_stride t row (exit_words_of (record { point = e.point; entry = w })) → u ≡ put_point_of t row i
@@ -26,7 +26,7 @@ module _ (text : Bytes) (look : Look) (m : ℕ) (t : List ℕ) (row : ℕ) where
   abbrev named : Option ℕ
   named = named_at text look m (exit_at t row).entry
 
-  pub row_named : (e : ExitRow) (f : Found) → e ≡ exit_at t row → found f ≡ named_at text look m e.entry → onward t row (found f) done ≡ onward t row named done
+  pub row_named : (e : ExitRow) (f : Rust.Option ℕ) → e ≡ exit_at t row → found f ≡ named_at text look m e.entry → onward t row (found f) done ≡ onward t row named done
   row_named e f read is = ap (λ (o : Option ℕ). onward t row o done) (is ∙ ap (λ (e : ExitRow). named_at text look m e.entry) read)
 
   apart : (u : List ℕ) (j : ℕ) → done u ≡ at j → ⊥
@@ -59,7 +59,7 @@ module _ (text : Bytes) (look : Look) (m : ℕ) (t : List ℕ) (row : ℕ) where
   no_row count h = let k : count - row ≡ zero = omega arith in rw k
 
   -- ## What the table holds
-  pub row-left : (e : ExitRow) (f : Found) → e ≡ exit_at t row → found f ≡ named_at text look m e.entry → with_found t row (found f) ≡ with_found t row named
+  pub row-left : (e : ExitRow) (f : Rust.Option ℕ) → e ≡ exit_at t row → found f ≡ named_at text look m e.entry → with_found t row (found f) ≡ with_found t row named
   row-left e f read is = ap (with_found t row) (is ∙ ap (λ (e : ExitRow). named_at text look m e.entry) read)
 
   left-goes : (u : List ℕ) (o : Option ℕ) → done u ≡ onward t row o done → (rest : List ℕ → List ℕ) → left_on t row o rest ≡ rest u

@@ -1,20 +1,18 @@
 -- Executable: the identifier that stands at a place of the text. Assumes nothing.
-use Rattle.std.specs.Prelude.{ℕ, take, drop}
+use Rattle.std.specs.Prelude.{ℕ, take, drop, Some, None, Option}
 use Rattle.terms.specs.Ascii.{Bytes}
 use Rattle.scan.specs.Reach.{up_to, fails}
 use Rattle.number.specs.Executable.{triple_of}
 use Rattle.number.specs.House.{number_byte}
-use Rattle.number.specs.declared.Triple as DT
-use Rattle.number.specs.declared.Triple.TheVariants as Triple
-use Rattle.statement.specs.declared.Id.{Id}
+use Rattle.number.specs.declared.Id.{Id}
 
 -- what stands for an entry that is not there: it names no point, since its last number is 0
 abbrev pub no_entry : Id
 no_entry = record { x = 0; y = 0; z = 0 }
 
-abbrev pub id_from_of : DT.Triple → Id
-id_from_of (Triple.Is i) = record { x = i.x; y = i.y; z = i.z }
-id_from_of Triple.No = no_entry
+abbrev pub id_from_of : Option Id → Id
+id_from_of (Some i) = i
+id_from_of None = no_entry
 
 -- the digits, points and signs from a place on; none where the place is beyond the text
 unfoldable pub number_at : Bytes → ℕ → Bytes

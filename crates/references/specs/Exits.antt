@@ -1,5 +1,5 @@
 -- Executable: exits whose second word is where their entry starts in the text get the row of the point that their entry names; or the first row whose entry names none. Assumes nothing.
-use Rattle.std.specs.Prelude.{List, map, Bool, true, false, ℕ, zero, suc}
+use Rattle.std.specs.Prelude.{List, map, Bool, true, false, ℕ, zero, suc, Some, None}
 use Rattle.std.proofs.Math.Option.{Option, none, some}
 use Rattle.terms.specs.Ascii.{Bytes}
 use Rattle.room.specs.Room.{fitted}
@@ -14,8 +14,7 @@ use Rattle.grammar.specs.Statements.{PointId}
 use Rattle.fill.specs.Resolve.{Look, resolve, or-zero}
 use Rattle.fill.specs.FirstFaults.{Fault, unless_found}
 use Rattle.references.specs.Entry.{entry_at}
-use Rattle.marks.specs.declared.FirstRow.{FirstRow}
-use Rattle.marks.specs.declared.FirstRow.TheVariants as R
+use Rattle.std.specs.Prelude as Rust
 
 -- the point that the entry at a place names; m: how many segments there are
 unfoldable pub named_at : Bytes → Look → (m at : ℕ) → Option ℕ
@@ -63,9 +62,9 @@ left_from text look m t row zero = t
 left_from text look m t row (suc k) = left_on t row (named_at text look m (exit_at t row).entry) (λ u. left_from text look m u (suc row) k)
 
 -- what the answer and the table that is left stand for
-abbrev pub told : FirstRow → List ℕ → Outcome
-told (R.At row) t = at row
-told R.Nothing t = done t
+abbrev pub told : Rust.Option ℕ → List ℕ → Outcome
+told (Some row) t = at row
+told None t = done t
 
 -- ## Over given rows
 -- the entry that a row stands for

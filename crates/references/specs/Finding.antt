@@ -1,17 +1,16 @@
 -- Executable: what `resolve` answers, and what it reads of the tables of segments, lanes and zones. The row itself is `fill`'s (its specs/Resolve). Assumes nothing.
-use Rattle.std.specs.Prelude.{List, [], ℕ, get_or}
+use Rattle.std.specs.Prelude.{List, [], ℕ, get_or, Some, None}
 use Rattle.std.proofs.Math.Option.{Option, none, some}
 use Rattle.rows.specs.Read.{segment_of, lane_of, the_zone_of, segment_at_of, lane_at_of, zone_at_of}
 use Rattle.rows.specs.declared.SegmentRow.{SegmentRow}
 use Rattle.rows.specs.declared.LaneRow.{LaneRow}
 use Rattle.rows.specs.declared.ZoneRow.{ZoneRow}
 use Rattle.fill.specs.Resolve.{Look}
-use Rattle.references.specs.declared.Found.{Found}
-use Rattle.references.specs.declared.Found.TheVariants as F
+use Rattle.std.specs.Prelude as Rust
 
-abbrev pub found : Found → Option ℕ
-found (F.At i) = some i
-found F.Nothing = none
+abbrev pub found : Rust.Option ℕ → Option ℕ
+found (Some i) = some i
+found None = none
 
 -- the rows as they are read of the words of lent tables
 abbrev pub look_in : (segments lanes zones : List ℕ) → Look

@@ -23,27 +23,21 @@ ghost use Rattle.references.specs.Entry.{id_from_of, entry_at};
 ghost use Rattle.references.specs.Finding.{found, look_in};
 ghost use Rattle.references.specs.Exits.{named_at, done, tried, onward, with_found, told, resolved_from, left_from};
 
-use marks::FirstRow;
-use number::{Triple, triple_of};
-use plain_parts::{TripleAt, triple_at};
+use number::{Id, triple_of};
+use plain_parts::triple_at;
 use read_rows::{exit_at, lane_at, segment_at, zone_at};
 use room::in_word;
 use rows::{ExitRow, store_exit};
 use scan::is_digit;
-use statement::Id;
 
 // ## The entry at a place
 // 0.0.0 where there is no identifier.
-pub fn id_from(t: Triple) -> Id
+pub fn id_from(t: Option<Id>) -> Id
     ensures { result ≡ id_from_of t }
 {
     match t {
-        Triple::Is(i) => Id {
-            x: i.x,
-            y: i.y,
-            z: i.z,
-        },
-        Triple::No => Id { x: 0, y: 0, z: 0 },
+        Some(i) => i,
+        None => Id { x: 0, y: 0, z: 0 },
     }
 }
 
@@ -85,7 +79,7 @@ fn entry_cut(text: &[u8], at: usize) -> Id
 fn entry_at(text: &[u8], at: usize) -> Id
     ensures { result ≡ entry_at text.now at }
 {
-    let TripleAt::Is(x, y, z, e) = triple_at(text, at) else {
+    let Some((x, y, z, e)) = triple_at(text, at) else {
         return entry_cut(text, at);
     };
     if e < text.len() {
@@ -96,14 +90,6 @@ fn entry_at(text: &[u8], at: usize) -> Id
     Id { x, y, z }
 }
 
-// ## The point that an entry names
-// The row of a point, by arithmetic on the rows of segments, lanes and zones. No table is searched.
-#[derive(Clone, Copy)]
-pub enum Found {
-    At(usize),
-    Nothing,
-}
-
 // Numbers in identifiers count from 1, rows from 0.
 fn before(n: u32) -> usize
     ensures { result ≡ pred n }
@@ -112,22 +98,22 @@ fn before(n: u32) -> usize
 }
 
 // The z-th of so many points, the first of which has this row.
-fn in_part(first: u32, count: u32, z: u32) -> Found
+fn in_part(first: u32, count: u32, z: u32) -> Option<usize>
     ensures { found result ≡ Resolve.in_part_of first count z }
 {
     if 0 < z {
         if z <= count {
-            Found::At(first as usize + before(z))
+            Some(first as usize + before(z))
         } else {
-            Found::Nothing
+            None
         }
     } else {
-        Found::Nothing
+        None
     }
 }
 
 // A waypoint of lane y of segment x.
-fn waypoint_row(segments: &[u32], lanes: &[u32], e: Id) -> Found
+fn waypoint_row(segments: &[u32], lanes: &[u32], e: Id) -> Option<usize>
     ensures { found result ≡ Resolve.waypoint_at (look_in segments.now lanes.now []) e.x e.y e.z }
 {
     if 0 < e.x {
@@ -136,26 +122,32 @@ fn waypoint_row(segments: &[u32], lanes: &[u32], e: Id) -> Found
             let lane = lane_at(lanes, segment.first_lane as usize + before(e.y));
             in_part(lane.first_point, lane.points, e.z)
         } else {
-            Found::Nothing
+            None
         }
     } else {
-        Found::Nothing
+        None
     }
 }
 
 // A point of the perimeter of zone x: zones are numbered behind the segments.
-fn border_row(zones: &[u32], segment_count: u32, e: Id) -> Found
+fn border_row(zones: &[u32], segment_count: u32, e: Id) -> Option<usize>
     ensures { found result ≡ Resolve.border_at segment_count (look_in [] [] zones.now) e.x e.z }
 {
     if segment_count < e.x {
         let zone = zone_at(zones, before(e.x - segment_count));
         in_part(zone.first_point, zone.points, e.z)
     } else {
-        Found::Nothing
+        None
     }
 }
 
-pub fn resolve(segments: &[u32], lanes: &[u32], zones: &[u32], segment_count: u32, e: Id) -> Found
+pub fn resolve(
+    segments: &[u32],
+    lanes: &[u32],
+    zones: &[u32],
+    segment_count: u32,
+    e: Id,
+) -> Option<usize>
     ensures { found result ≡ Resolve.resolve segment_count (look_in segments.now lanes.now zones.now) (the_the_point_of e) }
 {
     if e.y == 0 {
@@ -174,7 +166,7 @@ fn named_at(
     zones: &[u32],
     segment_count: u32,
     at: usize,
-) -> Found
+) -> Option<usize>
     ensures { found result ≡ named_at text.now (look_in segments.now lanes.now zones.now) segment_count at }
 {
     let e = entry_at(text, at);
@@ -204,7 +196,7 @@ fn resolve_exit(
         exit.entry as usize,
     );
     match found {
-        Found::At(i) => {
+        Some(i) => {
             store_exit(
                 exits,
                 row as usize,
@@ -215,7 +207,7 @@ fn resolve_exit(
             );
             true
         }
-        Found::Nothing => false,
+        None => false,
     }
 }
 
@@ -228,7 +220,7 @@ pub fn resolve_exits(
     exits: &mut [u32],
     segment_count: u32,
     exit_count: u32,
-) -> FirstRow
+) -> Option<u32>
     ensures exits_after { told result exits.new ≡ resolved_from text.now (look_in segments.now lanes.now zones.now) segment_count exits.old 0 exit_count }
     ensures exits_after_2 { exits.new ≡ left_from text.now (look_in segments.now lanes.now zones.now) segment_count exits.old 0 exit_count }
 {
@@ -237,8 +229,8 @@ pub fn resolve_exits(
         if resolve_exit(text, segments, lanes, zones, exits, segment_count, row) {
             row += 1;
         } else {
-            return FirstRow::At(row);
+            return Some(row);
         }
     }
-    FirstRow::Nothing
+    None
 }

@@ -24,10 +24,3 @@ pub struct Refusal {
     pub number: u8,
     pub column: u32,
 }
-
-// What is found of the references of a text whose tables are filled: nothing wrong, or the first line at fault.
-#[derive(Clone, Copy)]
-pub enum References {
-    Right,
-    Wrong(Fault),
-}

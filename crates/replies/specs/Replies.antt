@@ -1,5 +1,6 @@
 -- WHAT A READER MUST BELIEVE. What the entry points reply, and what the lent tables then hold. Document 01, "Refusal numbers", "Tables"; document 02, L7. Assumes nothing.
-use Rattle.std.specs.Prelude.{◌≡◌, ◌≤◌, ◌<◌}
+use Rattle.replies.specs.Types.{PairReply, RndfReply}
+use Rattle.std.specs.Prelude.{◌≡◌, ◌≤◌, ◌<◌, Ok, Err}
 use Rattle.terms.specs.Words.{List, Option, none, some, ℕ, length, Bytes}
 use Rattle.line.specs.Line.{Field}
 use Rattle.law.specs.Network.{Network, Mission, Line, Rules, SpellsNetwork, SpellsMission, SpellsText}
@@ -11,10 +12,6 @@ use Rattle.rows.specs.declared.FileRow.{FileRow}
 use Rattle.rows.specs.declared.MissionFileRow.{MissionFileRow}
 use Rattle.counts.specs.declared.Counts.{Counts}
 use Rattle.refusal.specs.declared.Refusal.{Refusal}
-use Rattle.replies.specs.declared.RndfReply.{RndfReply}
-use Rattle.replies.specs.declared.RndfReply.TheVariants as Reply
-use Rattle.replies.specs.declared.PairReply.{PairReply}
-use Rattle.replies.specs.declared.PairReply.TheVariants as Pair
 
 -- 01: 1 "text over 16,777,215 bytes"
 abbrev pub longest : ℕ
@@ -73,16 +70,16 @@ mission_file_of m = record { name = stretch (some m.name); rndf = stretch (some 
 -- ## An RNDF alone: the reply, and what is left in the lent tables
 pub data ReadsRndf (rules : Rules) (text : Bytes) (t : Lent) (reply : RndfReply) (left : Lent) : Type 0 where
   -- 01: "rows beyond are zero"
-  accepted : (n : Network Field) → Accepts rules (an_rndf t) text n → reply ≡ Reply.Accepted (rows_used_of n) (network_file n) → left ≡ filled n t → ReadsRndf rules text t reply left
+  accepted : (n : Network Field) → Accepts rules (an_rndf t) text n → reply ≡ Ok (rows_used_of n, network_file n) → left ≡ filled n t → ReadsRndf rules text t reply left
   -- 01: "All lent tables .. are then zero over their whole length"
-  refused : (line number column : ℕ) → Refuses rules (an_rndf t) text line number column → reply ≡ Reply.Refused (refusal 1 line number column) → left ≡ zeros t → ReadsRndf rules text t reply left
+  refused : (line number column : ℕ) → Refuses rules (an_rndf t) text line number column → reply ≡ Err (refusal 1 line number column) → left ≡ zeros t → ReadsRndf rules text t reply left
 
 -- ## An RNDF with its MDF
 pub data ReadsPair (rules : Rules) (rndf mdf : Bytes) (t : Lent) (u : MissionLent) (reply : PairReply) (left : Lent) (mission_left : MissionLent) : Type 0 where
-  accepted : (n : Network Field) (m : Mission Field) → Accepts rules (an_rndf t) rndf n → Accepts rules (an_mdf n u) mdf m → reply ≡ Pair.Accepted (rows_used_of n) (network_file n) (record { goals = length m.goals; limits = length m.limits }) (mission_file_of m)
+  accepted : (n : Network Field) (m : Mission Field) → Accepts rules (an_rndf t) rndf n → Accepts rules (an_mdf n u) mdf m → reply ≡ Ok (rows_used_of n, network_file n, record { goals = length m.goals; limits = length m.limits }, mission_file_of m)
       → left ≡ filled n t → mission_left ≡ mission_filled m u → ReadsPair rules rndf mdf t u reply left mission_left
   -- 01: "for the RNDF 1; ..": everything about the RNDF comes first
-  rndf_refused_of : (line number column : ℕ) → Refuses rules (an_rndf t) rndf line number column → reply ≡ Pair.Refused (refusal 1 line number column) → left ≡ zeros t → mission_left ≡ mission_zeros u → ReadsPair rules rndf mdf t u reply left mission_left
+  rndf_refused_of : (line number column : ℕ) → Refuses rules (an_rndf t) rndf line number column → reply ≡ Err (refusal 1 line number column) → left ≡ zeros t → mission_left ≡ mission_zeros u → ReadsPair rules rndf mdf t u reply left mission_left
   -- 01: "Then the MDF likewise"
-  mdf_refused_of : (n : Network Field) (line number column : ℕ) → Accepts rules (an_rndf t) rndf n → Refuses rules (an_mdf n u) mdf line number column → reply ≡ Pair.Refused (refusal 2 line number column)
+  mdf_refused_of : (n : Network Field) (line number column : ℕ) → Accepts rules (an_rndf t) rndf n → Refuses rules (an_mdf n u) mdf line number column → reply ≡ Err (refusal 2 line number column)
       → left ≡ zeros t → mission_left ≡ mission_zeros u → ReadsPair rules rndf mdf t u reply left mission_left

@@ -12,15 +12,7 @@ use refusal::Refusal;
 use rows::{FileRow, MissionFileRow};
 
 // An RNDF alone: the rows used of each table and the file's own row; or a refusal.
-#[derive(Clone, Copy)]
-pub enum RndfReply {
-    Accepted(Counts, FileRow),
-    Refused(Refusal),
-}
+pub type RndfReply = Result<(Counts, FileRow), Refusal>;
 
 // An RNDF with its MDF: the rows used and the file's own row, of both; or a refusal.
-#[derive(Clone, Copy)]
-pub enum PairReply {
-    Accepted(Counts, FileRow, MissionCounts, MissionFileRow),
-    Refused(Refusal),
-}
+pub type PairReply = Result<(Counts, FileRow, MissionCounts, MissionFileRow), Refusal>;

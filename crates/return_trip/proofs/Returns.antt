@@ -1,4 +1,6 @@
 -- THE RETURN TRIP of an accepted RNDF, and of an accepted RNDF with its MDF, within the edition by which they were accepted (L10). Assumes nothing.
+use Rattle.std.specs.Prelude.{Ok}
+use Rattle.replies.specs.Types.{PairReply, RndfReply}
 use mathlib.Core.Path.{◌≡◌, sym, ap, subst, ◌∙◌}
 use Prim.Native.Nat.{ℕ, ◌/◌, ◌≤◌}
 use lib.ListN.{length}
@@ -26,10 +28,6 @@ use Rattle.law_tables.proofs.SameTables.{room-to, room_back, mission-room-to, mi
 use Rattle.law_tables.proofs.SameFits.{fits-to, fits-back}
 use Rattle.counts.specs.declared.Counts as Declared
 use Rattle.law_tables.specs.Used as N
-use Rattle.replies.specs.declared.RndfReply.{RndfReply}
-use Rattle.replies.specs.declared.RndfReply.TheVariants as Reply
-use Rattle.replies.specs.declared.PairReply.{PairReply}
-use Rattle.replies.specs.declared.PairReply.TheVariants as Pair
 use Rattle.replies.specs.Replies.{longest, rows_used_of, network_file, mission_file_of, ReadsRndf, ReadsPair}
 use Rattle.replies.specs.Short.{AcceptsRndf, AcceptsMdf}
 use Rattle.replies.proofs.Counted.{counts_are}
@@ -142,17 +140,17 @@ module _ (edition : Edition) where
 
   -- ## What a reader replies: the same rows used; the file's own row and the tables are those of what came back
   pub rndf-read-again : (text : Bytes) (t : Lent) (n : Network Field) → AcceptsRndf (rules_of edition) text t n → (house : Bytes) → HouseRndf n house → length house ≤ longest → (reply : RndfReply) (left : Lent) → ReadsRndf (rules_of edition) house t reply left
-      → (x : RndfReturns (rules_of edition) n house t) × (reply ≡ Reply.Accepted (rows_used_of n) (network_file x.again)) × (left ≡ Law.filled x.again t)
+      → (x : RndfReturns (rules_of edition) n house t) × (reply ≡ Ok (rows_used_of n, network_file x.again)) × (left ≡ Law.filled x.again t)
   rndf-read-again text t n a house g size reply left h =
       let x = rndf-returns text t n a house g size in
       let s = spelled-accepted edition house t reply left h x.again x.accepts in
-      (x, s.0 ∙ ap (λ (c : Declared.Counts). Reply.Accepted c (network_file x.again)) (counts-alike x.again (undated n) x.same ∙ undated-used n), s.1)
+      (x, s.0 ∙ ap (λ (c : Declared.Counts). Ok (c, network_file x.again)) (counts-alike x.again (undated n) x.same ∙ undated-used n), s.1)
 
   -- and the goals and limits are the same words
   pub pair-read-again : (rndf mdf : Bytes) (t : Lent) (u : MissionLent) (n : Network Field) (m : Mission Field) → AcceptsRndf (rules_of edition) rndf t n → AcceptsMdf (rules_of edition) n mdf u m
       → (rndf-house mdf-house : Bytes) → HouseRndf n rndf-house → HouseMdf m mdf-house → length rndf-house ≤ longest → length mdf-house ≤ longest
       → (reply : PairReply) (left : Lent) (mission_left : MissionLent) → ReadsPair (rules_of edition) rndf-house mdf-house t u reply left mission_left
-      → (x : PairReturns (rules_of edition) n m rndf-house mdf-house t u) × (reply ≡ Pair.Accepted (rows_used_of n) (network_file x.network.again) (mission_rows_used m) (mission_file_of x.mission.again))
+      → (x : PairReturns (rules_of edition) n m rndf-house mdf-house t u) × (reply ≡ Ok (rows_used_of n, network_file x.network.again, mission_rows_used m, mission_file_of x.mission.again))
       × (left ≡ Law.filled x.network.again t) × (mission_left ≡ Law.mission_filled m u)
   pair-read-again rndf mdf t u n m a b v w g f size mission-size reply left mission_left h =
       let x = pair-returns rndf mdf t u n m a b v w g f size mission-size in
@@ -161,4 +159,4 @@ module _ (edition : Edition) where
       let s = spelled-pair-accepted edition v w t u reply left mission_left h n' m' x.network.accepts x.mission.accepts in
       let c = counts-alike n' (undated n) x.network.same ∙ undated-used n in
       let d = mission-counts-alike m' (mission_undated m) x.mission.same in
-      (x, s.0 ∙ (λ i. Pair.Accepted (c i) (network_file n') (d i) (mission_file_of m')), s.1, s.2 ∙ sym (mission-filled-same m' u) ∙ mission-words-alike m' (mission_undated m) x.mission.same u ∙ mission-filled-same m u)
+      (x, s.0 ∙ (λ i. Ok (c i, network_file n', d i, mission_file_of m')), s.1, s.2 ∙ sym (mission-filled-same m' u) ∙ mission-words-alike m' (mission_undated m) x.mission.same u ∙ mission-filled-same m u)

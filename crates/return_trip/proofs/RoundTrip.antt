@@ -1,4 +1,6 @@
 -- THE RETURN TRIP, from the contracts of writers and readers alone: what was written of an accepted text, read into the same tables, is accepted by its edition with the same rows used and the same names, and leaves the same tables but for where names start. Assumes nothing.
+use Rattle.std.specs.Prelude.{Ok}
+use Rattle.replies.specs.Types.{PairReply, RndfReply}
 use mathlib.Core.Path.{◌≡◌, refl, sym, ap, ap₂, subst, ◌∙◌}
 use mathlib.Core.List.{List, [], ◌∷◌, ◌++◌, map, append_assoc, head-eq_of_cons-eq, tail-eq_of_cons-eq}
 use mathlib.Core.Option.{Option, none, some}
@@ -26,13 +28,7 @@ use Rattle.rows.specs.declared.MissionFileRow.{MissionFileRow}
 use Rattle.rows.specs.Name.{name_of}
 use Rattle.counts.specs.declared.Counts.{Counts}
 use Rattle.counts.specs.declared.MissionCounts.{MissionCounts}
-use Rattle.replies.specs.declared.RndfReply.{RndfReply}
-use Rattle.replies.specs.declared.RndfReply.TheVariants as Reply
-use Rattle.replies.specs.declared.PairReply.{PairReply}
-use Rattle.replies.specs.declared.PairReply.TheVariants as Pair
 use Rattle.replies.specs.Replies.{stretch, network_file, mission_file_of, ReadsRndf, ReadsPair}
-use Rattle.writings.specs.declared.WriteReply.TheVariants as Write
-use Rattle.writings.specs.declared.WriteMdfReply.TheVariants as WriteMdf
 use Rattle.writings.specs.Writes.{WritesRndf, WritesMdf}
 use Rattle.promises.specs.Accepted.{name_bytes, Asked}
 use Rattle.promises.proofs.Forms.{one-spelled}
@@ -198,7 +194,7 @@ module _ (text text' : Bytes) where
 
 -- ## THE THEOREMS, in each edition
 -- of an RNDF
-pub rndf-round_trip : (edition : Edition) (text : Bytes) (t left : Lent) (lent : ℕ) (c : Counts) (file : FileRow) (k : ℕ) (out : Bytes) → WritesRndf (rules_of edition) text t lent (Write.Written c file k) left out
+pub rndf-round_trip : (edition : Edition) (text : Bytes) (t left : Lent) (lent : ℕ) (c : Counts) (file : FileRow) (k : ℕ) (out : Bytes) → WritesRndf (rules_of edition) text t lent (Ok (c, file, k)) left out
     → (reply : RndfReply) (left' : Lent) → ReadsRndf (rules_of edition) (take k out) t reply left' → RndfRoundTrip (rules_of edition) text (take k out) c file left reply left'
 rndf-round_trip edition text t left lent c file k out w reply left' h =
     let x = rndf-written edition text t left lent c file k out w in
@@ -209,7 +205,7 @@ rndf-round_trip edition text t left lent c file k out w reply left' h =
     let spelled' = subst (SpellsText (rules_of edition) SpellsNetwork n') (sym x.first) y.accepts.spelled in
     record {
       file' = network_file n';
-      replied = r.1 ∙ ap (λ (d : Counts). Reply.Accepted d (network_file n')) (sym x.counted);
+      replied = r.1 ∙ ap (λ (d : Counts). Ok (d, network_file n')) (sym x.counted);
       names = subst (λ (f : FileRow). SameFile text (take k out) f (network_file n')) (sym x.row) (same-file text (take k out) edition n n' y.same x.accepts.spelled spelled');
       tables = subst (λ (l : Lent). SameTables text (take k out) l left') (sym x.holds) (subst (λ (l : Lent). SameTables text (take k out) (filled n t) l) (sym r.2) (same_tables text (take k out) edition n n' y.same x.accepts.spelled spelled' x.accepts.right y.accepts.right t));
       network = record { one = n; other = n'; spells_one = x.accepts.spelled; spells_other = spelled'; same = undated-same y.again (undated n) y.same };
@@ -217,7 +213,7 @@ rndf-round_trip edition text t left lent c file k out w reply left' h =
 
 -- of a pair: what was written of the RNDF, with what was written of the MDF
 pub pair-round_trip : (edition : Edition) (rndf mdf : Bytes) (t left₁ left : Lent) (u mission_left : MissionLent) (lent₁ lent : ℕ) (c₁ : Counts) (file₁ : FileRow) (k₁ : ℕ) (out₁ : Bytes) (c : Counts) (file : FileRow) (d : MissionCounts) (own : MissionFileRow) (k : ℕ) (out : Bytes)
-    → WritesRndf (rules_of edition) rndf t lent₁ (Write.Written c₁ file₁ k₁) left₁ out₁ → WritesMdf (rules_of edition) rndf mdf t u lent (WriteMdf.Written c file d own k) left mission_left out
+    → WritesRndf (rules_of edition) rndf t lent₁ (Ok (c₁, file₁, k₁)) left₁ out₁ → WritesMdf (rules_of edition) rndf mdf t u lent (Ok (c, file, d, own, k)) left mission_left out
     → (reply : PairReply) (left' : Lent) (mission-left' : MissionLent) → ReadsPair (rules_of edition) (take k₁ out₁) (take k out) t u reply left' mission-left' → PairRoundTrip (rules_of edition) rndf mdf (take k₁ out₁) (take k out) c file d own left mission_left reply left' mission-left'
 pair-round_trip edition rndf mdf t left₁ left u mission_left lent₁ lent c₁ file₁ k₁ out₁ c file d own k out w₁ w reply left' mission-left' h =
     let x₁ = rndf-written edition rndf t left₁ lent₁ c₁ file₁ k₁ out₁ w₁ in
@@ -236,7 +232,7 @@ pair-round_trip edition rndf mdf t left₁ left u mission_left lent₁ lent c₁
     record {
       file' = network_file y.again;
       own' = mission_file_of z.again;
-      replied = r.1 ∙ (λ i. Pair.Accepted (counted i) (network_file y.again) (mission_counted i) (mission_file_of z.again));
+      replied = r.1 ∙ (λ i. Ok (counted i, network_file y.again, mission_counted i, mission_file_of z.again));
       names = subst (λ (f : FileRow). SameFile rndf (take k₁ out₁) f (network_file y.again)) (sym x.meant.row) (same-file rndf (take k₁ out₁) edition n y.again y.same x.accepts.spelled spelled');
       mission_names = subst (λ (f : MissionFileRow). SameMissionFile mdf (take k out) f (mission_file_of z.again)) (sym x.meant.mission_row) (same-mission-file mdf (take k out) edition m z.again z.same x.takes.spelled mission-spelled');
       tables = subst (λ (l : Lent). SameTables rndf (take k₁ out₁) l left') (sym x.meant.holds)

@@ -1,4 +1,7 @@
 -- THE RETURN TRIP, from the contracts alone: what was written is read again by its edition as the same network, or mission, with as many rows, in any tables with room for them; and what is written of it again are the same bytes. Assumes nothing.
+use Rattle.std.specs.Prelude.{Ok, Err}
+use Rattle.writings.specs.Types.{WriteMdfReply, WriteReply}
+use Rattle.replies.specs.Types.{PairReply, RndfReply}
 use mathlib.Core.Path.{◌≡◌, refl, sym, ap, ap₂, subst, ◌∙◌}
 use Prim.Native.Nat.{ℕ, ◌≤◌}
 use lib.ListN.{length, take}
@@ -14,10 +17,6 @@ use Rattle.counts.specs.declared.Counts.{Counts}
 use Rattle.counts.specs.declared.MissionCounts.{MissionCounts}
 use Rattle.edition.specs.declared.Edition.{Edition}
 use Rattle.edition.specs.Editions.{inner, rules_of}
-use Rattle.replies.specs.declared.RndfReply.{RndfReply}
-use Rattle.replies.specs.declared.RndfReply.TheVariants as Reply
-use Rattle.replies.specs.declared.PairReply.{PairReply}
-use Rattle.replies.specs.declared.PairReply.TheVariants as Pair
 use Rattle.replies.specs.Replies.{stretch, rows_used_of, network_file, mission_file_of, ReadsRndf, ReadsPair, accepted}
 use Rattle.replies.specs.Short.{AcceptsRndf}
 use Rattle.replies.proofs.Said.{never_both, pair-never-both, counts_of, pair-counts-of, mission-counts-of}
@@ -29,10 +28,6 @@ use Rattle.house_text.proofs.Theorems.{rndf-again, mdf-again}
 use Rattle.law_spelling.proofs.Texts.{rndf-back, mdf-back_in}
 use Rattle.law_tables.proofs.SameTables.{mission-room-to}
 use Rattle.same.specs.Same.{SameNetwork}
-use Rattle.writings.specs.declared.WriteReply.{WriteReply}
-use Rattle.writings.specs.declared.WriteReply.TheVariants as Write
-use Rattle.writings.specs.declared.WriteMdfReply.{WriteMdfReply}
-use Rattle.writings.specs.declared.WriteMdfReply.TheVariants as WriteMdf
 use Rattle.writings.specs.Writes.{WritesRndf, WritesMdf}
 use Rattle.writings.specs.Writes as W
 use Rattle.writings.proofs.Read.{pair-reply}
@@ -70,7 +65,7 @@ module _ (edition : Edition) where
       house-mdf-only m' writing' h' ∙ mdf-again m m' text (mdf-back_in (inner edition) m text s) (subst (SpellsMdf m') e (mdf-back_in (inner edition) m' writing s')) ∙ sym e
 
   -- ## An RNDF
-  module _ (text : Bytes) (t left : Lent) (lent : ℕ) (c : Counts) (file : FileRow) (k : ℕ) (out : Bytes) (w : WritesRndf (rules_of edition) text t lent (Write.Written c file k) left out) where
+  module _ (text : Bytes) (t left : Lent) (lent : ℕ) (c : Counts) (file : FileRow) (k : ℕ) (out : Bytes) (w : WritesRndf (rules_of edition) text t lent (Ok (c, file, k)) left out) where
     abbrev What : RndfWritten edition text t left c file k out
     What = rndf-written edition text t left lent c file k out w
 
@@ -86,31 +81,31 @@ module _ (edition : Edition) where
         let s = spelled-accepted edition What.writing t' reply left' (subst (λ (b : Bytes). ReadsRndf (rules_of edition) b t' reply left') What.first h) n' y.accepts in
         record {
           file = network_file n';
-          replied = s.0 ∙ ap (λ (x : Counts). Reply.Accepted x (network_file n')) (counts-alike n' (undated What.net) y.same ∙ undated-used What.net ∙ sym What.counted);
+          replied = s.0 ∙ ap (λ (x : Counts). Ok (x, network_file n')) (counts-alike n' (undated What.net) y.same ∙ undated-used What.net ∙ sym What.counted);
           dateless = ap stretch (no-date n' What.net y.same);
           network = record { one = What.net; other = n'; spells_one = What.accepts.spelled; spells_other = subst (SpellsText (rules_of edition) SpellsNetwork n') (sym What.first) y.accepts.spelled; same = undated-same n' (undated What.net) y.same };
         }
 
     -- and what is written of it again, into any output that is long enough, are the same bytes
     pub rndf-written-again : (t' left' : Lent) (lent' : ℕ) (reply : WriteReply) (out' : Bytes) → RoomFor c t' → k ≤ lent' → WritesRndf (rules_of edition) (take k out) t' lent' reply left' out'
-        → ((row : FileRow) × (reply ≡ Write.Written c row k)) × (out' ≡ padded lent' (take k out))
+        → ((row : FileRow) × (reply ≡ Ok (c, row, k))) × (out' ≡ padded lent' (take k out))
     rndf-written-again t' left' lent' reply out' room long v = go v
       where
         same : (n' : Network Field) (writing' : Bytes) → SpellsText (rules_of edition) SpellsNetwork n' (take k out) → HouseRndf n' writing' → writing' ≡ What.writing
         same n' writing' s g = same-writing What.net n' text What.writing writing' What.accepts.spelled What.house (subst (SpellsText (rules_of edition) SpellsNetwork n') What.first s) g
 
-        go : WritesRndf (rules_of edition) (take k out) t' lent' reply left' out' → ((row : FileRow) × (reply ≡ Write.Written c row k)) × (out' ≡ padded lent' (take k out))
-        go (W.refused why h e z) = absurd (never_both (sym (rndf-comes-back t' left' (Reply.Refused why) room h).replied))
+        go : WritesRndf (rules_of edition) (take k out) t' lent' reply left' out' → ((row : FileRow) × (reply ≡ Ok (c, row, k))) × (out' ≡ padded lent' (take k out))
+        go (W.refused why h e z) = absurd (never_both (sym (rndf-comes-back t' left' (Err why) room h).replied))
         go (W.too_long y f e p z) = absurd (f (subst (Fits lent') (sym (same y.meant y.writing y.accepted.spelled y.wrote)) (record { size = What.size; room = subst (λ (y : ℕ). y ≤ lent') What.long long })))
         go (W.written y f e p z) =
             let n' = y.meant in
             let q = same n' y.writing y.accepted.spelled y.wrote in
-            let b = rndf-comes-back t' left' (Reply.Accepted (rows_used_of n') (network_file n')) room (accepted n' y.accepted refl p) in
-            ((network_file n', e ∙ ap₂ (λ (x : Counts) (k' : ℕ). Write.Written x (network_file n') k') (ap (counts_of c) b.replied) (ap length q ∙ sym What.long)), z ∙ ap (padded lent') (q ∙ sym What.first))
+            let b = rndf-comes-back t' left' (Ok (rows_used_of n', network_file n')) room (accepted n' y.accepted refl p) in
+            ((network_file n', e ∙ ap₂ (λ (x : Counts) (k' : ℕ). Ok (x, network_file n', k')) (ap (counts_of c) b.replied) (ap length q ∙ sym What.long)), z ∙ ap (padded lent') (q ∙ sym What.first))
 
   -- ## The MDF of a pair
   module _ (rndf mdf : Bytes) (t left : Lent) (u mission_left : MissionLent) (lent : ℕ) (c : Counts) (file : FileRow) (d : MissionCounts) (row : MissionFileRow) (k : ℕ) (out : Bytes)
-      (w : WritesMdf (rules_of edition) rndf mdf t u lent (WriteMdf.Written c file d row k) left mission_left out) where
+      (w : WritesMdf (rules_of edition) rndf mdf t u lent (Ok (c, file, d, row, k)) left mission_left out) where
     abbrev Whole : MdfWritten edition rndf mdf t left u mission_left c file d row k out
     Whole = mdf-written edition rndf mdf t left u mission_left lent c file d row k out w
 
@@ -128,7 +123,7 @@ module _ (edition : Edition) where
         record {
           file = network_file n';
           mission_file_of = mission_file_of m';
-          replied = s.0 ∙ ap₂ (λ (x : Counts) (z : MissionCounts). Pair.Accepted x (network_file n') z (mission_file_of m')) one two;
+          replied = s.0 ∙ ap₂ (λ (x : Counts) (z : MissionCounts). Ok (x, network_file n', z, mission_file_of m')) one two;
           dateless = ap stretch (no-mission-date m' m y.same);
           network = record { one = n; other = n'; spells_one = Whole.accepts.spelled; spells_other = a.spelled; same = e };
           mission = record { one = m; other = m'; spells_one = Whole.takes.spelled; spells_other = subst (SpellsText (rules_of edition) SpellsMission m') (sym Whole.first) y.accepts.spelled; same = mission-undated-same m' (mission_undated m) y.same };
@@ -141,7 +136,7 @@ module _ (edition : Edition) where
         came-back-with rndf t' left' u' mission-left' Whole.net reply (record { size = a.size; spelled = a.spelled; room = room_as Whole.net t' c Whole.meant.counted room; right = a.right }) refl mission-room h
 
     -- with what was written of that RNDF
-    pub pair-comes-back : (s held : Lent) (room-lent : ℕ) (c₁ : Counts) (file₁ : FileRow) (k₁ : ℕ) (out₁ : Bytes) → WritesRndf (rules_of edition) rndf s room-lent (Write.Written c₁ file₁ k₁) held out₁
+    pub pair-comes-back : (s held : Lent) (room-lent : ℕ) (c₁ : Counts) (file₁ : FileRow) (k₁ : ℕ) (out₁ : Bytes) → WritesRndf (rules_of edition) rndf s room-lent (Ok (c₁, file₁, k₁)) held out₁
         → (t' left' : Lent) (u' mission-left' : MissionLent) (reply : PairReply) → RoomFor c t' → MissionRoomFor d u' → ReadsPair (rules_of edition) (take k₁ out₁) (take k out) t' u' reply left' mission-left'
         → PairReadBack (rules_of edition) rndf mdf (take k₁ out₁) (take k out) c d reply
     pair-comes-back s held room-lent c₁ file₁ k₁ out₁ v t' left' u' mission-left' reply room mission-room h =
@@ -153,17 +148,17 @@ module _ (edition : Edition) where
 
     -- what is written of it again, into any output that is long enough, are the same bytes
     pub mdf-written-again : (t' left' : Lent) (u' mission-left' : MissionLent) (lent' : ℕ) (reply : WriteMdfReply) (out' : Bytes) → RoomFor c t' → MissionRoomFor d u' → k ≤ lent' → WritesMdf (rules_of edition) rndf (take k out) t' u' lent' reply left' mission-left' out'
-        → ((file' : FileRow) × (row' : MissionFileRow) × (reply ≡ WriteMdf.Written c file' d row' k)) × (out' ≡ padded lent' (take k out))
+        → ((file' : FileRow) × (row' : MissionFileRow) × (reply ≡ Ok (c, file', d, row', k))) × (out' ≡ padded lent' (take k out))
     mdf-written-again t' left' u' mission-left' lent' reply out' room mission-room long v = go v
       where
         same : (m' : Mission Field) (writing' : Bytes) → SpellsText (rules_of edition) SpellsMission m' (take k out) → HouseMdf m' writing' → writing' ≡ Whole.writing
         same m' writing' s g = same-mdf-writing Whole.mission m' mdf Whole.writing writing' Whole.takes.spelled Whole.house (subst (SpellsText (rules_of edition) SpellsMission m') Whole.first s) g
 
-        go : WritesMdf (rules_of edition) rndf (take k out) t' u' lent' reply left' mission-left' out' → ((file' : FileRow) × (row' : MissionFileRow) × (reply ≡ WriteMdf.Written c file' d row' k)) × (out' ≡ padded lent' (take k out))
-        go (W.refused why h e z) = absurd (pair-never-both (sym (mdf-comes-back t' left' u' mission-left' (Pair.Refused why) room mission-room h).replied))
+        go : WritesMdf (rules_of edition) rndf (take k out) t' u' lent' reply left' mission-left' out' → ((file' : FileRow) × (row' : MissionFileRow) × (reply ≡ Ok (c, file', d, row', k))) × (out' ≡ padded lent' (take k out))
+        go (W.refused why h e z) = absurd (pair-never-both (sym (mdf-comes-back t' left' u' mission-left' (Err why) room mission-room h).replied))
         go (W.too_long n' a' y f e p q z) = absurd (f (subst (Fits lent') (sym (same y.meant y.writing y.accepted.spelled y.wrote)) (record { size = Whole.size; room = subst (λ (y : ℕ). y ≤ lent') Whole.long long })))
         go (W.written n' a' y f e p p' z) =
             let q = same y.meant y.writing y.accepted.spelled y.wrote in
             let b = mdf-comes-back t' left' u' mission-left' (pair-reply n' y.meant) room mission-room (accepted n' y.meant a' y.accepted refl p p') in
             let j = ap length q ∙ sym Whole.long in
-            ((network_file n', mission_file_of y.meant, e ∙ (λ i. WriteMdf.Written (pair-counts-of c (b.replied i)) (network_file n') (mission-counts-of d (b.replied i)) (mission_file_of y.meant) (j i))), z ∙ ap (padded lent') (q ∙ sym Whole.first))
+            ((network_file n', mission_file_of y.meant, e ∙ (λ i. Ok (pair-counts-of c (b.replied i), network_file n', mission-counts-of d (b.replied i), mission_file_of y.meant, j i))), z ∙ ap (padded lent') (q ∙ sym Whole.first))

@@ -1,4 +1,7 @@
 -- WHAT WAS WRITTEN, from the contracts of writers: the house writing of what was accepted, in its edition. Assumes nothing.
+use Rattle.std.specs.Prelude.{Ok, Err}
+use Rattle.writings.specs.Types.{WriteMdfReply, WriteReply}
+use Rattle.replies.specs.Types.{PairReply}
 use mathlib.Core.Path.{◌≡◌, sym, ap, ◌∙◌}
 use Prim.Native.Nat.{ℕ, ◌-◌, ◌≤◌}
 use lib.ListN.{length, take}
@@ -15,14 +18,8 @@ use Rattle.rows.specs.declared.FileRow.{FileRow}
 use Rattle.rows.specs.declared.MissionFileRow.{MissionFileRow}
 use Rattle.counts.specs.declared.Counts.{Counts}
 use Rattle.counts.specs.declared.MissionCounts.{MissionCounts}
-use Rattle.replies.specs.declared.PairReply.{PairReply}
-use Rattle.replies.specs.declared.PairReply.TheVariants as Pair
 use Rattle.replies.specs.Replies.{longest, rows_used_of, network_file, ReadsPair, accepted}
 use Rattle.replies.specs.Short.{AcceptsRndf, AcceptsMdf}
-use Rattle.writings.specs.declared.WriteReply.{WriteReply}
-use Rattle.writings.specs.declared.WriteReply.TheVariants as Write
-use Rattle.writings.specs.declared.WriteMdfReply.{WriteMdfReply}
-use Rattle.writings.specs.declared.WriteMdfReply.TheVariants as WriteMdf
 use Rattle.writings.specs.Writes.{WritesRndf, WritesMdf}
 use Rattle.writings.specs.Writes as W
 use Rattle.writings.proofs.Said.{wrote-or-not, mdf-wrote-or-not}
@@ -48,18 +45,18 @@ module _ (edition : Edition) where
     pub holds : left ≡ filled net t
 
   abbrev counts_in : Counts → WriteReply → Counts
-  counts_in d (Write.Written c file k) = c
-  counts_in d (Write.Refused why) = d
+  counts_in d (Ok (c, file, k)) = c
+  counts_in d (Err why) = d
 
   abbrev file_in : FileRow → WriteReply → FileRow
-  file_in d (Write.Written c file k) = file
-  file_in d (Write.Refused why) = d
+  file_in d (Ok (c, file, k)) = file
+  file_in d (Err why) = d
 
   abbrev long_in : WriteReply → ℕ
-  long_in (Write.Written c file k) = k
-  long_in (Write.Refused why) = 0
+  long_in (Ok (c, file, k)) = k
+  long_in (Err why) = 0
 
-  pub rndf-written : (text : Bytes) (t left : Lent) (lent : ℕ) (c : Counts) (file : FileRow) (k : ℕ) (out : Bytes) → WritesRndf (rules_of edition) text t lent (Write.Written c file k) left out → RndfWritten text t left c file k out
+  pub rndf-written : (text : Bytes) (t left : Lent) (lent : ℕ) (c : Counts) (file : FileRow) (k : ℕ) (out : Bytes) → WritesRndf (rules_of edition) text t lent (Ok (c, file, k)) left out → RndfWritten text t left c file k out
   rndf-written text t left lent c file k out (W.refused why h e z) = absurd (wrote-or-not e)
   rndf-written text t left lent c file k out (W.too_long y f e p z) = absurd (wrote-or-not e)
   rndf-written text t left lent c file k out (W.written y f e p z) =
@@ -80,19 +77,19 @@ module _ (edition : Edition) where
 
   -- the reply's parts, of a reply that was written
   abbrev written_as : WriteMdfReply → PairReply → PairReply
-  written_as (WriteMdf.Written c file d own k) other = Pair.Accepted c file d own
-  written_as (WriteMdf.Refused why) other = other
+  written_as (Ok (c, file, d, own, k)) other = Ok (c, file, d, own)
+  written_as (Err why) other = other
 
   abbrev mdf-long_in : WriteMdfReply → ℕ
-  mdf-long_in (WriteMdf.Written c file d own k) = k
-  mdf-long_in (WriteMdf.Refused why) = 0
+  mdf-long_in (Ok (c, file, d, own, k)) = k
+  mdf-long_in (Err why) = 0
 
   pub mdf-written : (rndf mdf : Bytes) (t left : Lent) (u mission_left : MissionLent) (lent : ℕ) (c : Counts) (file : FileRow) (d : MissionCounts) (own : MissionFileRow) (k : ℕ) (out : Bytes)
-      → WritesMdf (rules_of edition) rndf mdf t u lent (WriteMdf.Written c file d own k) left mission_left out → MdfWritten rndf mdf t left u mission_left c file d own k out
+      → WritesMdf (rules_of edition) rndf mdf t u lent (Ok (c, file, d, own, k)) left mission_left out → MdfWritten rndf mdf t left u mission_left c file d own k out
   mdf-written rndf mdf t left u mission_left lent c file d own k out (W.refused why h e z) = absurd (mdf-wrote-or-not e)
   mdf-written rndf mdf t left u mission_left lent c file d own k out (W.too_long n a y f e p q z) = absurd (mdf-wrote-or-not e)
   mdf-written rndf mdf t left u mission_left lent c file d own k out (W.written n a y f e p q z) =
-      let h : ReadsPair (rules_of edition) rndf mdf t u (Pair.Accepted c file d own) left mission_left = accepted n y.meant a y.accepted (ap (λ (r : WriteMdfReply). written_as r (Pair.Accepted c file d own)) e) p q in
+      let h : ReadsPair (rules_of edition) rndf mdf t u (Ok (c, file, d, own)) left mission_left = accepted n y.meant a y.accepted (ap (λ (r : WriteMdfReply). written_as r (Ok (c, file, d, own))) e) p q in
       record {
         net = n;
         mission = y.meant;

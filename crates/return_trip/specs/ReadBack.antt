@@ -1,5 +1,6 @@
 -- WHAT A READER MUST BELIEVE. The return trip over the contracts: what was written is read again as the same network, or mission, with as many rows. Document 01, "House writing"; "A network or mission is its tables with each name's bytes in place of start and length." Assumes nothing.
-use Rattle.std.specs.Prelude.{◌≡◌, ◌≤◌, ◌/◌}
+use Rattle.replies.specs.Types.{PairReply, RndfReply}
+use Rattle.std.specs.Prelude.{◌≡◌, ◌≤◌, ◌/◌, Ok}
 use Rattle.terms.specs.Words.{none, length, Bytes}
 use Rattle.line.specs.Content.{Field}
 use Rattle.grammar.specs.Network.{Network}
@@ -10,10 +11,6 @@ use Rattle.rows.specs.declared.MissionFileRow.{MissionFileRow}
 use Rattle.law.specs.Tables.{Lent, MissionLent}
 use Rattle.counts.specs.declared.Counts.{Counts}
 use Rattle.counts.specs.declared.MissionCounts.{MissionCounts}
-use Rattle.replies.specs.declared.RndfReply.{RndfReply}
-use Rattle.replies.specs.declared.RndfReply.TheVariants as Reply
-use Rattle.replies.specs.declared.PairReply.{PairReply}
-use Rattle.replies.specs.declared.PairReply.TheVariants as Pair
 use Rattle.same.specs.Same.{SameNetwork, SameMission}
 use Rattle.house_text.specs.House.{undated, mission_undated}
 use Rattle.replies.specs.Replies.{stretch}
@@ -51,7 +48,7 @@ pub record SameMdf (rules : Rules) (text text' : Bytes) : Type 0 where
 -- the reply to what was written of an RNDF
 pub record RndfReadBack (rules : Rules) (text writing : Bytes) (c : Counts) (reply : RndfReply) : Type 0 where
   pub file : FileRow
-  pub replied : reply ≡ Reply.Accepted c file
+  pub replied : reply ≡ Ok (c, file)
   -- L12: "but for a missing date"
   pub dateless : file.date ≡ stretch none
   pub network : SameRndf rules text writing
@@ -60,7 +57,7 @@ pub record RndfReadBack (rules : Rules) (text writing : Bytes) (c : Counts) (rep
 pub record PairReadBack (rules : Rules) (rndf mdf rndf' writing : Bytes) (c : Counts) (d : MissionCounts) (reply : PairReply) : Type 0 where
   pub file : FileRow
   pub mission_file_of : MissionFileRow
-  pub replied : reply ≡ Pair.Accepted c file d mission_file_of
+  pub replied : reply ≡ Ok (c, file, d, mission_file_of)
   pub dateless : mission_file_of.date ≡ stretch none
   pub network : SameRndf rules rndf rndf'
   pub mission : SameMdf rules mdf writing

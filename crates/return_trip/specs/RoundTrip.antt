@@ -1,5 +1,6 @@
 -- WHAT A READER MUST BELIEVE. THE RETURN TRIP: what is replied, and left in the lent tables, where what was written of a text is read into the same tables. Document 01, "House writing"; "A network or mission is its tables with each name's bytes in place of start and length." Assumes nothing.
-use Rattle.std.specs.Prelude.{◌≡◌, ◌∷◌, ◌++◌}
+use Rattle.replies.specs.Types.{PairReply, RndfReply}
+use Rattle.std.specs.Prelude.{◌≡◌, ◌∷◌, ◌++◌, Ok}
 use Rattle.terms.specs.Words.{List, none, ℕ, length, replicate, Bytes}
 use Rattle.law.specs.Network.{Rules}
 use Rattle.law.specs.Tables.{Lent, MissionLent}
@@ -8,10 +9,6 @@ use Rattle.rows.specs.declared.MissionFileRow.{MissionFileRow}
 use Rattle.rows.specs.Name.{name_of}
 use Rattle.counts.specs.declared.Counts.{Counts}
 use Rattle.counts.specs.declared.MissionCounts.{MissionCounts}
-use Rattle.replies.specs.declared.RndfReply.{RndfReply}
-use Rattle.replies.specs.declared.RndfReply.TheVariants as Reply
-use Rattle.replies.specs.declared.PairReply.{PairReply}
-use Rattle.replies.specs.declared.PairReply.TheVariants as Pair
 use Rattle.replies.specs.Replies.{stretch}
 use Rattle.return_trip.specs.ReadBack.{SameRndf, SameMdf}
 
@@ -52,7 +49,7 @@ module _ (text text' : Bytes) where
 -- an RNDF: it was accepted with these rows used and this file's row, which left the tables so. What was written of it is then accepted with the same rows used and the same names, and leaves the same tables but for where names start; the two spell the same network
 pub record RndfRoundTrip (rules : Rules) (text writing : Bytes) (c : Counts) (file : FileRow) (left : Lent) (reply : RndfReply) (left' : Lent) : Type 0 where
   pub file' : FileRow
-  pub replied : reply ≡ Reply.Accepted c file'
+  pub replied : reply ≡ Ok (c, file')
   pub names : SameFile text writing file file'
   pub tables : SameTables text writing left left'
   pub network : SameRndf rules text writing
@@ -61,7 +58,7 @@ pub record RndfRoundTrip (rules : Rules) (text writing : Bytes) (c : Counts) (fi
 pub record PairRoundTrip (rules : Rules) (rndf mdf rndf-writing mdf-writing : Bytes) (c : Counts) (file : FileRow) (d : MissionCounts) (own : MissionFileRow) (left : Lent) (mission_left : MissionLent) (reply : PairReply) (left' : Lent) (mission-left' : MissionLent) : Type 0 where
   pub file' : FileRow
   pub own' : MissionFileRow
-  pub replied : reply ≡ Pair.Accepted c file' d own'
+  pub replied : reply ≡ Ok (c, file', d, own')
   pub names : SameFile rndf rndf-writing file file'
   pub mission_names : SameMissionFile mdf mdf-writing own own'
   pub tables : SameTables rndf rndf-writing left left'

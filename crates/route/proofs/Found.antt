@@ -1,4 +1,5 @@
 -- THE LAW of the verdict: where `move` decides the moves and `point` tells the goals' points, it is the law's. Assumes nothing.
+use Rattle.std.specs.Prelude.{⊤, Ok, Err, Result}
 use mathlib.Core.Path.{◌≡◌, refl, sym, ap, subst, ◌∙◌}
 use mathlib.Core.Logic.{◌↔◌}
 use mathlib.Core.Bool.{Bool, true, false}
@@ -13,17 +14,15 @@ use Rattle.terms.proofs.Tests.{clash}
 use Rattle.room.specs.Room.{fitted}
 use Rattle.route_law.specs.Routes.{At, Last, Taken, Moves, Ends, BeginsAtStart, GoodRoute, RouteFault, no_beginning, no_move, not_met, wrong_end}
 use Rattle.route_law.proofs.Places.{at-below, last_one, taken-met}
-use Rattle.route.specs.declared.Verdict.{Verdict}
-use Rattle.route.specs.declared.Verdict.TheVariants as Verdict
 use Rattle.route.specs.Judged.{begins, stray, goals_met_of, ends, met_verdict_of, verdict}
 use Rattle.route.proofs.Steps.{at_here, at-is, last-here, stray-from, moved, not-moved}
 use Rattle.route.proofs.Taking.{Met, all, stuck, met}
 
 module _ (points : ℕ) (Move : ℕ → ℕ → Type 0) (start : ℕ) (route goals : List ℕ) where
   -- what a verdict says
-  abbrev pub Says : Verdict → Type 0
-  Says Verdict.Good = GoodRoute points Move start route goals
-  Says (Verdict.Wrong line number) = (place : ℕ) × (line ≡ fitted place) × RouteFault points Move start route goals place number
+  abbrev pub Says : Result ⊤ (ℕ × ℕ) → Type 0
+  Says (Ok _) = GoodRoute points Move start route goals
+  Says (Err (line, number)) = (place : ℕ) × (line ≡ fitted place) × RouteFault points Move start route goals place number
 
   module _ (move : ℕ → ℕ → Bool) (decides : (a b : ℕ) → (move a b ≡ true) ↔ Move a b) (point : ℕ → ℕ) (are : (k : ℕ) → k < length goals → point k ≡ get_or goals k 0) (some : 1 ≤ length goals) where
     -- 21
@@ -78,7 +77,7 @@ module _ (points : ℕ) (Move : ℕ → ℕ → Type 0) (start : ℕ) (route goa
 
       module _ (moves : Moves Move route (length route)) where
         -- 24
-        ended : (left : ℕ) → Taken route 0 goals left → (x : Bool) → ends point (length goals) route ≡ x → Says (pick x Verdict.Good (Verdict.Wrong 0 24))
+        ended : (left : ℕ) → Taken route 0 goals left → (x : Bool) → ends point (length goals) route ≡ x → Says (pick x (Ok tt) (Err (0, 24)))
         unfolding ends
         ended left t true e = record { begins = b; moves = moves; met = taken-met route goals left t; ends = record { end = get_or route (length route - 1) 0; of_route = last-here route long; of_goals = subst (Last goals) (sym (eqb-true (get_or route (length route - 1) 0) (point (length goals - 1)) e ∙ are (length goals - 1) (omega arith))) (last-here goals some) } }
         ended left t false e = (
@@ -97,7 +96,7 @@ module _ (points : ℕ) (Move : ℕ → ℕ → Type 0) (start : ℕ) (route goa
             m = met route point (length goals) (length route) 0 0 goals (omega arith) (omega arith) (λ j l. ap point (let e : 0 + j ≡ j = omega arith in e) ∙ are j l)
 
             go : Met route 0 goals m.0 → (x : Bool) → ltb (goals_met_of point (length goals) route 0 0 (length route)) (length goals) ≡ x
-                → Says (pick x (Verdict.Wrong (fitted (goals_met_of point (length goals) route 0 0 (length route))) 23) (pick (ends point (length goals) route) Verdict.Good (Verdict.Wrong 0 24)))
+                → Says (pick x (Err (fitted (goals_met_of point (length goals) route 0 0 (length route)), 23)) (pick (ends point (length goals) route) (Ok tt) (Err (0, 24))))
             go (all left t e) true f = let l = ltb-true (goals_met_of point (length goals) route 0 0 (length route)) (length goals) f in let k = m.1 in absurd (omega arith)
             go (all left t e) false f = ended left t (ends point (length goals) route) refl
             go (stuck before p after left split t h e) true f = (length before, ap fitted (m.1 ∙ (let z : 0 + m.0 ≡ m.0 = omega arith in z) ∙ e), not_met before p after left b moves split t h)
@@ -107,7 +106,7 @@ module _ (points : ℕ) (Move : ℕ → ℕ → Type 0) (start : ℕ) (route goa
                 let n : length goals ≡ length before + suc (length after) = ap length split ∙ length-append before (p ∷ after) in
                 absurd (omega arith)
 
-      moving : (x : Bool) → ltb first (length route) ≡ x → Says (pick x (Verdict.Wrong (fitted first) 22) (met_verdict_of point (length goals) route))
+      moving : (x : Bool) → ltb first (length route) ≡ x → Says (pick x (Err (fitted first, 22)) (met_verdict_of point (length goals) route))
       moving true e = (first, refl, strays (ltb-true first (length route) e))
       moving false e = met-says (all-move (ltb-false first (length route) e))
 
@@ -116,6 +115,6 @@ module _ (points : ℕ) (Move : ℕ → ℕ → Type 0) (start : ℕ) (route goa
     verdict-says = go (begins points start route) refl
       where
         go : (x : Bool) → begins points start route ≡ x
-            → Says (pick x (pick (ltb (stray move route 1 (length route - 1)) (length route)) (Verdict.Wrong (fitted (stray move route 1 (length route - 1))) 22) (met_verdict_of point (length goals) route)) (Verdict.Wrong 0 21))
+            → Says (pick x (pick (ltb (stray move route 1 (length route - 1)) (length route)) (Err (fitted (stray move route 1 (length route - 1)), 22)) (met_verdict_of point (length goals) route)) (Err (0, 21)))
         go true e = moving (begun e) (ltb (stray move route 1 (length route - 1)) (length route)) refl
         go false e = (0, omega arith, no_beginning (unbegun e))

@@ -27,13 +27,6 @@ use replies::PairReply;
 use room::{clear_tables, in_word};
 use rows::clear;
 
-// What a route gets: what stands in place of the line, and the number.
-#[derive(Clone, Copy)]
-pub enum Verdict {
-    Good,
-    Wrong(u32, u8),
-}
-
 // 21: it begins at the start, which is declared.
 fn begins(points: u32, start: u32, route: &[u32]) -> bool
     ensures { result ≡ begins points start route.now }
@@ -111,17 +104,22 @@ fn ends(checkpoints: &[u32], goals: &[u32], count: u32, route: &[u32]) -> bool
     last_point(route) == goal_point(checkpoints, goals, last_row(count))
 }
 
-fn met_verdict(checkpoints: &[u32], goals: &[u32], count: u32, route: &[u32]) -> Verdict
+fn met_verdict(
+    checkpoints: &[u32],
+    goals: &[u32],
+    count: u32,
+    route: &[u32],
+) -> Result<(), (u32, u8)>
     ensures { result ≡ met_verdict_of (goal_point_of checkpoints.now goals.now) count route.now }
 {
     let met = goals_met(checkpoints, goals, count, route);
     if met < count as usize {
-        return Verdict::Wrong(in_word(met), 23);
+        return Err((in_word(met), 23));
     }
     if ends(checkpoints, goals, count, route) {
-        Verdict::Good
+        Ok(())
     } else {
-        Verdict::Wrong(0, 24)
+        Err((0, 24))
     }
 }
 
@@ -135,17 +133,17 @@ fn judged(
     m: MissionCounts,
     start: u32,
     route: &[u32],
-) -> Verdict
+) -> Result<(), (u32, u8)>
     ensures { result ≡ verdict (is_move lanes.now zones.now exits.now c) (goal_point_of checkpoints.now goals.now) c.points m.goals start route.now }
 {
     if begins(c.points, start, route) {
         let place = stray(lanes, zones, exits, c, route);
         if place < route.len() {
-            return Verdict::Wrong(in_word(place), 22);
+            return Err((in_word(place), 22));
         }
         met_verdict(checkpoints, goals, m.goals, route)
     } else {
-        Verdict::Wrong(0, 21)
+        Err((0, 21))
     }
 }
 
@@ -163,11 +161,11 @@ fn ruled(
     ensures { result ≡ ruled lanes.now zones.now checkpoints.now exits.now goals.now start route.now reply }
 {
     match reply {
-        PairReply::Accepted(c, file, m, own) => {
+        Ok((c, file, m, own)) => {
             let found = judged(lanes, zones, checkpoints, exits, goals, c, m, start, route);
             match found {
-                Verdict::Good => PairReply::Accepted(c, file, m, own),
-                Verdict::Wrong(line, number) => PairReply::Refused(Refusal {
+                Ok(()) => Ok((c, file, m, own)),
+                Err((line, number)) => Err(Refusal {
                     file: 0,
                     line: line,
                     number: number,
@@ -175,7 +173,7 @@ fn ruled(
                 }),
             }
         }
-        PairReply::Refused(why) => PairReply::Refused(why),
+        Err(why) => Err(why),
     }
 }
 
@@ -216,8 +214,8 @@ pub fn check_route(
     );
     let reply = ruled(lanes, zones, checkpoints, exits, goals, start, route, read);
     match reply {
-        PairReply::Accepted(c, file, m, own) => PairReply::Accepted(c, file, m, own),
-        PairReply::Refused(why) => {
+        Ok((c, file, m, own)) => Ok((c, file, m, own)),
+        Err(why) => {
             clear_tables(
                 segments,
                 lanes,
@@ -230,7 +228,7 @@ pub fn check_route(
             );
             clear(goals);
             clear(limits);
-            PairReply::Refused(why)
+            Err(why)
         }
     }
 }

@@ -1,2 +1,3 @@
 -- What a line of an RNDF says.
+pub mod Types
 pub mod Saying

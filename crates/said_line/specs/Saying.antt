@@ -1,5 +1,6 @@
 -- What an answer stands for at a place: what the judge gives the line there. Assumes nothing.
-use Rattle.std.specs.Prelude.{◌≡◌, List, ℕ, ◌≤◌, eqb}
+use Rattle.said_line.specs.Types.{Said}
+use Rattle.std.specs.Prelude.{◌≡◌, List, ℕ, ◌≤◌, eqb, Ok, Err}
 use Rattle.std.proofs.Math.Option.{Option, none, some}
 use Rattle.terms.specs.Ascii.{Bytes}
 use Rattle.terms.specs.Words.{pick}
@@ -15,8 +16,6 @@ use Rattle.plain_parts.specs.Stands.{stretch}
 use Rattle.plain_fields.specs.LineStands.{stated}
 use Rattle.said_line.specs.declared.Cut as DC
 use Rattle.said_line.specs.declared.Cut.TheVariants as Cut
-use Rattle.said_line.specs.declared.Said as DS
-use Rattle.said_line.specs.declared.Said.TheVariants as Said
 use Rattle.said_line.specs.declared.Line as DL
 use Rattle.said_line.specs.declared.Line.TheVariants as Line
 
@@ -50,16 +49,11 @@ LastOfFew count n (Cut.Bad m) = Unit {0}
 
 -- ## The line
 -- the line that starts there gets this at the place, ends where it is said to, and its last field starts there
-abbrev pub Says : List (List ℕ) → Bytes → ℕ → Place → DS.Said → Type 0
-Says table s from p (Said.Is k st e last) = (e ≡ reach (stops_by (Byte 10)) s from) × (line (judging table) (stretch s from e) from p ≡ stated (judging table) k st p) × (last ≡ last_start_of (line_fields_of from (stretch s from e)))
-Says table s from p (Said.Refused n) = line (judging table) (stretch s from (reach (stops_by (Byte 10)) s from)) from p ≡ bad n
+abbrev pub Says : List (List ℕ) → Bytes → ℕ → Place → Said → Type 0
+Says table s from p (Ok (k, st, e, last)) = (e ≡ reach (stops_by (Byte 10)) s from) × (line (judging table) (stretch s from e) from p ≡ stated (judging table) k st p) × (last ≡ last_start_of (line_fields_of from (stretch s from e)))
+Says table s from p (Err n) = line (judging table) (stretch s from (reach (stops_by (Byte 10)) s from)) from p ≡ bad n
 
 -- the same of a blank one
 abbrev pub LineSays : List (List ℕ) → Bytes → ℕ → Place → DL.Line → Type 0
 LineSays table s from p (Line.Blank e) = (e ≡ reach (stops_by (Byte 10)) s from) × (line (judging table) (stretch s from e) from p ≡ blank)
 LineSays table s from p (Line.Filled x) = Says table s from p x
-
--- the number that refuses a line
-abbrev pub number_of : DS.Said → ℕ
-number_of (Said.Is k st e last) = 0
-number_of (Said.Refused n) = n

@@ -13,13 +13,12 @@ ghost use Rattle.line_fields.specs.LineFields.{fields_by, line_fields_of, last_s
 ghost use Rattle.made_out.specs.Made.{made_from};
 ghost use Rattle.judge.specs.Judging.{of_kind, told, content, line};
 ghost use Rattle.judge.specs.RndfLine.{judging};
-ghost use Rattle.said_line.specs.Saying.{last_in, made_cut, got_of, LastOfFew, LastTold, LineSays, number_of};
+ghost use Rattle.said_line.specs.Saying.{last_in, made_cut, got_of, LastOfFew, LastTold, LineSays};
 
 use judge::kind_of;
-use line::{Fields, Form, fields_of, form_of, trimmed};
-use made_out::{Made, fields_needed, made_out};
+use line::{Fields, fields_of, form_of, trimmed};
+use made_out::{fields_needed, made_out};
 use place::Place;
-use place_table::Verdict;
 use plain_line::{Plain, plain_line};
 use scan::far_byte_from;
 use statement::{Statement, kinds};
@@ -35,29 +34,13 @@ enum Cut {
 }
 
 // A line that is not blank is made out as one statement, with its kind, the line's end, and where its last field starts; or it is refused.
-#[derive(Clone, Copy)]
-pub enum Said {
-    Is(u8, Statement, usize, usize),
-    Refused(u8),
-}
+pub type Said = Result<(u8, Statement, usize, usize), u8>;
 
 // A line: nothing, and where it ends; or what it says.
 #[derive(Clone, Copy)]
 pub enum Line {
     Blank(usize),
     Filled(Said),
-}
-
-impl Said {
-    // The number that a line is refused with, where it is.
-    pub fn number(self) -> u8
-        ensures { result ≡ number_of self }
-    {
-        match self {
-            Said::Is(_, _, _, _) => 0,
-            Said::Refused(n) => n,
-        }
-    }
 }
 
 // Where the last of at most three fields starts.
@@ -77,10 +60,10 @@ fn last_start(f: Fields) -> usize
 }
 
 // 8, or the statement of a kind.
-fn made_told(kind: u8, m: Made, last: usize) -> Cut
+fn made_told(kind: u8, m: Option<Statement>, last: usize) -> Cut
     ensures { result ≡ made_cut kind last (made_from m) }
 {
-    let Made::Is(s) = m else {
+    let Some(s) = m else {
         return Cut::Bad(8);
     };
     Cut::Said(kind, s, last)
@@ -100,7 +83,7 @@ fn kind_cut(
     ensures { (got_of table.now p result ≡ of_kind (judging table.now) s.now base f p kind) × LastOfFew f.count last result }
 {
     let cell = p.cell(table, kind);
-    if let Verdict::Refused(n) = p.refuses(cell) {
+    if let Err(n) = p.refuses(cell) {
         return Cut::Bad(n);
     }
     if f.count == fields_needed(kind) {
@@ -137,8 +120,8 @@ fn content_cut(table: &[[u8; 30]; 27], s: &[u8], base: usize, p: Place) -> Cut
     ensures { (got_of table.now p result ≡ content (judging table.now) s.now base p) × LastTold (last_start_of (fields_by base s.now (form_of s.now))) result }
 {
     match form_of(s) {
-        Form::Bad(n) => Cut::Bad(n),
-        Form::Body(e) => fields_cut(table, &s[..e], base, p),
+        Err(n) => Cut::Bad(n),
+        Ok(e) => fields_cut(table, &s[..e], base, p),
     }
 }
 
@@ -159,8 +142,8 @@ fn cut_at(table: &[[u8; 30]; 27], text: &[u8], from: usize, p: Place) -> Line
     let e = far_byte_from(text, from, LF);
     match line_cut(table, &text[from..e], from, p) {
         Cut::Blank => Line::Blank(e),
-        Cut::Said(kind, s, last) => Line::Filled(Said::Is(kind, s, e, last)),
-        Cut::Bad(n) => Line::Filled(Said::Refused(n)),
+        Cut::Said(kind, s, last) => Line::Filled(Ok((kind, s, e, last))),
+        Cut::Bad(n) => Line::Filled(Err(n)),
     }
 }
 
@@ -169,13 +152,13 @@ pub fn line_said(table: &[[u8; 30]; 27], text: &[u8], from: usize, p: Place) -> 
     ensures { from < length text.now → length text.now < 4294967296 → LineSays table.now text.now from p result }
 {
     if text.len() <= from {
-        return Line::Filled(Said::Refused(1));
+        return Line::Filled(Err(1));
     }
     if 4294967295 < text.len() {
-        return Line::Filled(Said::Refused(1));
+        return Line::Filled(Err(1));
     }
     match plain_line(text, from) {
-        Plain::Said(kind, s, e, last) => Line::Filled(Said::Is(kind, s, e, last)),
+        Plain::Said(kind, s, e, last) => Line::Filled(Ok((kind, s, e, last))),
         Plain::Blank(e) => Line::Blank(e),
         Plain::No => cut_at(table, text, from, p),
     }

@@ -4,19 +4,13 @@
 // specs/Meaning, specs/MissionMeaning: what each means as a statement of `grammar`. specs/Kinds, specs/MissionKinds: the column of its kind in the table of
 // places by statements, and the way back from a meaning. proofs/Laws, proofs/MissionLaws: there and back again is the same.
 //
-// kinds.rt, orders.rt: the names of the kinds, by their columns. Rests on `terms` and `grammar`.
+// kinds.rt, orders.rt: the names of the kinds, by their columns. Rests on `number` (a point's identifier), `terms` and `grammar`.
 #![tactic(auto)]
 
 pub mod kinds;
 pub mod orders;
 
-// A point's identifier, x.y.z.
-#[derive(Clone, Copy)]
-pub struct Id {
-    pub x: u32,
-    pub y: u32,
-    pub z: u32,
-}
+use number::Id;
 
 // A statement of an RNDF; the kinds in the order of the table's columns. A boundary is 1 to 4, in document 01's order.
 #[derive(Clone, Copy)]

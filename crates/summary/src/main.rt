@@ -118,8 +118,8 @@ fn summarise<W: Write>(
         &mut limits,
     );
     match reply {
-        PairReply::Accepted(c, _, m, _) => put_ok(to, c, m),
-        PairReply::Refused(why) => put_refused(to, why),
+        Ok((c, _, m, _)) => put_ok(to, c, m),
+        Err(why) => put_refused(to, why),
     }
 }
 

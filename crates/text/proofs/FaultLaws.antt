@@ -1,4 +1,5 @@
 -- A line is judged faulty with a number exactly if it has that fault. For every file. Assumes nothing.
+use Rattle.std.specs.Prelude.{Ok, Err, Result}
 use mathlib.Core.Path.{◌≡◌, refl, sym, ap, subst, ◌∙◌}
 use mathlib.Core.List.{List, [], ◌∷◌}
 use mathlib.Core.Option.{Option, none, some}
@@ -14,8 +15,6 @@ use Rattle.terms.proofs.Tests.{nothing}
 use Rattle.line.specs.Content.{Field, Content}
 use Rattle.line.specs.Lines.{drop_cr}
 use Rattle.line.specs.Forms.{form_of, fields_at}
-use Rattle.line.specs.declared.Form.{Form}
-use Rattle.line.specs.declared.Form.TheVariants.{Bad, Body}
 use Rattle.line.proofs.Ends.{ended, ended_is}
 use Rattle.line.proofs.Faults.{form-fault, fault-form, body-content, content-form, content-body}
 use Rattle.grammar.specs.Language.{Lang, S, say}
@@ -102,9 +101,9 @@ module _ {L : Lang} (A : Machine L) (X : Lexis L) (Line-of : (k : L.Kind) → L.
         fielded [] h e = not_good e
         fielded (f ∷ fs) h e = in-fields n f fs (record { content = drop_cr l; ended = ended l; fields = h }) (kind_at A X p f) refl e
 
-        go : (r : Form) → form_of (drop_cr l) ≡ r → formed A X p a (drop_cr l) r ≡ fault n → Fault A X Line-of p a l n
-        go (Bad m) r e = by m n (same-fault e) (form (ended l) (form-fault (drop_cr l) m r))
-        go (Body b) r e = fielded (fields_at a (take b (drop_cr l))) (body-content (drop_cr l) b r a) e
+        go : (r : Result ℕ ℕ) → form_of (drop_cr l) ≡ r → formed A X p a (drop_cr l) r ≡ fault n → Fault A X Line-of p a l n
+        go (Err m) r e = by m n (same-fault e) (form (ended l) (form-fault (drop_cr l) m r))
+        go (Ok b) r e = fielded (fields_at a (take b (drop_cr l))) (body-content (drop_cr l) b r a) e
 
     -- a line with fields gets what is told of them
     passes : {f : Field} {fs : List Field} → Fielded a l f fs → judge A X p a l ≡ known A X p (kind_at A X p f) f fs

@@ -1,4 +1,5 @@
 -- A field, and the fields behind a keyword, are read exactly as they are spelled. Assumes nothing.
+use Rattle.std.specs.Prelude.{Some, None}
 use mathlib.Core.Path.{◌≡◌, refl, ap, subst, ◌∙◌}
 use mathlib.Core.List.{List, [], ◌∷◌}
 use mathlib.Core.Option.{Option, none, some}
@@ -11,18 +12,10 @@ use Rattle.terms.specs.Words.{pick}
 use Rattle.terms.proofs.Tests.{nothing}
 use Rattle.line.specs.Content.{Field}
 use Rattle.number.specs.Executable.{the_integer_of, the_pair_of, triple_of, is_name_length_of}
-use Rattle.number.specs.declared.Number as DN
-use Rattle.number.specs.declared.Number.TheVariants as Number
-use Rattle.number.specs.declared.Pair as DP
-use Rattle.number.specs.declared.Pair.TheVariants as Pair
-use Rattle.number.specs.declared.Triple as DT
-use Rattle.number.specs.declared.Triple.TheVariants as Triple
 use Rattle.number.proofs.Integers.{integer-right, integer-only}
 use Rattle.number.proofs.Identifiers.{pair-right, pair-only, triple-right, triple-only}
 use Rattle.number.proofs.Ranges.{name-right, name-only}
 use Rattle.coordinate.specs.Executable.{the_coordinate_of}
-use Rattle.coordinate.specs.declared.Degrees as DD
-use Rattle.coordinate.specs.declared.Degrees.TheVariants as Degrees
 use Rattle.coordinate.proofs.Coordinates.{coordinate-right, coordinate-only}
 use Rattle.word.specs.Keywords as Word
 use Rattle.word.specs.Number.{boundary_number}
@@ -32,6 +25,8 @@ use Rattle.grammar.specs.Statements.{Boundary, double_yellow_of, solid_yellow_of
 use Rattle.grammar.specs.Tables.{colour}
 use Rattle.text.specs.Said.{Said, name, integer, pair, triple, coordinate, boundary, SpellsField, SpellFields}
 use Rattle.text.specs.Judge.{Sort, a_name, an_integer, a_pair, a_triple, a_coordinate, a_boundary, Val, number, pair_from, triple_from, degrees, boundary_from, only_known, read, Vals, both, read_all}
+use Rattle.std.specs.Prelude as Rust
+use Rattle.number.specs.declared.Id.{Id}
 
 -- what a value of a sort says
 abbrev pub says : (s : Sort) → Val s → Said
@@ -47,21 +42,21 @@ name-read : (b : Bool) (f g : Field) → pick b (some f) none ≡ some g → (b 
 name-read true f g e = (refl, cc)
 name-read false f g e = nothing e
 
-number_read : (r : DN.Number) (n : ℕ) → number r ≡ some n → r ≡ Number.Is n
-number_read (Number.Is m) n e = ap Number.Is (let z : m ≡ n = cc in z)
-number_read Number.No n e = nothing e
+number_read : (r : Rust.Option ℕ) (n : ℕ) → number r ≡ some n → r ≡ Some n
+number_read (Some m) n e = ap Some (let z : m ≡ n = cc in z)
+number_read None n e = nothing e
 
-pair_read : (r : DP.Pair) (i : PartId) → pair_from r ≡ some i → r ≡ Pair.Is i.m i.n
-pair_read (Pair.Is m n) i e = let z : record { m = m; n = n } ≡ i = cc in ap (λ (i : PartId). Pair.Is i.m i.n) z
-pair_read Pair.No i e = nothing e
+pair_read : (r : Rust.Option (ℕ × ℕ)) (i : PartId) → pair_from r ≡ some i → r ≡ Some (i.m, i.n)
+pair_read (Some (m, n)) i e = let z : record { m = m; n = n } ≡ i = cc in ap (λ (i : PartId). Some (i.m, i.n)) z
+pair_read None i e = nothing e
 
-triple-read : (r : DT.Triple) (i : PointId) → triple_from r ≡ some i → r ≡ Triple.Is (record { x = i.x; y = i.y; z = i.z })
-triple-read (Triple.Is j) i e = let z : record { x = j.x; y = j.y; z = j.z } ≡ i = cc in ap (λ (i : PointId). Triple.Is (record { x = i.x; y = i.y; z = i.z })) z
-triple-read Triple.No i e = nothing e
+triple-read : (r : Rust.Option Id) (i : PointId) → triple_from r ≡ some i → r ≡ Some (record { x = i.x; y = i.y; z = i.z })
+triple-read (Some j) i e = let z : record { x = j.x; y = j.y; z = j.z } ≡ i = cc in ap (λ (i : PointId). Some (record { x = i.x; y = i.y; z = i.z })) z
+triple-read None i e = nothing e
 
-degrees-read : (r : DD.Degrees) (z : ℤ) → degrees r ≡ some z → r ≡ Degrees.Is z
-degrees-read (Degrees.Is y) z e = ap Degrees.Is (let q : y ≡ z = cc in q)
-degrees-read Degrees.No z e = nothing e
+degrees-read : (r : Rust.Option ℤ) (z : ℤ) → degrees r ≡ some z → r ≡ Some z
+degrees-read (Some y) z e = ap Some (let q : y ≡ z = cc in q)
+degrees-read None z e = nothing e
 
 boundary-read : (n : ℕ) (b : Boundary) → boundary_from n ≡ some b → n ≡ colour b
 boundary-read zero b e = nothing e

@@ -1,4 +1,5 @@
 -- A line is judged good exactly if it is blank, or spells a statement that the place takes. For every file. Assumes nothing.
+use Rattle.std.specs.Prelude.{Ok, Err, Result}
 use mathlib.Core.Path.{◌≡◌, refl, sym, ap, subst, ◌∙◌}
 use mathlib.Core.List.{List, [], ◌∷◌}
 use mathlib.Core.Option.{Option, none, some}
@@ -10,8 +11,6 @@ use Rattle.line.specs.Text.{lf, Lacks, Ended}
 use Rattle.line.specs.Content.{Field, Content}
 use Rattle.line.specs.Lines.{drop_cr}
 use Rattle.line.specs.Forms.{form_of, fields_at}
-use Rattle.line.specs.declared.Form.{Form}
-use Rattle.line.specs.declared.Form.TheVariants.{Bad, Body}
 use Rattle.line.proofs.Ends.{ended, ended_is, ended-lacks}
 use Rattle.line.proofs.Contents.{content-lacks-lf}
 use Rattle.line.proofs.Faults.{body-content, content-form, content-body}
@@ -45,9 +44,9 @@ module _ {L : Lang} (A : Machine L) (X : Lexis L) (Line-of : (k : L.Kind) → L.
           let x = tell-right A X Line-of W p f fs o q e in
           subst (λ (o : Option (S L)). SpellsLine Line-of a l o × (advance p o ≡ next q)) (sym x.1) (says (ended l) h x.2, x.3)
 
-      go : (r : Form) → form_of (drop_cr l) ≡ r → formed A X p a (drop_cr l) r ≡ good o q → SpellsLine Line-of a l o × (advance p o ≡ next q)
-      go (Bad n) r e = absurd (let z : ◌≡◌ {A = ℕ} 0 1 = cc in omega arith)
-      go (Body b) r e = fielded (fields_at a (take b (drop_cr l))) (body-content (drop_cr l) b r a) e
+      go : (r : Result ℕ ℕ) → form_of (drop_cr l) ≡ r → formed A X p a (drop_cr l) r ≡ good o q → SpellsLine Line-of a l o × (advance p o ≡ next q)
+      go (Err n) r e = absurd (let z : ◌≡◌ {A = ℕ} 0 1 = cc in omega arith)
+      go (Ok b) r e = fielded (fields_at a (take b (drop_cr l))) (body-content (drop_cr l) b r a) e
 
   passes : {a : ℕ} {l c : Bytes} {fs : List Field} (p : Place A) → Ended l c → Content a c fs → judge A X p a l ≡ told A X p fs
   unfolding judge

@@ -1,23 +1,13 @@
 -- Executable: what a line gets at a place, in document 01's order of faults: 2, 3, 4; 5, 6; 7; 8 over every field; 9; then 25. For every file. Assumes nothing.
-use Rattle.std.specs.Prelude.{◌≡◌, List, [], ◌∷◌, ◌++◌, Bool, true, false, ℕ, zero, suc, length, take, eqb, ℤ}
+use Rattle.std.specs.Prelude.{◌≡◌, List, [], ◌∷◌, ◌++◌, Bool, true, false, ℕ, zero, suc, length, take, eqb, ℤ, Some, None, Ok, Err, Result}
 use Rattle.std.proofs.Math.Option.{Option, none, some}
 use Rattle.terms.specs.Ascii.{Bytes}
 use Rattle.terms.specs.Words.{pick}
 use Rattle.line.specs.Content.{Field}
 use Rattle.line.specs.Lines.{drop_cr}
 use Rattle.line.specs.Forms.{form_of, fields_at}
-use Rattle.line.specs.declared.Form as Form
-use Rattle.line.specs.declared.Form.TheVariants.{Bad, Body}
 use Rattle.number.specs.Executable.{the_integer_of, the_pair_of, triple_of, is_name_length_of}
-use Rattle.number.specs.declared.Number as DN
-use Rattle.number.specs.declared.Number.TheVariants as Number
-use Rattle.number.specs.declared.Pair as DP
-use Rattle.number.specs.declared.Pair.TheVariants as Pair
-use Rattle.number.specs.declared.Triple as DT
-use Rattle.number.specs.declared.Triple.TheVariants as Triple
 use Rattle.coordinate.specs.Executable.{the_coordinate_of}
-use Rattle.coordinate.specs.declared.Degrees as DD
-use Rattle.coordinate.specs.declared.Degrees.TheVariants as Degrees
 use Rattle.word.specs.Number.{boundary_number, digit_first}
 use Rattle.grammar.specs.Language.{Lang, S, say}
 use Rattle.grammar.specs.Editions.{Edition, march, december, has_boundary}
@@ -25,6 +15,8 @@ use Rattle.grammar.specs.Statements.{Boundary, double_yellow_of, solid_yellow_of
 use Rattle.grammar.specs.Machine.{Out, next, refuse, Machine, over, inside, Place, step}
 use Rattle.grammar.specs.Stands.{stands}
 use Rattle.text.specs.Said.{Said, word, name, integer, pair, triple, coordinate, boundary}
+use Rattle.std.specs.Prelude as Rust
+use Rattle.number.specs.declared.Id.{Id}
 
 -- ## Sorts of fields, and reading one
 pub data Sort : Type 0 where
@@ -39,21 +31,21 @@ Val a_triple = PointId
 Val a_coordinate = ℤ
 Val (a_boundary e) = Boundary
 
-abbrev pub number : DN.Number → Option ℕ
-number (Number.Is n) = some n
-number Number.No = none
+abbrev pub number : Rust.Option ℕ → Option ℕ
+number (Some n) = some n
+number None = none
 
-abbrev pub pair_from : DP.Pair → Option PartId
-pair_from (Pair.Is m n) = some (record { m = m; n = n })
-pair_from Pair.No = none
+abbrev pub pair_from : Rust.Option (ℕ × ℕ) → Option PartId
+pair_from (Some (m, n)) = some (record { m = m; n = n })
+pair_from None = none
 
-abbrev pub triple_from : DT.Triple → Option PointId
-triple_from (Triple.Is i) = some (record { x = i.x; y = i.y; z = i.z })
-triple_from Triple.No = none
+abbrev pub triple_from : Rust.Option Id → Option PointId
+triple_from (Some i) = some (record { x = i.x; y = i.y; z = i.z })
+triple_from None = none
 
-abbrev pub degrees : DD.Degrees → Option ℤ
-degrees (Degrees.Is z) = some z
-degrees Degrees.No = none
+abbrev pub degrees : Rust.Option ℤ → Option ℤ
+degrees (Some z) = some z
+degrees None = none
 
 -- the boundary of a number 1 to 4
 abbrev pub boundary_from : ℕ → Option Boundary
@@ -161,9 +153,9 @@ module _ {L : Lang} (A : Machine L) (X : Lexis L) where
   told p [] = good none p
   told p (f ∷ fs) = tell p f fs
 
-  abbrev pub formed : Place A → ℕ → Bytes → Form.Form → Got
-  formed p start content (Bad n) = fault n
-  formed p start content (Body e) = told p (fields_at start (take e content))
+  abbrev pub formed : Place A → ℕ → Bytes → Result ℕ ℕ → Got
+  formed p start content (Err n) = fault n
+  formed p start content (Ok e) = told p (fields_at start (take e content))
 
   -- a line that starts at a place of the text
   unfoldable pub judge : Place A → ℕ → Bytes → Got

@@ -17,19 +17,12 @@ ghost use Rattle.unpackings.specs.Unpacks.{Unpacks};
 ghost use Rattle.unpacker.specs.Telling.{told_of, looked, roomed};
 
 use counts::Counts;
-use packed_check::{Verdict, judged};
+use packed_check::judged;
 use refusal::{LONGEST_TEXT, Refusal};
 use replies::RndfReply;
 use room::{clear_tables, marks_fit, parts_fit};
 use rows::FileRow;
 use unpacked_rows::{Places, is_framed, is_version, store_tables};
-
-// What bytes tell: a refusal; or the rows of each table, the file's own row and where the records of each table stand.
-#[derive(Clone, Copy)]
-pub enum Told {
-    Refused(Refusal),
-    Form(Counts, FileRow, Places),
-}
 
 // ## The bytes alone
 
@@ -44,35 +37,35 @@ fn refusal_of(file: u8, number: u8) -> Refusal
     }
 }
 
-fn told_of(verdict: Verdict) -> Told
+fn told_of(verdict: Option<(Counts, FileRow, Places)>) -> Result<(Counts, FileRow, Places), Refusal>
     ensures { result ≡ told_of verdict }
 {
     match verdict {
-        Verdict::No => Told::Refused(refusal_of(0, 29)),
-        Verdict::Form(c, file, places) => Told::Form(c, file, places),
+        None => Err(refusal_of(0, 29)),
+        Some((c, file, places)) => Ok((c, file, places)),
     }
 }
 
-fn look(bytes: &[u8]) -> Told
+fn look(bytes: &[u8]) -> Result<(Counts, FileRow, Places), Refusal>
     ensures { result ≡ looked bytes.now }
 {
     if LONGEST_TEXT < bytes.len() {
-        return Told::Refused(refusal_of(1, 1));
+        return Err(refusal_of(1, 1));
     }
     if is_version(bytes) {
         if is_framed(bytes) {
             return told_of(judged(bytes));
         }
-        return Told::Refused(refusal_of(0, 28));
+        return Err(refusal_of(0, 28));
     }
-    Told::Refused(refusal_of(0, 27))
+    Err(refusal_of(0, 27))
 }
 
 // ## Room
 
 // What is told, where tables of so many numbers are lent.
 fn roomed(
-    told: Told,
+    told: Result<(Counts, FileRow, Places), Refusal>,
     segments: usize,
     lanes: usize,
     zones: usize,
@@ -81,19 +74,19 @@ fn roomed(
     checkpoints: usize,
     stops: usize,
     exits: usize,
-) -> Told
+) -> Result<(Counts, FileRow, Places), Refusal>
     ensures { result ≡ roomed told segments lanes zones spots points checkpoints stops exits }
 {
     match told {
-        Told::Refused(why) => Told::Refused(why),
-        Told::Form(c, file, places) => {
+        Err(why) => Err(why),
+        Ok((c, file, places)) => {
             if parts_fit(c, segments, lanes, zones, spots) {
                 if marks_fit(c, points, checkpoints, stops, exits) {
-                    return Told::Form(c, file, places);
+                    return Ok((c, file, places));
                 }
-                return Told::Refused(refusal_of(1, 11));
+                return Err(refusal_of(1, 11));
             }
-            Told::Refused(refusal_of(1, 11))
+            Err(refusal_of(1, 11))
         }
     }
 }
@@ -135,8 +128,8 @@ pub fn read_packed(
         exits,
     );
     match told {
-        Told::Refused(why) => RndfReply::Refused(why),
-        Told::Form(c, file, places) => {
+        Err(why) => Err(why),
+        Ok((c, file, places)) => {
             store_tables(
                 bytes,
                 c,
@@ -150,7 +143,7 @@ pub fn read_packed(
                 stops,
                 exits,
             );
-            RndfReply::Accepted(c, file)
+            Ok((c, file))
         }
     }
 }

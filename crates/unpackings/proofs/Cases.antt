@@ -1,4 +1,5 @@
 -- THE CASES, from the contract of unpacking alone: bytes that are refused, whatever is lent, under one theorem; and yard A's form, with room for its rows and with too few. Assumes nothing.
+use Rattle.std.specs.Prelude.{Ok, Err}
 use mathlib.Core.Path.{◌≡◌, refl, sym, ap}
 use mathlib.Core.List.{List, [], ◌∷◌, ◌++◌, head-eq_of_cons-eq, nil≢cons}
 use mathlib.Core.Option.{Option, none, some}
@@ -16,7 +17,6 @@ use Rattle.text.specs.Spelling.{bytes_of}
 use Rattle.house_text.proofs.References.{sound-alike}
 use Rattle.output.specs.Packed.{big_endian}
 use Rattle.output.proofs.Packed.{packed-long}
-use Rattle.replies.specs.declared.RndfReply.TheVariants as Reply
 use Rattle.replies.specs.Replies.{longest, rows_used_of, network_file, refusal}
 use Rattle.same.specs.Same.{SameNetwork}
 use Rattle.promises.specs.Yards.{yard, network, used, counts}
@@ -34,7 +34,7 @@ use Rattle.unpackings.proofs.Settled.{unpack-settled}
 
 -- what is refused so gets that reply, and no other
 refused-so : (bytes : Bytes) (t : Lent) (file number : ℕ) → UnpackRefuses bytes t file number → Refused bytes t file number
-refused-so bytes t file number h = let m = refused file number h refl refl in record { meets = m; only = λ r l x. unpack-settled bytes t r (Reply.Refused (refusal file 0 number 0)) l (zeros t) x m }
+refused-so bytes t file number h = let m = refused file number h refl refl in record { meets = m; only = λ r l x. unpack-settled bytes t r (Err (refusal file 0 number 0)) l (zeros t) x m }
 
 -- ## A form has 43 bytes at least: the file's record is never missing
 form-long : (n : Network Field) → 43 ≤ length (packed_form n)
@@ -117,6 +117,6 @@ counted = (refl, refl)
 
 pub yard-unpacked : (t : Lent) → YardUnpacked t
 yard-unpacked t = record {
-  roomy = λ room. unpacked (yard_a 41) (lit≤ tt) yard-form room (sym (λ i. Reply.Accepted (counted.0 i) (counted.1 i))) refl;
+  roomy = λ room. unpacked (yard_a 41) (lit≤ tt) yard-form room (sym (λ i. Ok (counted.0 i, counted.1 i))) refl;
   short = λ h. refused-so form_a t 1 11 (no_room (yard_a 41) (lit≤ tt) yard-form (λ room. let r : 2 ≤ length t.points / 2 = room.points in omega arith));
 }

@@ -1,4 +1,6 @@
 -- Unpacking: no second reply and no second memory satisfies its contract, for all bytes and tables. Assumes nothing.
+use Rattle.std.specs.Prelude.{Ok, Err}
+use Rattle.replies.specs.Types.{RndfReply}
 use mathlib.Core.Path.{◌≡◌, refl, sym, ap, ap₂, subst, ◌∙◌}
 use Rattle.terms.specs.Words.{ℕ, ◌≤◌, length, Bytes}
 use native.Mathlib.Omega.{arith}
@@ -6,8 +8,6 @@ use Rattle.line.specs.Line.{Field}
 use Rattle.law.specs.Network.{Network}
 use Rattle.law.specs.Tables.{Lent, HasRoom, filled}
 use Rattle.packed_law.specs.Packed.{packed_form, OfThisVersion}
-use Rattle.replies.specs.declared.RndfReply.{RndfReply}
-use Rattle.replies.specs.declared.RndfReply.TheVariants as Reply
 use Rattle.replies.specs.Replies.{longest, refusal, rows_used_of, network_file}
 use Rattle.unpackings.specs.Unpacks.{IsPackedFormOf, UnpackRefuses, Unpacks, too_long, other_version, cut_short, no_network, no_room, refused, unpacked}
 use Rattle.unpackings.proofs.Framing.{form-framed}
@@ -56,9 +56,9 @@ module _ (bytes : Bytes) (t : Lent) where
   pub unpack-settled : (r r' : RndfReply) (l l' : Lent) → Unpacks bytes t r l → Unpacks bytes t r' l' → (r ≡ r') × (l ≡ l')
   unpack-settled r r' l l' (refused f k x p q) (refused f' k' y p' q') =
       let e = one-refusal f f' k k' x y in
-      (p ∙ ap₂ (λ (a b : ℕ). Reply.Refused (refusal a 0 b 0)) e.0 e.1 ∙ sym p', q ∙ sym q')
+      (p ∙ ap₂ (λ (a b : ℕ). Err (refusal a 0 b 0)) e.0 e.1 ∙ sym p', q ∙ sym q')
   unpack-settled r r' l l' (refused f k x p q) (unpacked n b y h p' q') = absurd (never_both f k n x b y h)
   unpack-settled r r' l l' (unpacked n b y h p q) (refused f k x p' q') = absurd (never_both f k n x b y h)
   unpack-settled r r' l l' (unpacked n b y h p q) (unpacked m c z i p' q') =
       let e = one-network bytes n m b y z in
-      (p ∙ ap (λ (w : Network Field). Reply.Accepted (rows_used_of w) (network_file w)) e ∙ sym p', q ∙ ap (λ (w : Network Field). filled w t) e ∙ sym q')
+      (p ∙ ap (λ (w : Network Field). Ok (rows_used_of w, network_file w)) e ∙ sym p', q ∙ ap (λ (w : Network Field). filled w t) e ∙ sym q')

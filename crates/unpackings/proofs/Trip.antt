@@ -1,4 +1,7 @@
 -- Unpacking gives the network back, and takes no other bytes; THERE AND BACK, from the contracts of packing and unpacking alone: what was packed of a text is unpacked as the network that the text spells. Assumes nothing.
+use Rattle.std.specs.Prelude.{Ok, Err}
+use Rattle.writings.specs.Types.{WriteReply}
+use Rattle.replies.specs.Types.{RndfReply}
 use mathlib.Core.Path.{◌≡◌, refl, sym, ap, ap₂, subst, ◌∙◌}
 use mathlib.Core.List.{List, [], ◌∷◌, ◌++◌, map}
 use mathlib.Core.Option.{Option, none, some}
@@ -32,8 +35,6 @@ use Rattle.output.specs.Output as Output
 use Rattle.rows.specs.declared.FileRow.{FileRow}
 use Rattle.counts.specs.declared.Counts.{Counts}
 use Rattle.refusal.specs.declared.Refusal.{Refusal}
-use Rattle.replies.specs.declared.RndfReply.{RndfReply}
-use Rattle.replies.specs.declared.RndfReply.TheVariants as Reply
 use Rattle.rows.specs.Name.{name_of}
 use Rattle.replies.specs.Replies.{longest, stretch, rows_used_of, network_file, ReadsRndf}
 use Rattle.replies.specs.Short.{AcceptsRndf}
@@ -43,8 +44,6 @@ use Rattle.promises.proofs.Keeping.{rndf-later}
 use Rattle.promises.proofs.Forms.{one-spelled}
 use Rattle.promises.proofs.Promises.{accepted-spelled, tables-are}
 use Rattle.same.specs.Same.{SameNetwork}
-use Rattle.writings.specs.declared.WriteReply.{WriteReply}
-use Rattle.writings.specs.declared.WriteReply.TheVariants as Write
 use Rattle.writings.specs.Writes.{WritesPacked}
 use Rattle.writings.specs.Writes as W
 use Rattle.writings.proofs.Said.{wrote-or-not}
@@ -120,7 +119,7 @@ room-so n m t e h = record {
 }
 
 -- ## What is unpacked
-accepted-refused : {c : Counts} {file : FileRow} {why : Refusal} → Reply.Accepted c file ≡ Reply.Refused why → ⊥
+accepted-refused : {c : Counts} {file : FileRow} {why : Refusal} → ◌≡◌ {A = RndfReply} (Ok (c, file)) (Err why) → ⊥
 accepted-refused e = let z : ◌≡◌ {A = ℕ} 0 1 = cc in omega arith
 
 pub no-others : NoOthers
@@ -151,24 +150,24 @@ gives_back n h size t room reply left u =
     let house = rndf-back h.written h.text (Texts.rndf-back h.written h.text h.spelled) in
     let is : IsPackedFormOf m (packed_form n) = record { network = record { text = house_rndf h.written; written = house.0; spelled = Texts.rndf-to house.0 (house_rndf h.written) house.1; same = house.2 ∙ undated-same h.written n h.same ∙ sym same; sound = sound-alike bytes_of (undated n) m (sym same) (undated-sound n h.sound) }; form = form; names = in_place n; dateless = placed-dateless n } in
     let counts = counts-alike m (undated n) same ∙ undated-used n in
-    let settled = unpack-settled (packed_form n) t reply (Reply.Accepted (rows_used_of m) (network_file m)) left (filled m t) u (unpacked m size is (room-so n m t (sym counts) room) refl refl) in
+    let settled = unpack-settled (packed_form n) t reply (Ok (rows_used_of m, network_file m)) left (filled m t) u (unpacked m size is (room-so n m t (sym counts) room) refl refl) in
     record {
       again = m;
       same = same;
       is_form = is;
-      replied = settled.0 ∙ ap (λ (d : Counts). Reply.Accepted d (network_file m)) counts;
+      replied = settled.0 ∙ ap (λ (d : Counts). Ok (d, network_file m)) counts;
       holds = settled.1;
       names = names-so (packed_form n) m form (in_place n) (placed-dateless n);
     }
 
 -- ## What was packed
 abbrev counts_in : Counts → WriteReply → Counts
-counts_in d (Write.Written c file k) = c
-counts_in d (Write.Refused why) = d
+counts_in d (Ok (c, file, k)) = c
+counts_in d (Err why) = d
 
 abbrev long_in : WriteReply → ℕ
-long_in (Write.Written c file k) = k
-long_in (Write.Refused why) = 0
+long_in (Ok (c, file, k)) = k
+long_in (Err why) = 0
 
 -- the bytes may be told as this form, and the counts as these
 back_as : (n : Network Field) (x y : Bytes) (t : Lent) (c d : Counts) (reply : RndfReply) (left : Lent) → x ≡ y → c ≡ d → (Unpacks x t reply left → Back n x t c reply left) → Unpacks y t reply left → Back n y t d reply left

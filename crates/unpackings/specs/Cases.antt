@@ -1,19 +1,18 @@
 -- WHAT A READER MUST BELIEVE. Bytes that are refused, and with what number, whatever is lent; yard A's form, where there is room for its rows and where there is not. Document 02, L11 and L12. Assumes nothing.
-use Rattle.std.specs.Prelude.{◌≡◌, ◌∷◌, ◌++◌, ◌<◌}
+use Rattle.replies.specs.Types.{RndfReply}
+use Rattle.std.specs.Prelude.{◌≡◌, ◌∷◌, ◌++◌, ◌<◌, Ok, Err}
 use Rattle.terms.specs.Words.{List, [], ℕ, length, take, drop, Bytes, Each}
 use Rattle.law.specs.Tables.{Lent, HasRoom, filled, zeros}
 use Rattle.packed_law.specs.Yards.{yard_a, form_a}
 use Rattle.rows.specs.declared.FileRow.{FileRow}
-use Rattle.replies.specs.declared.RndfReply.{RndfReply}
-use Rattle.replies.specs.declared.RndfReply.TheVariants as Reply
 use Rattle.replies.specs.Replies.{refusal}
 use Rattle.promises.specs.Yards.{counts, the_the_stretch_of}
 use Rattle.unpackings.specs.Unpacks.{Unpacks}
 
 -- this reply, with all lent tables zero, meets the contract, and no other does
 pub record Refused (bytes : Bytes) (t : Lent) (file number : ℕ) : Type 0 where
-  pub meets : Unpacks bytes t (Reply.Refused (refusal file 0 number 0)) (zeros t)
-  pub only : (r : RndfReply) (l : Lent) → Unpacks bytes t r l → (r ≡ Reply.Refused (refusal file 0 number 0)) × (l ≡ zeros t)
+  pub meets : Unpacks bytes t (Err (refusal file 0 number 0)) (zeros t)
+  pub only : (r : RndfReply) (l : Lent) → Unpacks bytes t r l → (r ≡ Err (refusal file 0 number 0)) × (l ≡ zeros t)
 
 pub record Case : Type 0 where
   pub bytes : Bytes
@@ -47,5 +46,5 @@ unpacked_file = record { name = the_the_stretch_of 41 6; version = the_the_stret
 
 -- its two points take four numbers of the table of points
 pub record YardUnpacked (t : Lent) : Type 0 where
-  pub roomy : HasRoom (yard_a 41) t → Unpacks form_a t (Reply.Accepted counts unpacked_file) (filled (yard_a 41) t)
+  pub roomy : HasRoom (yard_a 41) t → Unpacks form_a t (Ok (counts, unpacked_file)) (filled (yard_a 41) t)
   pub short : length t.points < 4 → Refused form_a t 1 11

@@ -1,5 +1,6 @@
 -- WHAT A READER MUST BELIEVE. What is promised of packing and unpacking beside their contracts. Document 02, L11 and L12. Assumes nothing.
-use Rattle.std.specs.Prelude.{◌≡◌, ◌≤◌}
+use Rattle.replies.specs.Types.{RndfReply}
+use Rattle.std.specs.Prelude.{◌≡◌, ◌≤◌, Ok}
 use Rattle.terms.specs.Words.{ℕ, length, take, Bytes}
 use Rattle.line.specs.Line.{Field}
 use Rattle.law.specs.Network.{Network, Rules, SpellsNetwork, SpellsText}
@@ -9,11 +10,8 @@ use Rattle.house_text.specs.House.{undated}
 use Rattle.packed_law.specs.Packed.{packed_form}
 use Rattle.rows.specs.declared.FileRow.{FileRow}
 use Rattle.counts.specs.declared.Counts.{Counts}
-use Rattle.replies.specs.declared.RndfReply.{RndfReply}
-use Rattle.replies.specs.declared.RndfReply.TheVariants as Reply
 use Rattle.replies.specs.Replies.{longest, rows_used_of, network_file}
 use Rattle.promises.specs.Accepted.{NamesAsked}
-use Rattle.writings.specs.declared.WriteReply.TheVariants as Write
 use Rattle.writings.specs.Writes.{WritesPacked}
 use Rattle.unpackings.specs.Unpacks.{IsNetwork, IsPackedFormOf, Unpacks}
 
@@ -30,7 +28,7 @@ pub record Back (n : Network Field) (form : Bytes) (t : Lent) (c : Counts) (repl
   pub again : Network Field
   pub same : SameNetwork again (undated n)
   pub is_form : IsPackedFormOf again form
-  pub replied : reply ≡ Reply.Accepted c (network_file again)
+  pub replied : reply ≡ Ok (c, network_file again)
   pub holds : left ≡ filled again t
   pub names : NamesAsked form (network_file again) again
 
@@ -40,9 +38,9 @@ GivesBack = (n : Network Field) → IsNetwork n → length (packed_form n) ≤ l
 
 -- THERE AND BACK, from the contracts alone: what was packed of a text is unpacked as the network that the text spells, but for its date. t': the receiver's tables, any with room. rules: those of the edition that the text was packed by (L10); unpacking has none
 abbrev pub ThereAndBack : Rules → Type 0
-ThereAndBack rules = (text : Bytes) (t : Lent) (lent : ℕ) (c : Counts) (file : FileRow) (k : ℕ) (left : Lent) (out : Bytes) → WritesPacked rules text t lent (Write.Written c file k) left out
+ThereAndBack rules = (text : Bytes) (t : Lent) (lent : ℕ) (c : Counts) (file : FileRow) (k : ℕ) (left : Lent) (out : Bytes) → WritesPacked rules text t lent (Ok (c, file, k)) left out
     → (n : Network Field) → SpellsText rules SpellsNetwork n text → (t' : Lent) → HasRoom n t' → (reply : RndfReply) (left' : Lent) → Unpacks (take k out) t' reply left' → Back n (take k out) t' c reply left'
 
 -- "bytes that are not some network's packed form are refused"
 abbrev pub NoOthers : Type 0
-NoOthers = (bytes : Bytes) (t : Lent) (c : Counts) (file : FileRow) (left : Lent) → Unpacks bytes t (Reply.Accepted c file) left → (n : Network Field) × IsPackedFormOf n bytes
+NoOthers = (bytes : Bytes) (t : Lent) (c : Counts) (file : FileRow) (left : Lent) → Unpacks bytes t (Ok (c, file)) left → (n : Network Field) × IsPackedFormOf n bytes

@@ -1,5 +1,6 @@
 -- WHAT A READER MUST BELIEVE. What unpacking replies, and what the lent tables then hold. Document 02, L11 and L12. Assumes nothing.
-use Rattle.std.specs.Prelude.{◌≡◌, ◌≤◌, ◌<◌}
+use Rattle.replies.specs.Types.{RndfReply}
+use Rattle.std.specs.Prelude.{◌≡◌, ◌≤◌, ◌<◌, Ok, Err}
 use Rattle.terms.specs.Words.{none, ℕ, length, Bytes}
 use Rattle.line.specs.Line.{Field}
 use Rattle.law.specs.Network.{Network, present, SpellsNetwork, SpellsText}
@@ -7,8 +8,6 @@ use Rattle.law.specs.Tables.{Lent, HasRoom, filled, zeros}
 use Rattle.law.specs.Faults.{Sound}
 use Rattle.law.specs.Same.{SameNetwork}
 use Rattle.packed_law.specs.Packed.{packed_form, all_slots, NamesLie, OfThisVersion, LengthsRight}
-use Rattle.replies.specs.declared.RndfReply.{RndfReply}
-use Rattle.replies.specs.declared.RndfReply.TheVariants as Reply
 use Rattle.replies.specs.Replies.{longest, refusal, rows_used_of, network_file}
 
 -- L11: "a network by 01 and L8, text size apart": some text, of any size, spells it by the present rules (L8's is among them), names by their bytes; and its references are right
@@ -44,6 +43,6 @@ module _ (bytes : Bytes) (t : Lent) where
 
   pub data Unpacks (reply : RndfReply) (left : Lent) : Type 0 where
     -- L4: "and line 0"; L7: "Where the line is 0 .. it is 0", the column. 01: "All lent tables .. are then zero over their whole length"
-    refused : (file number : ℕ) → UnpackRefuses file number → reply ≡ Reply.Refused (refusal file 0 number 0) → left ≡ zeros t → Unpacks reply left
+    refused : (file number : ℕ) → UnpackRefuses file number → reply ≡ Err (refusal file 0 number 0) → left ≡ zeros t → Unpacks reply left
     -- "unpacking gives the network back": the reply and the tables of a reader, each name by its place in the packed bytes
-    unpacked : (n : Network Field) → length bytes ≤ longest → IsPackedFormOf n bytes → HasRoom n t → reply ≡ Reply.Accepted (rows_used_of n) (network_file n) → left ≡ filled n t → Unpacks reply left
+    unpacked : (n : Network Field) → length bytes ≤ longest → IsPackedFormOf n bytes → HasRoom n t → reply ≡ Ok (rows_used_of n, network_file n) → left ≡ filled n t → Unpacks reply left

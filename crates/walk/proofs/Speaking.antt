@@ -1,4 +1,5 @@
 -- A line that a file takes says a statement exactly if it has fields. Assumes nothing.
+use Rattle.std.specs.Prelude.{Ok, Err, Result}
 use mathlib.Core.Path.{◌≡◌, refl, sym, ap, ◌∙◌}
 use mathlib.Core.List.{List, [], ◌∷◌}
 use mathlib.Core.Option.{Option, none, some}
@@ -11,8 +12,6 @@ use Rattle.terms.specs.Ascii.{Bytes}
 use Rattle.line.specs.Content.{Field}
 use Rattle.line.specs.Lines.{drop_cr}
 use Rattle.line.specs.Forms.{form_of, fields_at}
-use Rattle.line.specs.declared.Form as Form
-use Rattle.line.specs.declared.Form.TheVariants.{Bad, Body}
 use Rattle.grammar.specs.Language.{Lang, S, say}
 use Rattle.grammar.specs.Machine.{Out, next, refuse, Machine, Place, step}
 use Rattle.grammar.specs.Stands.{stands}
@@ -80,10 +79,10 @@ module _ {L : Lang} (A : Machine L) (X : Lexis L) where
   told_is p q [] o e = ap is_some (ap said_of e)
   told_is p q (f ∷ fs) o e = sym (tell-speaks p f fs o q e)
 
-  formed-is : (p q : Place A) (start : ℕ) (content : Bytes) (f : Form.Form) (o : Option (S L)) → formed A X p start content f ≡ good o q → some_field (fields_by start content f) ≡ is_some o
+  formed-is : (p q : Place A) (start : ℕ) (content : Bytes) (f : Result ℕ ℕ) (o : Option (S L)) → formed A X p start content f ≡ good o q → some_field (fields_by start content f) ≡ is_some o
   unfolding is-good
-  formed-is p q start content (Bad n) o e = absurd (let z : ◌≡◌ {A = ℕ} 0 1 = ap is-good e in omega arith)
-  formed-is p q start content (Body b) o e = told_is p q (fields_at start (take b content)) o e
+  formed-is p q start content (Err n) o e = absurd (let z : ◌≡◌ {A = ℕ} 0 1 = ap is-good e in omega arith)
+  formed-is p q start content (Ok b) o e = told_is p q (fields_at start (take b content)) o e
 
   pub speaks_is : (p q : Place A) (start : ℕ) (line : Bytes) (o : Option (S L)) → judge A X p start line ≡ good o q → speaks start line ≡ is_some o
   unfolding judge speaks line_fields_of

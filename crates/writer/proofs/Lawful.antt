@@ -1,4 +1,6 @@
 -- What the proofs say over statements (ByStatements) is what the contracts say over lines (Writes). Assumes nothing.
+use Rattle.std.specs.Prelude.{Ok}
+use Rattle.writings.specs.Types.{WriteMdfReply, WriteReply}
 use Prim.Native.Nat.{ℕ}
 use Rattle.terms.specs.Ascii.{Bytes}
 use Rattle.line.specs.Content.{Field}
@@ -14,18 +16,15 @@ use Rattle.editions.proofs.Later.{later}
 use Rattle.house_text.specs.House.{HouseRndf, HouseMdf}
 use Rattle.house_text.specs.HouseText.{house_rndf, house_mdf}
 use Rattle.house_text.proofs.Lawful.{house-rndf-is, house-mdf-is}
-use Rattle.replies.specs.declared.RndfReply.TheVariants as Reply
 use Rattle.replies.specs.Replies.{an_rndf, an_mdf, ReadsRndf}
 use Rattle.replies.specs.Short.{AcceptsMdf}
-use Rattle.writings.specs.declared.WriteReply.{WriteReply}
-use Rattle.writings.specs.declared.WriteMdfReply.{WriteMdfReply}
 use Rattle.writer.specs.ByStatements as Old
 use Rattle.writings.specs.Writes.{AcceptedText}
 use Rattle.writings.specs.Writes as New
 use Rattle.writings.proofs.Told.{accepts-so, written-so, pair-accepts-so, mdf-written-so}
 
 module _ (d : Edition) (text : Bytes) (t : Lent) (lent : ℕ) (reply : WriteReply) (left : Lent) (out : Bytes) where
-  abbrev yard : (n : Network Field) → SpellsRndfIn d n text → (c : Counts) (file : FileRow) (read : Lent) → ReadsRndf (reading (law_of d)) text t (Reply.Accepted c file) read → AcceptedText (reading (law_of d)) (an_rndf t) HouseRndf text
+  abbrev yard : (n : Network Field) → SpellsRndfIn d n text → (c : Counts) (file : FileRow) (read : Lent) → ReadsRndf (reading (law_of d)) text t (Ok (c, file)) read → AcceptedText (reading (law_of d)) (an_rndf t) HouseRndf text
   yard n s c file read h = record { meant = n; accepted = accepts-so d text t c file read h n (rndf-to_in d n text s); writing = house_rndf n; wrote = house-rndf-is n (network-good n (later d n text s).said (later d n text s).net) }
 
   pub rndf-writes-to : Old.WritesRndf d text t lent reply left out → New.WritesRndf (reading (law_of d)) text t lent reply left out

@@ -23,7 +23,7 @@ ghost use Rattle.writings.specs.Writes.{WritesRndf, WritesMdf};
 
 use edition::Edition;
 use house_lines::put_house;
-use output::{Finished, clear_output, finish};
+use output::{clear_output, finish};
 use reader::{read_pair, read_rndf};
 use refusal::Refusal;
 use replies::{PairReply, RndfReply};
@@ -34,7 +34,7 @@ use writings::{WriteMdfReply, WriteReply};
 // ## Once the text was read
 
 // The text's own lines in house order, into the whole output.
-fn put_whole(text: &[u8], out: &mut [u8]) -> Finished
+fn put_whole(text: &[u8], out: &mut [u8]) -> Option<usize>
     ensures { Output (length out.old) (arranged_text text.now) out.new result }
 {
     clear_output(out);
@@ -47,11 +47,11 @@ fn write_read(text: &[u8], read: RndfReply, out: &mut [u8]) -> WriteReply
     ensures { Answers read (length out.old) (arranged_text text.now) out.new result }
 {
     match read {
-        RndfReply::Accepted(c, file) => {
+        Ok((c, file)) => {
             let ended = put_whole(text, out);
             match ended {
-                Finished::Written(n) => WriteReply::Written(c, file, n as u32),
-                Finished::TooLong => WriteReply::Refused(Refusal {
+                Some(n) => Ok((c, file, n as u32)),
+                None => Err(Refusal {
                     file: 1,
                     line: 0,
                     number: 19,
@@ -59,9 +59,9 @@ fn write_read(text: &[u8], read: RndfReply, out: &mut [u8]) -> WriteReply
                 }),
             }
         }
-        RndfReply::Refused(why) => {
+        Err(why) => {
             clear_output(out);
-            WriteReply::Refused(why)
+            Err(why)
         }
     }
 }
@@ -70,11 +70,11 @@ fn write_mdf_read(mdf: &[u8], read: PairReply, out: &mut [u8]) -> WriteMdfReply
     ensures { AnswersMdf read (length out.old) (arranged_text mdf.now) out.new result }
 {
     match read {
-        PairReply::Accepted(c, file, m, mission_file) => {
+        Ok((c, file, m, mission_file)) => {
             let ended = put_whole(mdf, out);
             match ended {
-                Finished::Written(n) => WriteMdfReply::Written(c, file, m, mission_file, n as u32),
-                Finished::TooLong => WriteMdfReply::Refused(Refusal {
+                Some(n) => Ok((c, file, m, mission_file, n as u32)),
+                None => Err(Refusal {
                     file: 2,
                     line: 0,
                     number: 19,
@@ -82,9 +82,9 @@ fn write_mdf_read(mdf: &[u8], read: PairReply, out: &mut [u8]) -> WriteMdfReply
                 }),
             }
         }
-        PairReply::Refused(why) => {
+        Err(why) => {
             clear_output(out);
-            WriteMdfReply::Refused(why)
+            Err(why)
         }
     }
 }
@@ -121,8 +121,8 @@ pub fn write_rndf(
     );
     let reply = write_read(text, read, out);
     match reply {
-        WriteReply::Written(c, file, n) => WriteReply::Written(c, file, n),
-        WriteReply::Refused(why) => {
+        Ok((c, file, n)) => Ok((c, file, n)),
+        Err(why) => {
             clear_tables(
                 segments,
                 lanes,
@@ -133,7 +133,7 @@ pub fn write_rndf(
                 stops,
                 exits,
             );
-            WriteReply::Refused(why)
+            Err(why)
         }
     }
 }
@@ -174,14 +174,8 @@ pub fn write_mdf(
     );
     let reply = write_mdf_read(mdf, read, out);
     match reply {
-        WriteMdfReply::Written(c, file, m, mission_file, n) => WriteMdfReply::Written(
-            c,
-            file,
-            m,
-            mission_file,
-            n,
-        ),
-        WriteMdfReply::Refused(why) => {
+        Ok((c, file, m, mission_file, n)) => Ok((c, file, m, mission_file, n)),
+        Err(why) => {
             clear_tables(
                 segments,
                 lanes,
@@ -194,7 +188,7 @@ pub fn write_mdf(
             );
             clear(goals);
             clear(limits);
-            WriteMdfReply::Refused(why)
+            Err(why)
         }
     }
 }

@@ -95,23 +95,23 @@ fn put_bytes_written<W: Write>(to: &mut W, n: u32) -> io::Result<()> {
 
 fn put_reply<W: Write>(to: &mut W, reply: WriteReply) -> io::Result<()> {
     match reply {
-        WriteReply::Written(c, f, n) => {
+        Ok((c, f, n)) => {
             put_accepted(to, c, f)?;
             put_bytes_written(to, n)?;
         }
-        WriteReply::Refused(why) => put_refused(to, why)?,
+        Err(why) => put_refused(to, why)?,
     }
     put(to, b"\ntables")
 }
 
 fn put_mdf_reply<W: Write>(to: &mut W, reply: WriteMdfReply) -> io::Result<()> {
     match reply {
-        WriteMdfReply::Written(c, f, m, g, n) => {
+        Ok((c, f, m, g, n)) => {
             put_accepted(to, c, f)?;
             put_mission(to, m, g)?;
             put_bytes_written(to, n)?;
         }
-        WriteMdfReply::Refused(why) => put_refused(to, why)?,
+        Err(why) => put_refused(to, why)?,
     }
     put(to, b"\ntables")
 }

@@ -1,4 +1,7 @@
 -- THE THEOREM of document 01's "Prove that no second reply or memory would satisfy it", for the writer of an MDF: the contract settles the reply, every lent word and every byte of the lent output, for all texts, tables and outputs; and some reply and memory satisfy it. Assumes nothing.
+use Rattle.std.specs.Prelude.{Err}
+use Rattle.writings.specs.Types.{WriteMdfReply}
+use Rattle.replies.specs.Types.{PairReply}
 use mathlib.Core.Path.{◌≡◌, refl, sym, ap, ap₂, subst, ◌∙◌}
 use mathlib.Core.Logic.{◌⊎◌, inl, inr}
 use Prim.Native.Nat.{ℕ}
@@ -13,15 +16,11 @@ use Rattle.house_text.specs.House.{HouseMdf}
 use Rattle.house_text.specs.HouseText.{house_mdf}
 use Rattle.output.specs.Output.{zero_bytes, Fits, padded}
 use Rattle.refusal.specs.declared.Refusal.{Refusal}
-use Rattle.replies.specs.declared.PairReply.{PairReply}
-use Rattle.replies.specs.declared.PairReply.TheVariants as Pair
 use Rattle.replies.specs.Replies.{an_mdf, refusal, ReadsPair}
 use Rattle.replies.specs.Replies as R
 use Rattle.replies.specs.Short.{AcceptsRndf, AcceptsMdf}
 use Rattle.replies.proofs.Settled.{rndf-accepts-one, mdf-accepts-one, pair-settled, pair-some}
 use Rattle.replies.proofs.Said.{pair-never-both}
-use Rattle.writings.specs.declared.WriteMdfReply.{WriteMdfReply}
-use Rattle.writings.specs.declared.WriteMdfReply.TheVariants as Write
 use Rattle.writings.specs.Writes.{AcceptedText, WritesMdf}
 use Rattle.writings.specs.Writes as W
 use Rattle.writings.proofs.OneWriting.{mdf-there, mdf-same, fits-or-not}
@@ -47,14 +46,14 @@ module _ (ed : Edition) (rndf mdf : Bytes) (t : Lent) (u : MissionLent) (lent : 
   fits_one : (n n' : Network Field) → Net n → Net n' → (x : Order n) (y : Order n') → Fits lent x.writing → Fits lent y.writing
   fits_one n n' a a' x y = subst (Fits lent) (same-writing n n' a a' x y)
 
-  not-refused : (n : Network Field) → Net n → Order n → (why : Refusal) (left : Lent) (mission_left : MissionLent) → ReadsPair (reading (law_of ed)) rndf mdf t u (Pair.Refused why) left mission_left → ⊥
+  not-refused : (n : Network Field) → Net n → Order n → (why : Refusal) (left : Lent) (mission_left : MissionLent) → ReadsPair (reading (law_of ed)) rndf mdf t u (Err why) left mission_left → ⊥
   not-refused n a x why left mission_left h =
-      pair-never-both (pair-settled ed rndf mdf t u (pair-reply n x.meant) (Pair.Refused why) (Tables.filled n t) left (mission_filled x.meant u) mission_left (pair-read-so ed rndf mdf t u n x.meant a x.accepted) h).0
+      pair-never-both (pair-settled ed rndf mdf t u (pair-reply n x.meant) (Err why) (Tables.filled n t) left (mission_filled x.meant u) mission_left (pair-read-so ed rndf mdf t u n x.meant a x.accepted) h).0
 
   -- no second reply, and no second memory
   pub mdf-write-settled : (r r' : WriteMdfReply) (l l' : Lent) (k k' : MissionLent) (o o' : Bytes) → WritesMdf (reading (law_of ed)) rndf mdf t u lent r l k o → WritesMdf (reading (law_of ed)) rndf mdf t u lent r' l' k' o' → (r ≡ r') × (l ≡ l') × (k ≡ k') × (o ≡ o')
   mdf-write-settled r r' l l' k k' o o' (W.refused why h e z) (W.refused why' h' e' z') =
-      let s = pair-settled ed rndf mdf t u (Pair.Refused why) (Pair.Refused why') l l' k k' h h' in
+      let s = pair-settled ed rndf mdf t u (Err why) (Err why') l l' k k' h h' in
       (e ∙ ap (mdf-reply-of 0) s.0 ∙ sym e', s.1, s.2, z ∙ sym z')
   mdf-write-settled r r' l l' k k' o o' (W.refused why h e z) (W.too_long n' a' x' f' e' p' q' z') = absurd (not-refused n' a' x' why l k h)
   mdf-write-settled r r' l l' k k' o o' (W.refused why h e z) (W.written n' a' x' f' e' p' q' z') = absurd (not-refused n' a' x' why l k h)
@@ -79,10 +78,10 @@ module _ (ed : Edition) (rndf mdf : Bytes) (t : Lent) (u : MissionLent) (lent : 
 
   by-room : (n : Network Field) → Net n → (x : Order n) → Fits lent x.writing ⊎ (Fits lent x.writing → ⊥) → MdfSome
   by-room n a x (inl f) = record { reply = mdf-reply-of (length x.writing) (pair-reply n x.meant); left = Tables.filled n t; mission_left = mission_filled x.meant u; out = padded lent x.writing; writes = W.written n a x f refl refl refl refl }
-  by-room n a x (inr f) = record { reply = Write.Refused (refusal 2 0 19 0); left = Tables.zeros t; mission_left = mission_zeros u; out = zero_bytes lent; writes = W.too_long n a x f refl refl refl refl }
+  by-room n a x (inr f) = record { reply = Err (refusal 2 0 19 0); left = Tables.zeros t; mission_left = mission_zeros u; out = zero_bytes lent; writes = W.too_long n a x f refl refl refl refl }
 
-  as_read : (why : Refusal) (left : Lent) (mission_left : MissionLent) → ReadsPair (reading (law_of ed)) rndf mdf t u (Pair.Refused why) left mission_left → MdfSome
-  as_read why left mission_left h = record { reply = Write.Refused why; left = left; mission_left = mission_left; out = zero_bytes lent; writes = W.refused why h refl refl }
+  as_read : (why : Refusal) (left : Lent) (mission_left : MissionLent) → ReadsPair (reading (law_of ed)) rndf mdf t u (Err why) left mission_left → MdfSome
+  as_read why left mission_left h = record { reply = Err why; left = left; mission_left = mission_left; out = zero_bytes lent; writes = W.refused why h refl refl }
 
   pub mdf-write-some : MdfSome
   mdf-write-some = let x = pair-some ed rndf mdf t u in go x.reply x.left x.mission_left x.reads

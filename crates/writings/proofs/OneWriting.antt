@@ -1,4 +1,5 @@
 -- A network has one house writing, one map and one packed form, a mission has one house writing; and it fits an output, or it does not. Assumes nothing.
+use Rattle.std.specs.Prelude.{Some, None, Option}
 use mathlib.Core.Path.{◌≡◌, refl, sym, ◌∙◌}
 use mathlib.Core.Logic.{◌⊎◌, inl, inr}
 use Prim.Native.Nat.{ℕ}
@@ -16,8 +17,6 @@ use Rattle.house_text.specs.HouseText.{house_rndf, house_mdf}
 use Rattle.house_text.proofs.Lawful.{house-rndf-only, house-rndf-is, house-mdf-only, house-mdf-is}
 use Rattle.output.specs.Ended.{Output}
 use Rattle.output.specs.Output.{Fits}
-use Rattle.output.specs.declared.Finished as DF
-use Rattle.output.specs.declared.Finished.TheVariants as Finished
 use Rattle.output.specs.Pen.{output_of, answer_of}
 use Rattle.output.proofs.Whole.{output-is, answered-written, answered_too-long}
 use Rattle.writings.specs.Writes.{MapOf, PackedOf}
@@ -50,6 +49,6 @@ mdf-same m x y h k = house-mdf-only m x h ∙ sym (house-mdf-only m y k)
 pub fits-or-not : (lent : ℕ) (x : Bytes) → Fits lent x ⊎ (Fits lent x → ⊥)
 fits-or-not lent x = go (answer_of lent x) (output-is lent x)
   where
-    go : (answer : DF.Finished) → Output lent x (output_of lent x) answer → Fits lent x ⊎ (Fits lent x → ⊥)
-    go (Finished.Written k) o = inl (answered-written o).0
-    go Finished.TooLong o = inr (answered_too-long o).0
+    go : (answer : Option ℕ) → Output lent x (output_of lent x) answer → Fits lent x ⊎ (Fits lent x → ⊥)
+    go (Some k) o = inl (answered-written o).0
+    go None o = inr (answered_too-long o).0

@@ -1,2 +1,3 @@
 -- The contracts of the writers.
+pub mod Types
 pub mod Writes

@@ -11,15 +11,7 @@ use refusal::Refusal;
 use rows::{FileRow, MissionFileRow};
 
 // An RNDF: what the reader replies and how many bytes were written; or a refusal.
-#[derive(Clone, Copy)]
-pub enum WriteReply {
-    Written(Counts, FileRow, u32),
-    Refused(Refusal),
-}
+pub type WriteReply = Result<(Counts, FileRow, u32), Refusal>;
 
 // The MDF of a pair, likewise.
-#[derive(Clone, Copy)]
-pub enum WriteMdfReply {
-    Written(Counts, FileRow, MissionCounts, MissionFileRow, u32),
-    Refused(Refusal),
-}
+pub type WriteMdfReply = Result<(Counts, FileRow, MissionCounts, MissionFileRow, u32), Refusal>;

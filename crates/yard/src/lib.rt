@@ -143,8 +143,8 @@ fn rndf_answer(reply: RndfReply) -> Answer
     ensures { result ≡ rndf_answer_of reply }
 {
     match reply {
-        RndfReply::Accepted(c, file) => taken(c, file, NO_MISSION_COUNTS, NO_MISSION_FILE),
-        RndfReply::Refused(why) => refused(why),
+        Ok((c, file)) => taken(c, file, NO_MISSION_COUNTS, NO_MISSION_FILE),
+        Err(why) => refused(why),
     }
 }
 
@@ -152,8 +152,8 @@ fn pair_answer(reply: PairReply) -> Answer
     ensures { result ≡ pair_answer_of reply }
 {
     match reply {
-        PairReply::Accepted(c, file, m, mission_file) => taken(c, file, m, mission_file),
-        PairReply::Refused(why) => refused(why),
+        Ok((c, file, m, mission_file)) => taken(c, file, m, mission_file),
+        Err(why) => refused(why),
     }
 }
 
@@ -161,11 +161,11 @@ fn write_answer(reply: WriteReply) -> WriteAnswer
     ensures { result ≡ write_answer_of reply }
 {
     match reply {
-        WriteReply::Written(c, file, n) => WriteAnswer {
+        Ok((c, file, n)) => WriteAnswer {
             answer: taken(c, file, NO_MISSION_COUNTS, NO_MISSION_FILE),
             length: n,
         },
-        WriteReply::Refused(why) => WriteAnswer {
+        Err(why) => WriteAnswer {
             answer: refused(why),
             length: 0,
         },
@@ -176,11 +176,11 @@ fn write_mdf_answer(reply: WriteMdfReply) -> WriteAnswer
     ensures { result ≡ write_mdf_answer_of reply }
 {
     match reply {
-        WriteMdfReply::Written(c, file, m, mission_file, n) => WriteAnswer {
+        Ok((c, file, m, mission_file, n)) => WriteAnswer {
             answer: taken(c, file, m, mission_file),
             length: n,
         },
-        WriteMdfReply::Refused(why) => WriteAnswer {
+        Err(why) => WriteAnswer {
             answer: refused(why),
             length: 0,
         },
@@ -191,14 +191,14 @@ fn list_answer(reply: ListReply) -> ListAnswer
     ensures { result ≡ list_answer_of reply }
 {
     match reply {
-        ListReply::Answered => ListAnswer {
+        Ok(()) => ListAnswer {
             accepted: 1,
             file: 0,
             line: 0,
             number: 0,
             column: 0,
         },
-        ListReply::Refused(why) => ListAnswer {
+        Err(why) => ListAnswer {
             accepted: 0,
             file: why.file as u32,
             line: why.line,
@@ -212,7 +212,7 @@ fn mend_answer(reply: MendReply) -> MendAnswer
     ensures { result ≡ mend_answer_of reply }
 {
     match reply {
-        MendReply::Mended(rows, length) => MendAnswer {
+        Ok((rows, length)) => MendAnswer {
             accepted: 1,
             file: 0,
             line: 0,
@@ -221,7 +221,7 @@ fn mend_answer(reply: MendReply) -> MendAnswer
             rows,
             length,
         },
-        MendReply::Refused(why) => MendAnswer {
+        Err(why) => MendAnswer {
             accepted: 0,
             file: why.file as u32,
             line: why.line,

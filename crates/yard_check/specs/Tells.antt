@@ -1,14 +1,11 @@
 -- WHAT A READER MUST BELIEVE. What the planners' program puts out of texts: the sentence of what the readers reply to them, and behind a refusal what may stand there. Assumes nothing.
-use Rattle.std.specs.Prelude.{[], ◌++◌, ℕ}
+use Rattle.replies.specs.Types.{PairReply, RndfReply}
+use Rattle.std.specs.Prelude.{[], ◌++◌, ℕ, Ok, Err}
 use Rattle.terms.specs.Ascii.{Bytes}
 use Rattle.edition.specs.declared.Edition.{Edition}
 use Rattle.edition.specs.Editions.{rules_of}
 use Rattle.law.specs.Tables.{Lent, MissionLent}
 use Rattle.refusal.specs.declared.Refusal.{Refusal}
-use Rattle.replies.specs.declared.RndfReply.{RndfReply}
-use Rattle.replies.specs.declared.RndfReply.TheVariants as Rndf
-use Rattle.replies.specs.declared.PairReply.{PairReply}
-use Rattle.replies.specs.declared.PairReply.TheVariants as Pair
 use Rattle.replies.specs.Replies.{ReadsRndf, ReadsPair}
 use Rattle.answers.specs.Answers.{rndf_answer_of, pair_answer_of}
 use Rattle.expected.specs.Words.{expected_words_of, line_of}
@@ -20,12 +17,12 @@ may_stand edition rndf mdf why = line_of (expected_words_of edition rndf mdf why
 
 -- by the reply; of an RNDF alone there is no MDF
 unfoldable pub rndf_may_stand : Edition → (rndf : Bytes) → RndfReply → Bytes
-rndf_may_stand edition rndf (Rndf.Accepted c file) = []
-rndf_may_stand edition rndf (Rndf.Refused why) = may_stand edition rndf [] why
+rndf_may_stand edition rndf (Ok (c, file)) = []
+rndf_may_stand edition rndf (Err why) = may_stand edition rndf [] why
 
 unfoldable pub pair_may_stand : Edition → (rndf mdf : Bytes) → PairReply → Bytes
-pair_may_stand edition rndf mdf (Pair.Accepted c file m mission_file_of) = []
-pair_may_stand edition rndf mdf (Pair.Refused why) = may_stand edition rndf mdf why
+pair_may_stand edition rndf mdf (Ok (c, file, m, mission_file_of)) = []
+pair_may_stand edition rndf mdf (Err why) = may_stand edition rndf mdf why
 
 -- an RNDF of this name, read by an edition into tables t: `left` they are then, and the first n bytes of the output are the sentence and that line. `trouble` is what is the matter with its MDF,
 -- which is told where nothing is with the RNDF

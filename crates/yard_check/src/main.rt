@@ -18,7 +18,7 @@ use answers::{put_pair_answer, put_rndf_answer, put_sentence};
 use console::put;
 use edition::Edition;
 use expected::put_expected_line;
-use files::{Given, Loaded, argument, argument_count, is_argument, load, load_rndf, put_trouble};
+use files::{Loaded, argument, argument_count, is_argument, load, load_rndf, put_trouble};
 use reader::{read_pair, read_rndf};
 use refusal::Refusal;
 use replies::{PairReply, RndfReply};
@@ -95,8 +95,8 @@ fn put_rndf_may_stand(
     ensures { Wrote (pen out.old at) (rndf_may_stand edition rndf.now reply) (pen out.new result) }
 {
     match reply {
-        RndfReply::Accepted(_, _) => at,
-        RndfReply::Refused(why) => put_may_stand(out, at, edition, rndf, b"", why),
+        Ok((_, _)) => at,
+        Err(why) => put_may_stand(out, at, edition, rndf, b"", why),
     }
 }
 
@@ -111,8 +111,8 @@ fn put_pair_may_stand(
     ensures { Wrote (pen out.old at) (pair_may_stand edition rndf.now mdf.now reply) (pen out.new result) }
 {
     match reply {
-        PairReply::Accepted(_, _, _, _) => at,
-        PairReply::Refused(why) => put_may_stand(out, at, edition, rndf, mdf, why),
+        Ok((_, _, _, _)) => at,
+        Err(why) => put_may_stand(out, at, edition, rndf, mdf, why),
     }
 }
 
@@ -416,11 +416,11 @@ fn with_arguments<R: Env + Files, W: Write>(
     let mut mdf_name = [0u8; MOST_NAME];
     let mdf = argument(rt, mdf_at, &mut mdf_name);
     match rndf {
-        Given::TooLong => say(to, b"The RNDF file's name is over 4,095 bytes.\n"),
-        Given::Bytes(n) => {
+        None => say(to, b"The RNDF file's name is over 4,095 bytes.\n"),
+        Some(n) => {
             match mdf {
-                Given::TooLong => say(to, b"The MDF file's name is over 4,095 bytes.\n"),
-                Given::Bytes(m) => with_given(
+                None => say(to, b"The MDF file's name is over 4,095 bytes.\n"),
+                Some(m) => with_given(
                     rt,
                     to,
                     edition,

@@ -14,7 +14,7 @@ ghost use Rattle.std.specs.Prelude.{◌+◌, ◌≤◌, ◌<◌, length, IfOk};
 use answers::put_sentence;
 use console::put;
 use edition::Edition;
-use files::{Given, Loaded, argument, argument_count, is_argument, load, put_trouble};
+use files::{Loaded, argument, argument_count, is_argument, load, put_trouble};
 use mend::mend;
 use mend_law::MendReply;
 use mend_lines::Before;
@@ -216,8 +216,8 @@ fn print_mended<P: Write>(page: &mut P, edition: Edition, text: &[u8]) -> io::Re
     let mut out = [0u8; MOST_MENDED];
     let reply = mend_into(edition, text, &mut list, &mut out);
     match reply {
-        MendReply::Mended(_, n) => print(page, &out, n)?,
-        MendReply::Refused(_) => (),
+        Ok((_, n)) => print(page, &out, n)?,
+        Err(_) => (),
     }
     Ok(reply)
 }
@@ -253,8 +253,8 @@ fn show<P: Write, W: Write>(
 ) -> io::Result<()> {
     let reply = print_mended(page, edition, text)?;
     match reply {
-        MendReply::Mended(rows, _) => say_rows(to, name, text, rows),
-        MendReply::Refused(why) => say_why(to, edition, name, text, why.number),
+        Ok((rows, _)) => say_rows(to, name, text, rows),
+        Err(why) => say_why(to, edition, name, text, why.number),
     }
 }
 
@@ -321,8 +321,8 @@ fn with_argument<R: Env + Files, P: Write, W: Write>(
     let mut name = [0u8; MOST_NAME];
     let given = argument(rt, at, &mut name);
     match given {
-        Given::TooLong => say(to, b"The file's name is over 4,095 bytes.\n"),
-        Given::Bytes(n) => with_name(rt, page, to, edition, first(&name, n)),
+        None => say(to, b"The file's name is over 4,095 bytes.\n"),
+        Some(n) => with_name(rt, page, to, edition, first(&name, n)),
     }
 }
 

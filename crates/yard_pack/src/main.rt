@@ -13,7 +13,7 @@ use answers::put_sentence;
 use console::put;
 use edition::Edition;
 use expected::put_expected_line;
-use files::{Given, Loaded, argument, argument_count, is_argument, load, put_trouble};
+use files::{Loaded, argument, argument_count, is_argument, load, put_trouble};
 use packer::write_packed;
 use shown::first;
 use std::io;
@@ -149,10 +149,8 @@ fn show<P: Write, W: Write>(
         &mut exits,
     );
     match reply {
-        WriteReply::Written(_, _, n) => print(page, &out, n),
-        WriteReply::Refused(why) => say_refused(
-            to, edition, name, text, why.line, why.number, why.column,
-        ),
+        Ok((_, _, n)) => print(page, &out, n),
+        Err(why) => say_refused(to, edition, name, text, why.line, why.number, why.column),
     }
 }
 
@@ -207,8 +205,8 @@ fn with_argument<R: Env + Files, P: Write, W: Write>(
     let mut name = [0u8; MOST_NAME];
     let given = argument(rt, at, &mut name);
     match given {
-        Given::TooLong => say(to, b"The file's name is over 4,095 bytes.\n"),
-        Given::Bytes(n) => with_name(rt, page, to, edition, first(&name, n)),
+        None => say(to, b"The file's name is over 4,095 bytes.\n"),
+        Some(n) => with_name(rt, page, to, edition, first(&name, n)),
     }
 }
 

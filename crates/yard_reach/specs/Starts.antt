@@ -1,5 +1,6 @@
 -- WHAT A READER MUST BELIEVE. The row of the point that the start names, x.y.z, in filled tables. Assumes nothing.
-use Rattle.std.specs.Prelude.{List, ℕ, pred, ◌+◌, ◌-◌, eqb, ltb, leb}
+use Rattle.replies.specs.Types.{PairReply}
+use Rattle.std.specs.Prelude.{List, ℕ, pred, ◌+◌, ◌-◌, eqb, ltb, leb, Ok, Err}
 use Rattle.std.proofs.Math.Option.{Option, none, some}
 use Rattle.terms.specs.Words.{pick}
 use Rattle.room.specs.Room.{fitted}
@@ -7,8 +8,6 @@ use Rattle.rows.specs.Read.{zone_at_of, spot_at_of}
 use Rattle.grammar.specs.Statements.{PointId}
 use Rattle.fill.specs.Resolve.{in_part_of, only_if, resolve}
 use Rattle.references.specs.Finding.{look_in}
-use Rattle.replies.specs.declared.PairReply.{PairReply}
-use Rattle.replies.specs.declared.PairReply.TheVariants as Pair
 use Rattle.yard_reach.specs.declared.Start.{Start}
 use Rattle.yard_reach.specs.declared.Start.TheVariants as S
 
@@ -33,5 +32,5 @@ named none = S.Nothing
 
 -- by the reader's reply
 unfoldable pub start_of : (segments lanes zones spots : List ℕ) → PointId → PairReply → Start
-start_of segments lanes zones spots e (Pair.Accepted c file m own) = named (start-row segments lanes zones spots c.segments e)
-start_of segments lanes zones spots e (Pair.Refused why) = S.Refused why
+start_of segments lanes zones spots e (Ok (c, file, m, own)) = named (start-row segments lanes zones spots c.segments e)
+start_of segments lanes zones spots e (Err why) = S.Refused why

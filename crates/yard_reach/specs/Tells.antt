@@ -1,11 +1,11 @@
 -- WHAT A READER MUST BELIEVE. Where the planners' program for L13 finds the start, and what it puts out of a mission: the sentence of what is replied to the question whether it can be driven. Assumes nothing.
+use Rattle.replies.specs.Types.{PairReply}
 use Rattle.std.specs.Prelude.{◌≡◌, List, ℕ}
 use Rattle.terms.specs.Ascii.{Bytes}
 use Rattle.edition.specs.declared.Edition.{Edition}
 use Rattle.edition.specs.Editions.{rules_of}
 use Rattle.grammar.specs.Statements.{PointId}
 use Rattle.law.specs.Tables.{Lent, MissionLent}
-use Rattle.replies.specs.declared.PairReply.{PairReply}
 use Rattle.replies.specs.Replies.{ReadsPair}
 use Rattle.reach_checks.specs.Checks.{ChecksMission}
 use Rattle.answers.specs.Answers.{mission_answer}

@@ -21,18 +21,17 @@ use answers::{put_mission_answer, put_no_start, put_pair_answer, put_sentence};
 use console::put;
 use edition::Edition;
 use expected::put_expected_line;
-use files::{Given, Loaded, argument, argument_count, is_argument, load, load_rndf, put_trouble};
-use number::{Triple, triple_of};
+use files::{Loaded, argument, argument_count, is_argument, load, load_rndf, put_trouble};
+use number::{Id, triple_of};
 use output::put_bytes;
 use reach::check_mission;
 use read_rows::{spot_at, zone_at};
 use reader::read_pair;
-use references::{Found, resolve};
+use references::resolve;
 use refusal::Refusal;
 use replies::PairReply;
 use room::in_word;
 use shown::first;
-use statement::Id;
 use std::io;
 use std::io::Write;
 use std::rt::{Env, Files};
@@ -87,22 +86,22 @@ fn before(n: u32) -> usize
 }
 
 // The z-th of a spot's two points, the first of which has this row.
-fn spot_point(first: u32, z: u32) -> Found
+fn spot_point(first: u32, z: u32) -> Option<usize>
     ensures { found result ≡ spot_point_of first z }
 {
     if 0 < z {
         if z <= 2 {
-            Found::At(first as usize + before(z))
+            Some(first as usize + before(z))
         } else {
-            Found::Nothing
+            None
         }
     } else {
-        Found::Nothing
+        None
     }
 }
 
 // A point of spot y of zone x: zones are numbered behind the segments.
-fn spot_row(zones: &[u32], spots: &[u32], segment_count: u32, e: Id) -> Found
+fn spot_row(zones: &[u32], spots: &[u32], segment_count: u32, e: Id) -> Option<usize>
     ensures { found result ≡ spot-at zones.now spots.now segment_count e.x e.y e.z }
 {
     if segment_count < e.x {
@@ -111,10 +110,10 @@ fn spot_row(zones: &[u32], spots: &[u32], segment_count: u32, e: Id) -> Found
             let spot = spot_at(spots, zone.first_spot as usize + before(e.y));
             spot_point(spot.first_point, e.z)
         } else {
-            Found::Nothing
+            None
         }
     } else {
-        Found::Nothing
+        None
     }
 }
 
@@ -126,7 +125,7 @@ fn start_row(
     spots: &[u32],
     segment_count: u32,
     e: Id,
-) -> Found
+) -> Option<usize>
     ensures { found result ≡ start-row segments.now lanes.now zones.now spots.now segment_count (the_the_point_of e) }
 {
     if e.y == 0 {
@@ -150,14 +149,14 @@ fn start_of(
     ensures { result ≡ start_of segments.now lanes.now zones.now spots.now (the_the_point_of e) reply }
 {
     match reply {
-        PairReply::Accepted(c, _, _, _) => {
+        Ok((c, _, _, _)) => {
             let found = start_row(segments, lanes, zones, spots, c.segments, e);
             match found {
-                Found::At(i) => Start::At(in_word(i)),
-                Found::Nothing => Start::Nothing,
+                Some(i) => Start::At(in_word(i)),
+                None => Start::Nothing,
             }
         }
-        PairReply::Refused(why) => Start::Refused(why),
+        Err(why) => Start::Refused(why),
     }
 }
 
@@ -285,7 +284,7 @@ fn say_refused<W: Write>(
     why: Refusal,
 ) -> io::Result<()> {
     let mut out = [0u8; MOST_ANSWER];
-    let reply = PairReply::Refused(why);
+    let reply = Err(why);
     let a = put_pair_answer(&mut out, 0, rndf_name, mdf_name, rndf, mdf, reply);
     let n = put_expected_line(
         &mut out,
@@ -478,15 +477,8 @@ fn with_start<R: Files, W: Write>(
 ) -> io::Result<()> {
     let spelled = triple_of(start);
     match spelled {
-        Triple::Is(i) => {
-            let e = Id {
-                x: i.x,
-                y: i.y,
-                z: i.z,
-            };
-            with_names(rt, to, edition, rndf_name, mdf_name, start, e)
-        }
-        Triple::No => say_misspelt(to, start),
+        Some(id) => with_names(rt, to, edition, rndf_name, mdf_name, start, id),
+        None => say_misspelt(to, start),
     }
 }
 
@@ -533,14 +525,14 @@ fn with_arguments<R: Env + Files, W: Write>(
     let mut start_name = [0u8; MOST_NAME];
     let start = argument(rt, start_at, &mut start_name);
     match rndf {
-        Given::TooLong => say(to, b"The RNDF file's name is over 4,095 bytes.\n"),
-        Given::Bytes(n) => {
+        None => say(to, b"The RNDF file's name is over 4,095 bytes.\n"),
+        Some(n) => {
             match mdf {
-                Given::TooLong => say(to, b"The MDF file's name is over 4,095 bytes.\n"),
-                Given::Bytes(m) => {
+                None => say(to, b"The MDF file's name is over 4,095 bytes.\n"),
+                Some(m) => {
                     match start {
-                        Given::TooLong => say(to, b"The start is over 4,095 bytes.\n"),
-                        Given::Bytes(k) => with_start(
+                        None => say(to, b"The start is over 4,095 bytes.\n"),
+                        Some(k) => with_start(
                             rt,
                             to,
                             edition,

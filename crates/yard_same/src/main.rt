@@ -14,7 +14,7 @@ use compared::put_compared;
 use console::put;
 use edition::Edition;
 use expected::put_expected_line;
-use files::{Given, Loaded, argument, argument_count, is_argument, load, put_trouble};
+use files::{Loaded, argument, argument_count, is_argument, load, put_trouble};
 use shown::first;
 use std::io;
 use std::io::Write;
@@ -49,13 +49,6 @@ const CHECKPOINT_WORDS: usize = 2 * (MOST_BYTES / 19 + 1);
 const STOP_WORDS: usize = MOST_BYTES / 11 + 1;
 
 const EXIT_WORDS: usize = 2 * (MOST_BYTES / 17 + 1);
-
-// What came of a file: a house writing of so many bytes; or it was told why there is none.
-#[derive(Clone, Copy)]
-enum Filed {
-    Bytes(usize),
-    Told,
-}
 
 // ## What is said
 
@@ -142,7 +135,7 @@ fn file_text<W: Write>(
     out: &mut [u8; MOST_WRITING],
     name: &[u8],
     text: &[u8],
-) -> io::Result<Filed> {
+) -> io::Result<Option<usize>> {
     let mut segments = [0u32; SEGMENT_WORDS];
     let mut lanes = [0u32; LANE_WORDS];
     let mut zones = [0u32; ZONE_WORDS];
@@ -165,10 +158,10 @@ fn file_text<W: Write>(
         &mut exits,
     );
     match reply {
-        WriteReply::Written(_, _, n) => Ok(Filed::Bytes(n as usize)),
-        WriteReply::Refused(why) => {
+        Ok((_, _, n)) => Ok(Some(n as usize)),
+        Err(why) => {
             say_refused(to, edition, name, text, why.line, why.number, why.column)?;
-            Ok(Filed::Told)
+            Ok(None)
         }
     }
 }
@@ -179,18 +172,18 @@ fn file_name<R: Files, W: Write>(
     edition: Edition,
     out: &mut [u8; MOST_WRITING],
     name: &[u8],
-) -> io::Result<Filed> {
+) -> io::Result<Option<usize>> {
     let mut text = [0u8; MOST_BYTES];
     let loaded = load(rt, name, &mut text);
     match loaded {
         Loaded::Bytes(n) => file_text(to, edition, out, name, first(&text, n)),
         Loaded::OverLimit => {
             say_refused(to, edition, name, b"", 0, 1, 0)?;
-            Ok(Filed::Told)
+            Ok(None)
         }
         _ => {
             say_matter(to, name, loaded)?;
-            Ok(Filed::Told)
+            Ok(None)
         }
     }
 }
@@ -220,8 +213,8 @@ fn with_first<R: Files, W: Write>(
     let mut b = [0u8; MOST_WRITING];
     let filed = file_name(rt, to, edition, &mut b, other)?;
     match filed {
-        Filed::Bytes(m) => print(to, name, other, a, n, &b, m),
-        Filed::Told => Ok(()),
+        Some(m) => print(to, name, other, a, n, &b, m),
+        None => Ok(()),
     }
 }
 
@@ -235,8 +228,8 @@ fn with_names<R: Files, W: Write>(
     let mut a = [0u8; MOST_WRITING];
     let filed = file_name(rt, to, edition, &mut a, name)?;
     match filed {
-        Filed::Bytes(n) => with_first(rt, to, edition, name, other, &a, n),
-        Filed::Told => Ok(()),
+        Some(n) => with_first(rt, to, edition, name, other, &a, n),
+        None => Ok(()),
     }
 }
 
@@ -279,11 +272,11 @@ fn with_arguments<R: Env + Files, W: Write>(
     let mut other = [0u8; MOST_NAME];
     let two = argument(rt, other_at, &mut other);
     match one {
-        Given::TooLong => say(to, b"A file's name is over 4,095 bytes.\n"),
-        Given::Bytes(n) => {
+        None => say(to, b"A file's name is over 4,095 bytes.\n"),
+        Some(n) => {
             match two {
-                Given::TooLong => say(to, b"A file's name is over 4,095 bytes.\n"),
-                Given::Bytes(m) => with_names(rt, to, edition, first(&name, n), first(&other, m)),
+                None => say(to, b"A file's name is over 4,095 bytes.\n"),
+                Some(m) => with_names(rt, to, edition, first(&name, n), first(&other, m)),
             }
         }
     }

@@ -1,8 +1,8 @@
 -- WHAT A READER MUST BELIEVE. What the planners' program puts out of packed bytes: the sentence of what the unpacker replies to them. Assumes nothing.
+use Rattle.replies.specs.Types.{RndfReply}
 use Rattle.std.specs.Prelude.{[], ℕ}
 use Rattle.terms.specs.Ascii.{Bytes}
 use Rattle.law.specs.Tables.{Lent}
-use Rattle.replies.specs.declared.RndfReply.{RndfReply}
 use Rattle.unpackings.specs.Unpacks.{Unpacks}
 use Rattle.answers.specs.Answers.{rndf_answer_of}
 use Rattle.output.specs.Pen.{pen, Wrote}

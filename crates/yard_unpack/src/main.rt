@@ -13,7 +13,7 @@ ghost use Rattle.yard_unpack.specs.Tells.{TellsPacked};
 
 use answers::{put_rndf_answer, put_sentence};
 use console::put;
-use files::{Given, Loaded, argument, argument_count, is_argument, load, put_trouble};
+use files::{Loaded, argument, argument_count, is_argument, load, put_trouble};
 use shown::first;
 use std::io;
 use std::io::Write;
@@ -162,8 +162,8 @@ fn with_argument<R: Env + Files, W: Write>(rt: &R, to: &mut W) -> io::Result<()>
     let mut name = [0u8; MOST_NAME];
     let given = argument(rt, 1, &mut name);
     match given {
-        Given::TooLong => say(to, b"The file's name is over 4,095 bytes.\n"),
-        Given::Bytes(n) => with_name(rt, to, first(&name, n)),
+        None => say(to, b"The file's name is over 4,095 bytes.\n"),
+        Some(n) => with_name(rt, to, first(&name, n)),
     }
 }
 

@@ -3,12 +3,12 @@ use Rattle.answers.specs.Answers.{mission_answer}
 use Rattle.answers.proofs.put_mission_answer.Goals as goal
 
 pub enum_known-reply : goal.enum_known-reply
-enum_known-reply c = c.in-Refused.in-Refused-own.keys2
+enum_known-reply c = c.in-Err.in-Err-own.keys2
 
-pub returns-in-Accepted : goal.returns-in-Accepted
+pub returns-in-Ok : goal.returns-in-Ok
 unfolding mission_answer
-returns-in-Accepted c = rw c.in-Accepted.is c.put_driven.ensures
+returns-in-Ok c = rw c.in-Ok.is c.put_driven.ensures
 
-pub returns-in-Refused : goal.returns-in-Refused
+pub returns-in-Err : goal.returns-in-Err
 unfolding mission_answer
-returns-in-Refused c = rw c.in-Refused.is c.put_not_driven.ensures
+returns-in-Err c = rw c.in-Err.is c.put_not_driven.ensures

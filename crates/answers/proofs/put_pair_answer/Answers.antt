@@ -3,15 +3,15 @@ use Rattle.answers.specs.Answers.{pair_answer_of}
 use Rattle.answers.proofs.put_pair_answer.Goals as goal
 
 pub enum_known-reply : goal.enum_known-reply
-enum_known-reply c = c.in-Accepted.in-Accepted-own.keys1
+enum_known-reply c = c.in-Ok.in-Ok-own.keys1
 
-pub enum_known-reply-in-Refused-1 : goal.enum_known-reply-in-Refused-1
-enum_known-reply-in-Refused-1 c = c.in-Refused.in-Refused-own.keys2
+pub enum_known-reply-in-Err-1 : goal.enum_known-reply-in-Err-1
+enum_known-reply-in-Err-1 c = c.in-Err.in-Err-own.keys2
 
-pub returns-in-Accepted : goal.returns-in-Accepted
+pub returns-in-Ok : goal.returns-in-Ok
 unfolding pair_answer_of
-returns-in-Accepted c = rw c.in-Accepted.is c.put_pair_accepted.ensures
+returns-in-Ok c = rw c.in-Ok.is c.put_pair_accepted.ensures
 
-pub returns-in-Refused : goal.returns-in-Refused
+pub returns-in-Err : goal.returns-in-Err
 unfolding pair_answer_of
-returns-in-Refused c = rw c.in-Refused.is c.put_refused.ensures
+returns-in-Err c = rw c.in-Err.is c.put_refused.ensures

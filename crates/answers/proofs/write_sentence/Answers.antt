@@ -8,22 +8,22 @@ use Rattle.answers.proofs.write_sentence.Goals as goal
 pub overflow_cast-result : goal.overflow_cast-result
 overflow_cast-result c =
     let o = written {lent = length c.args.out.now} c.clear_output.ensures c.put_sentence-at.ensures c.finish-finished.ensures in
-    fits_word (rw c.in-Written.is at o)
+    fits_word (rw c.in-Some.is at o)
 
-pub shape_of-out-in-Written : goal.shape_of-out-in-Written
-shape_of-out-in-Written c =
+pub shape_of-out-in-Some : goal.shape_of-out-in-Some
+shape_of-out-in-Some c =
     c.finish-finished.auto.out ∙ c.put_sentence-at.auto.out ∙ c.clear_output.auto.out
 
-pub returns-in-Written : goal.returns-in-Written
-returns-in-Written c =
+pub returns-in-Some : goal.returns-in-Some
+returns-in-Some c =
     let o = written {lent = length c.args.out.now} c.clear_output.ensures c.put_sentence-at.ensures c.finish-finished.ensures in
-    told-whole (rw c.in-Written.is at o)
+    told-whole (rw c.in-Some.is at o)
 
-pub shape_of-out-in-TooLong : goal.shape_of-out-in-TooLong
-shape_of-out-in-TooLong c =
+pub shape_of-out-in-None : goal.shape_of-out-in-None
+shape_of-out-in-None c =
     c.finish-finished.auto.out ∙ c.put_sentence-at.auto.out ∙ c.clear_output.auto.out
 
-pub returns-in-TooLong : goal.returns-in-TooLong
-returns-in-TooLong c =
+pub returns-in-None : goal.returns-in-None
+returns-in-None c =
     let o = written {lent = length c.args.out.now} c.clear_output.ensures c.put_sentence-at.ensures c.finish-finished.ensures in
-    told_none (rw c.in-TooLong.is at o)
+    told_none (rw c.in-None.is at o)

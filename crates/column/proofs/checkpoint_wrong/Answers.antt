@@ -8,8 +8,8 @@ returns-in_default c = rw c.in_default.is
 
 pub returns-then-tried : goal.returns-then-tried
 unfolding checkpoint_wrong_of
-returns-then-tried c = rw (c.in-Is.is, ← c.marks.ensures, ← c.tried.ensures, c.if-tried.true)
+returns-then-tried c = rw (c.in-Some.is, ← c.marks.ensures, ← c.tried.ensures, c.if-tried.true)
 
 pub returns-else-tried : goal.returns-else-tried
 unfolding checkpoint_wrong_of
-returns-else-tried c = rw (c.in-Is.is, ← c.marks.ensures, ← c.tried.ensures, c.if-tried.false)
+returns-else-tried c = rw (c.in-Some.is, ← c.marks.ensures, ← c.tried.ensures, c.if-tried.false)

@@ -19,12 +19,12 @@ pub returns-then-f-fields_needed : goal.returns-then-f-fields_needed
 unfolding kind_field_of
 returns-then-f-fields_needed c =
     let few = c.fields_needed.ensures ∙ needed c.args.kind c.requires.1 in
-    let stands = none-refuses _ c.refuses.result c.refuses.ensures c.in-Taken.is in
+    let stands = none-refuses _ c.refuses.result c.refuses.ensures c.in-Ok.is in
     rw (← c.cell-cell.ensures, eq-eqb _ 0 stands, ← few, eq-eqb _ _ c.if-f-fields_needed.true) c.wrong.ensures
 
 pub returns-else-f-fields_needed : goal.returns-else-f-fields_needed
 unfolding kind_field_of
 returns-else-f-fields_needed c =
     let few = c.fields_needed.ensures ∙ needed c.args.kind c.requires.1 in
-    let stands = none-refuses _ c.refuses.result c.refuses.ensures c.in-Taken.is in
+    let stands = none-refuses _ c.refuses.result c.refuses.ensures c.in-Ok.is in
     rw (← c.cell-cell.ensures, eq-eqb _ 0 stands, ← few, ne_eqb _ _ c.if-f-fields_needed.false)

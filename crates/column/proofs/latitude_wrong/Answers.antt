@@ -13,13 +13,13 @@ returns-in_default c = rw c.in_default.is
 pub returns-then-tried : goal.returns-then-tried
 unfolding latitude_wrong_of
 returns-then-tried c =
-    let z = c.in-Is.latitude in
-    let e : to_z w32 (of_z w32 z) ≡ z = search (rules, c.in-Is.known_told-1-own.given) in
-    rw (c.in-Is.is, ← e, ← c.passes.ensures, ← c.tried.ensures, c.if-tried.true)
+    let z = c.in-Some.latitude in
+    let e : to_z w32 (of_z w32 z) ≡ z = search (rules, c.in-Some.known_told-1-own.given) in
+    rw (c.in-Some.is, ← e, ← c.passes.ensures, ← c.tried.ensures, c.if-tried.true)
 
 pub returns-else-tried : goal.returns-else-tried
 unfolding latitude_wrong_of
 returns-else-tried c =
-    let z = c.in-Is.latitude in
-    let e : to_z w32 (of_z w32 z) ≡ z = search (rules, c.in-Is.known_told-1-own.given) in
-    rw (c.in-Is.is, ← e, ← c.passes.ensures, ← c.tried.ensures, c.if-tried.false)
+    let z = c.in-Some.latitude in
+    let e : to_z w32 (of_z w32 z) ≡ z = search (rules, c.in-Some.known_told-1-own.given) in
+    rw (c.in-Some.is, ← e, ← c.passes.ensures, ← c.tried.ensures, c.if-tried.false)

@@ -3,8 +3,8 @@ use mathlib.Core.Path.{ap, ◌∙◌}
 use Rattle.column.proofs.Places.{standing, behind-so}
 use Rattle.column.proofs.place_behind.Goals as goal
 
-pub returns-in-Fault : goal.returns-in-Fault
-returns-in-Fault c = ap standing (rw c.in-Fault.is at (c.walk_lines-walked.ensures c.requires)) ∙ behind-so c.args.text.now _
+pub returns-in-Err : goal.returns-in-Err
+returns-in-Err c = ap standing (rw c.in-Err.is at (c.walk_lines-walked.ensures c.requires)) ∙ behind-so c.args.text.now _
 
-pub returns-in-Ended : goal.returns-in-Ended
-returns-in-Ended c = ap standing (rw c.in-Ended.is at (c.walk_lines-walked.ensures c.requires)) ∙ behind-so c.args.text.now _
+pub returns-in-Ok : goal.returns-in-Ok
+returns-in-Ok c = ap standing (rw c.in-Ok.is at (c.walk_lines-walked.ensures c.requires)) ∙ behind-so c.args.text.now _

@@ -8,8 +8,8 @@ returns-in_default c = rw c.in_default.is
 
 pub returns-then-tried : goal.returns-then-tried
 unfolding point_wrong_of
-returns-then-tried c = rw (c.in-Is.is, ← c.passes.ensures, ← c.tried.ensures, c.if-tried.true) c.latitude_wrong.ensures
+returns-then-tried c = rw (c.in-Some.is, ← c.passes.ensures, ← c.tried.ensures, c.if-tried.true) c.latitude_wrong.ensures
 
 pub returns-else-tried : goal.returns-else-tried
 unfolding point_wrong_of
-returns-else-tried c = rw (c.in-Is.is, ← c.passes.ensures, ← c.tried.ensures, c.if-tried.false)
+returns-else-tried c = rw (c.in-Some.is, ← c.passes.ensures, ← c.tried.ensures, c.if-tried.false)

@@ -8,22 +8,22 @@ use Rattle.expected.proofs.write_expected.Goals as goal
 pub overflow_cast-n : goal.overflow_cast-n
 overflow_cast-n c =
     let o = written {lent = length c.args.out.now} c.clear_output.ensures c.put_expected-at.ensures c.finish-finished.ensures in
-    fits_word (rw c.in-Written.is at o)
+    fits_word (rw c.in-Some.is at o)
 
-pub shape_of-out-in-Written : goal.shape_of-out-in-Written
-shape_of-out-in-Written c =
+pub shape_of-out-in-Some : goal.shape_of-out-in-Some
+shape_of-out-in-Some c =
     c.finish-finished.auto.out ∙ c.put_expected-at.auto.out ∙ c.clear_output.auto.out
 
-pub returns-in-Written : goal.returns-in-Written
-returns-in-Written c =
+pub returns-in-Some : goal.returns-in-Some
+returns-in-Some c =
     let o = written {lent = length c.args.out.now} c.clear_output.ensures c.put_expected-at.ensures c.finish-finished.ensures in
-    answers-whole c.answer_of.ensures (rw c.in-Written.is at o)
+    answers-whole c.answer_of.ensures (rw c.in-Some.is at o)
 
-pub shape_of-out-in-TooLong : goal.shape_of-out-in-TooLong
-shape_of-out-in-TooLong c =
+pub shape_of-out-in-None : goal.shape_of-out-in-None
+shape_of-out-in-None c =
     c.finish-finished.auto.out ∙ c.put_expected-at.auto.out ∙ c.clear_output.auto.out
 
-pub returns-in-TooLong : goal.returns-in-TooLong
-returns-in-TooLong c =
+pub returns-in-None : goal.returns-in-None
+returns-in-None c =
     let o = written {lent = length c.args.out.now} c.clear_output.ensures c.put_expected-at.ensures c.finish-finished.ensures in
-    answers-none c.too_short.ensures (rw c.in-TooLong.is at o)
+    answers-none c.too_short.ensures (rw c.in-None.is at o)

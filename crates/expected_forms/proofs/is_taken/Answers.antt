@@ -2,10 +2,10 @@
 use Rattle.expected_forms.specs.Forms.{is_taken}
 use Rattle.expected_forms.proofs.is_taken.Goals as goal
 
-pub returns-in-Taken : goal.returns-in-Taken
+pub returns-in-Ok : goal.returns-in-Ok
 unfolding is_taken
-returns-in-Taken c = rw c.in-Taken.is
+returns-in-Ok c = rw c.in-Ok.is
 
-pub returns-in-Refused : goal.returns-in-Refused
+pub returns-in-Err : goal.returns-in-Err
 unfolding is_taken
-returns-in-Refused c = rw c.in-Refused.is
+returns-in-Err c = rw c.in-Err.is

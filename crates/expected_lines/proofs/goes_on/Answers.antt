@@ -8,8 +8,8 @@ returns-in_default c = rw c.in_default.is
 
 pub returns-in_default-m : goal.returns-in_default-m
 unfolding goes_on_of
-returns-in_default-m c = rw (c.in-Is.is, c.in_default-m.is)
+returns-in_default-m c = rw (c.in-Some.is, c.in_default-m.is)
 
 pub returns : goal.returns
 unfolding goes_on_of
-returns c = rw (c.in-Is.is, c.in-Is-m.is) c.limited.ensures
+returns c = rw (c.in-Some.is, c.in-Some-m.is) c.limited.ensures

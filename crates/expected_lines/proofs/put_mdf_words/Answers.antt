@@ -9,4 +9,4 @@ returns-in_default c = rw (← c.mission_place_before.ensures, c.in_default.is) 
 
 pub returns : goal.returns
 unfolding mdf_words
-returns c = rw (← c.mission_place_before.ensures, c.in-At.is, ← c.line_of.ensures) c.put_mdf_line.ensures
+returns c = rw (← c.mission_place_before.ensures, c.in-Some.is, ← c.line_of.ensures) c.put_mdf_line.ensures

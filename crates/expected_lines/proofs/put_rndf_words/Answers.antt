@@ -9,4 +9,4 @@ returns-in_default c = rw (← c.place_before.ensures, c.in_default.is) none
 
 pub returns : goal.returns
 unfolding rndf_words
-returns c = rw (← c.place_before.ensures, c.in-At.is, ← c.line_of.ensures) c.put_rndf_line.ensures
+returns c = rw (← c.place_before.ensures, c.in-Some.is, ← c.line_of.ensures) c.put_rndf_line.ensures

@@ -2,5 +2,5 @@
 use mathlib.Core.Path.{refl}
 use Rattle.expected_references.proofs.id_of.Goals as goal
 
-pub returns-in-No : goal.returns-in-No
-returns-in-No c = rw c.in-No.is refl
+pub returns-in-None : goal.returns-in-None
+returns-in-None c = rw c.in-None.is refl

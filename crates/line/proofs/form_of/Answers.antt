@@ -1,10 +1,10 @@
 -- `line::form_of` meets its contract. Assumes nothing.
+use Rattle.std.specs.Prelude.{Ok}
 use mathlib.Core.Path.{sym, ap, ◌∙◌}
 use borrow.Author.Tests.{le-leb, lt-leb}
 use Rattle.scan.specs.Reach.{reach, fails, plain}
 use Rattle.scan.proofs.Reach.{from_start}
 use Rattle.line.specs.Forms.{opens, form_of}
-use Rattle.line.specs.declared.Form.TheVariants.{Body}
 use Rattle.line.proofs.Plain.{opens-from, plain_form}
 use Rattle.line.proofs.form_of.Goals as goal
 
@@ -16,7 +16,7 @@ pub returns-then-stop-s : goal.returns-then-stop-s
 returns-then-stop-s c =
     let s = c.args.s.now in
     let p = c.plain_from-stop.ensures ∙ from_start (fails plain) s in
-    ap Body c.if-stop-s.true ∙ sym (plain_form s (sym p ∙ c.if-stop-s.true) c.if-s-gt512.false)
+    ap Ok c.if-stop-s.true ∙ sym (plain_form s (sym p ∙ c.if-stop-s.true) c.if-s-gt512.false)
 
 pub is_shut-requires : goal.is_shut-requires
 is_shut-requires c =

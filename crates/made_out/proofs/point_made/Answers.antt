@@ -7,4 +7,4 @@ use borrow.Author.Rules.{rules}
 use Rattle.made_out.proofs.point_made.Goals as goal
 
 pub returns : goal.returns
-returns c = let z = c.in-Is-a.latitude in let y = c.in-Is-o.longitude in let e : to_z w32 (of_z w32 z) ≡ z = search (rules, c.in-Is-a.known_told-in-Is-a-1-own.given) in let g : to_z w32 (of_z w32 y) ≡ y = search (rules, c.in-Is-o.known_told-in-Is-o-1-own.given) in rw (e, g, c.in-Is.is, c.in-Is-a.is, c.in-Is-o.is)
+returns c = let z = c.in-Some-a.latitude in let y = c.in-Some-o.longitude in let e : to_z w32 (of_z w32 z) ≡ z = search (rules, c.in-Some-a.known_told-in-Some-a-1-own.given) in let g : to_z w32 (of_z w32 y) ≡ y = search (rules, c.in-Some-o.known_told-in-Some-o-1-own.given) in rw (e, g, c.in-Some.is, c.in-Some-a.is, c.in-Some-o.is)

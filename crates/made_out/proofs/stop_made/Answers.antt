@@ -1,4 +1,4 @@
 use Rattle.made_out.proofs.stop_made.Goals as goal
 
 pub returns : goal.returns
-returns c = rw c.in-Is.is
+returns c = rw c.in-Some.is

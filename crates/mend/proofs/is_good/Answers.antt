@@ -21,18 +21,18 @@ returns-then-mended_length-gt-MOST c =
     let A = c.args in
     past_told A.edition A.text.now (long-past (inner A.edition) (mended_text A.text.now) (counted-long A.text.now _ c.mended_length.ensures c.if-mended_length-gt-MOST.true))
 
-pub returns-in-At : goal.returns-in-At
-returns-in-At c =
+pub returns-in-Some-repeated : goal.returns-in-Some-repeated
+returns-in-Some-repeated c =
     let A = c.args in
-    let f = rw (c.clear.ensures, c.in-Rows.is) at c.form_of.ensures in
+    let f = rw (c.clear.ensures, c.in-Some.is) at c.form_of.ensures in
     let size = counted-length A.text.now _ c.mended_length.ensures c.if-mended_length-gt-MOST.false in
-    past_told A.edition A.text.now (repeat_past (inner A.edition) A.text.now (length A.list.now) c.requires.text_in_bounds _ _ f size _ (sym c.first_repeat-repeated.ensures ∙ c.in-At.is))
+    past_told A.edition A.text.now (repeat_past (inner A.edition) A.text.now (length A.list.now) c.requires.text_in_bounds _ _ f size _ (sym c.first_repeat-repeated.ensures ∙ c.in-Some-repeated.is))
 
-pub returns-in-Nothing : goal.returns-in-Nothing
-returns-in-Nothing c =
+pub returns-in-None : goal.returns-in-None
+returns-in-None c =
     let A = c.args in
-    let f = rw (c.clear.ensures, c.in-Rows.is) at c.form_of.ensures in
+    let f = rw (c.clear.ensures, c.in-Some.is) at c.form_of.ensures in
     let size = counted-length A.text.now _ c.mended_length.ensures c.if-mended_length-gt-MOST.false in
-    let r = sym c.first_repeat-repeated.ensures ∙ c.in-Nothing.is in
-    good-told A.edition A.text.now (length A.list.now) _ _ (subst (λ (k : ℕ). EntriesTold (inner A.edition) A.text.now k c.in-Rows.gained c.are_entries_right.result) (c.form_of.auto.list ∙ c.clear.auto.t) c.are_entries_right.ensures)
+    let r = sym c.first_repeat-repeated.ensures ∙ c.in-None.is in
+    good-told A.edition A.text.now (length A.list.now) _ _ (subst (λ (k : ℕ). EntriesTold (inner A.edition) A.text.now k c.in-Some.gained c.are_entries_right.result) (c.form_of.auto.list ∙ c.clear.auto.t) c.are_entries_right.ensures)
     (all-good (inner A.edition) A.text.now (length A.list.now) c.requires.text_in_bounds _ _ f size r) (entries-past (inner A.edition) A.text.now (length A.list.now) c.requires.text_in_bounds _ _ f size)

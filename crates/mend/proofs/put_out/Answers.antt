@@ -18,20 +18,20 @@ pub overflow_cast-result : goal.overflow_cast-result
 overflow_cast-result c =
     let A = c.args in
     let o = output-so A.text.now A.list.now (length A.out.now) c.clear_output.ensures c.put_mended-at.ensures c.finish-finished.ensures in
-    fits_word (rw c.in-Written.is at o)
+    fits_word (rw c.in-Some.is at o)
 
-pub returns-in-Written : goal.returns-in-Written
-returns-in-Written c =
+pub returns-in-Some : goal.returns-in-Some
+returns-in-Some c =
     let A = c.args in
     let o = output-so A.text.now A.list.now (length A.out.now) c.clear_output.ensures c.put_mended-at.ensures c.finish-finished.ensures in
     let size = c.requires.text_len_bound in
-    put-good A.text.now A.list.now (length A.out.now) _ _ _ _ (rw c.in-Written.is at o) c.requires.text_in_bounds (c.list_changes-rows.ensures.value size)
+    put-good A.text.now A.list.now (length A.out.now) _ _ _ _ (rw c.in-Some.is at o) c.requires.text_in_bounds (c.list_changes-rows.ensures.value size)
     (c.list_changes-rows.ensures.list_after size ∙ ap (λ (t : List ℕ). put_rows 2 list_row t 0 (changed_rows 1 none_before_of (lines_of A.text.now))) c.clear.ensures)
 
-pub returns-in-TooLong : goal.returns-in-TooLong
-returns-in-TooLong c =
+pub returns-in-None : goal.returns-in-None
+returns-in-None c =
     let A = c.args in
     let o = output-so A.text.now A.list.now (length A.out.now) c.clear_output.ensures c.put_mended-at.ensures c.finish-finished.ensures in
-    let long = rw c.in-TooLong.is at o in
+    let long = rw c.in-None.is at o in
     put-long A.text.now A.list.now (length A.out.now) _ _ _ _ long c.refused.ensures.value c.refused.ensures.list_after
     (c.refused.ensures.out_after ∙ ap (λ (x : Bytes). zero_bytes (length x)) (answered_too-long long).1 ∙ ap zero_bytes (length-replicate (length A.out.now) 0))

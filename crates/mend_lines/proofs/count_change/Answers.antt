@@ -8,4 +8,4 @@ returns-in_default c = rw (← c.counts_of.ensures, c.in_default.is)
 
 pub returns : goal.returns
 unfolding count_change_of
-returns c = rw (← c.counts_of.ensures, c.in-Items.is, ← c.number_on-number.ensures, ← c.items_from.ensures) c.corrected.ensures
+returns c = rw (← c.counts_of.ensures, c.in-Some.is, ← c.number_on-number.ensures, ← c.items_from.ensures) c.corrected.ensures

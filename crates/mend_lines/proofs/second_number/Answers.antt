@@ -25,8 +25,8 @@ returns-in_default c = rw (← c.fields_of-f.ensures, eq-eqb _ 2 c.if-f-ne2.fals
 
 pub returns-then-m-le-LARGEST_INTEGER : goal.returns-then-m-le-LARGEST_INTEGER
 unfolding second_number_of
-returns-then-m-le-LARGEST_INTEGER c = rw (← c.fields_of-f.ensures, eq-eqb _ 2 c.if-f-ne2.false, ← c.integer_of.ensures, c.in-Is.is, le-leb _ 32768 c.if-m-le-LARGEST_INTEGER.true)
+returns-then-m-le-LARGEST_INTEGER c = rw (← c.fields_of-f.ensures, eq-eqb _ 2 c.if-f-ne2.false, ← c.integer_of.ensures, c.in-Some.is, le-leb _ 32768 c.if-m-le-LARGEST_INTEGER.true)
 
 pub returns-else-m-le-LARGEST_INTEGER : goal.returns-else-m-le-LARGEST_INTEGER
 unfolding second_number_of
-returns-else-m-le-LARGEST_INTEGER c = rw (← c.fields_of-f.ensures, eq-eqb _ 2 c.if-f-ne2.false, ← c.integer_of.ensures, c.in-Is.is, lt-leb _ 32768 c.if-m-le-LARGEST_INTEGER.false)
+returns-else-m-le-LARGEST_INTEGER c = rw (← c.fields_of-f.ensures, eq-eqb _ 2 c.if-f-ne2.false, ← c.integer_of.ensures, c.in-Some.is, lt-leb _ 32768 c.if-m-le-LARGEST_INTEGER.false)

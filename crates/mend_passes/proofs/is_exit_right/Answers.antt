@@ -7,10 +7,10 @@ pub returns-then-rndf_line_kind-ne-EXIT : goal.returns-then-rndf_line_kind-ne-EX
 unfolding is_exit_right_of
 returns-then-rndf_line_kind-ne-EXIT c = rw (← c.rndf_line_kind.ensures, ne_eqb _ 16 c.if-rndf_line_kind-ne-EXIT.true)
 
-pub returns-in-At : goal.returns-in-At
+pub returns-in-Some : goal.returns-in-Some
 unfolding is_exit_right_of
-returns-in-At c = rw (← c.rndf_line_kind.ensures, eq-eqb _ 16 c.if-rndf_line_kind-ne-EXIT.false, ← c.entry_on.ensures, ← c.resolve-found.ensures, c.in-At.is)
+returns-in-Some c = rw (← c.rndf_line_kind.ensures, eq-eqb _ 16 c.if-rndf_line_kind-ne-EXIT.false, ← c.entry_on.ensures, ← c.resolve-found.ensures, c.in-Some.is)
 
-pub returns-in-Nothing : goal.returns-in-Nothing
+pub returns-in-None : goal.returns-in-None
 unfolding is_exit_right_of
-returns-in-Nothing c = rw (← c.rndf_line_kind.ensures, eq-eqb _ 16 c.if-rndf_line_kind-ne-EXIT.false, ← c.entry_on.ensures, ← c.resolve-found.ensures, c.in-Nothing.is)
+returns-in-None c = rw (← c.rndf_line_kind.ensures, eq-eqb _ 16 c.if-rndf_line_kind-ne-EXIT.false, ← c.entry_on.ensures, ← c.resolve-found.ensures, c.in-None.is)

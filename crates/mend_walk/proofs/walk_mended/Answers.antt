@@ -1,4 +1,5 @@
 -- `mend_walk::walk_mended` meets its contract. Assumes nothing.
+use Rattle.std.specs.Prelude.{ℕ, Result}
 use mathlib.Core.Path.{refl, ap, ◌∙◌}
 use Prim.Native.Nat.{◌+◌}
 use native.Mathlib.Omega.{arith}
@@ -7,7 +8,6 @@ use Rattle.line.specs.Lines.{lines_of}
 use Rattle.edition.specs.Editions.{inner}
 use Rattle.progress.specs.declared.Progress.{Progress}
 use Rattle.progress.specs.After.{total}
-use Rattle.network.specs.declared.Walked.{Walked}
 use Rattle.network.specs.Storing.{Memory}
 use Rattle.network.specs.Reaching.{stood}
 use Rattle.network.proofs.Onward.{within, next-less, place-fits}
@@ -16,6 +16,8 @@ use Rattle.mend_tests.specs.Tests.{few}
 use Rattle.mend_walk.specs.Walking.{mended_walk}
 use Rattle.mend_walk.proofs.Steps.{still_one, ends_there, goes_on, counts-on, all-walked, few-rows, few-lines}
 use Rattle.mend_walk.proofs.walk_mended.Goals as goal
+use Rattle.refusal.specs.declared.Fault.{Fault}
+use Rattle.place.specs.declared.Place.{Place}
 
 pub returns-then-text-gt-LONGEST_TEXT : goal.returns-then-text-gt-LONGEST_TEXT
 returns-then-text-gt-LONGEST_TEXT c = λ size. absurd (omega (arith, c.if-text-gt-LONGEST_TEXT.true, size))
@@ -64,20 +66,20 @@ overflow_add-e c =
 pub walk_line-walked-requires : goal.walk_line-walked-requires
 walk_line-walked-requires c = record { from_in_bounds = c.loop-from-test.true; text_len_bound = c.loop-from.invariant.0 }
 
-pub shape_of-segments-in-Fault : goal.shape_of-segments-in-Fault
-shape_of-segments-in-Fault c = c.walk_line-walked.auto.segments ∙ c.loop-from.invariant.4
+pub shape_of-segments-in-Err : goal.shape_of-segments-in-Err
+shape_of-segments-in-Err c = c.walk_line-walked.auto.segments ∙ c.loop-from.invariant.4
 
-pub shape_of-lanes-in-Fault : goal.shape_of-lanes-in-Fault
-shape_of-lanes-in-Fault c = c.walk_line-walked.auto.lanes ∙ c.loop-from.invariant.5
+pub shape_of-lanes-in-Err : goal.shape_of-lanes-in-Err
+shape_of-lanes-in-Err c = c.walk_line-walked.auto.lanes ∙ c.loop-from.invariant.5
 
-pub shape_of-zones-in-Fault : goal.shape_of-zones-in-Fault
-shape_of-zones-in-Fault c = c.walk_line-walked.auto.zones ∙ c.loop-from.invariant.6
+pub shape_of-zones-in-Err : goal.shape_of-zones-in-Err
+shape_of-zones-in-Err c = c.walk_line-walked.auto.zones ∙ c.loop-from.invariant.6
 
-pub shape_of-checkpoints-in-Fault : goal.shape_of-checkpoints-in-Fault
-shape_of-checkpoints-in-Fault c = c.walk_line-walked.auto.checkpoints ∙ c.loop-from.invariant.7
+pub shape_of-checkpoints-in-Err : goal.shape_of-checkpoints-in-Err
+shape_of-checkpoints-in-Err c = c.walk_line-walked.auto.checkpoints ∙ c.loop-from.invariant.7
 
-pub returns-in-Fault : goal.returns-in-Fault
-returns-in-Fault c =
+pub returns-in-Err : goal.returns-in-Err
+returns-in-Err c =
     let A = c.args in
     let s = A.text.now in
     let l = c.loop-from in
@@ -86,7 +88,7 @@ returns-in-Fault c =
     let m = few l.gained l.segments l.lanes l.zones l.checkpoints in
     let tables : Progress → Memory = λ p. few p c.walk_line-walked.new.segments c.walk_line-walked.new.lanes c.walk_line-walked.new.zones c.walk_line-walked.new.checkpoints in
     let walked = c.walk_line-walked.ensures l.invariant.1 (few-rows (length s) l.from (total l.gained) l.invariant.0 h l.invariant.3) (few-lines (length s) l.from l.line l.invariant.0 h l.invariant.2) (still_one c.line_change-becomes.result s l.from h) in
-    λ size. ends_there (inner A.edition) s l.from h l.before l.place m l.line c.far_byte_from-e.result c.far_byte_from-e.ensures c.line_change-becomes.result (c.line_change-becomes.ensures kind) walked c.in-Fault.fault.line c.in-Fault.fault.number (ap (λ (x : Walked). stood x tables) c.in-Fault.is) ∙ l.invariant.8
+    λ size. ends_there (inner A.edition) s l.from h l.before l.place m l.line c.far_byte_from-e.result c.far_byte_from-e.ensures c.line_change-becomes.result (c.line_change-becomes.ensures kind) walked c.in-Err.fault.line c.in-Err.fault.number (ap (λ (x : Result (Place × Progress × ℕ) Fault). stood x tables) c.in-Err.is) ∙ l.invariant.8
 
 pub overflow_add-from : goal.overflow_add-from
 overflow_add-from c =
@@ -112,9 +114,9 @@ loop-from-preserved c =
     let m = few l.gained l.segments l.lanes l.zones l.checkpoints in
     let tables : Progress → Memory = λ p. few p c.walk_line-walked.new.segments c.walk_line-walked.new.lanes c.walk_line-walked.new.zones c.walk_line-walked.new.checkpoints in
     let walked = c.walk_line-walked.ensures l.invariant.1 (few-rows (length s) l.from (total l.gained) l.invariant.0 h l.invariant.3) (few-lines (length s) l.from l.line l.invariant.0 h l.invariant.2) (still_one c.line_change-becomes.result s l.from h) in
-    let told = ap (λ (x : Walked). stood x tables) c.in-Ended.is in
+    let told = ap (λ (x : Result (Place × Progress × ℕ) Fault). stood x tables) c.in-Ok.is in
     let so = c.after-before.ensures ∙ ap (after_of l.before) kind in
-    let counted = counts-on (inner A.edition) s l.from h l.before l.place m l.line c.far_byte_from-e.result c.far_byte_from-e.ensures c.line_change-becomes.result (c.line_change-becomes.ensures kind) walked c.in-Ended.q (tables c.in-Ended.more) c.in-Ended.next (c.far_byte_from-e.result + 1) c.after-before.result told so refl l.invariant.2 l.invariant.3 in (
+    let counted = counts-on (inner A.edition) s l.from h l.before l.place m l.line c.far_byte_from-e.result c.far_byte_from-e.ensures c.line_change-becomes.result (c.line_change-becomes.ensures kind) walked c.in-Ok.q (tables c.in-Ok.more) c.in-Ok.next (c.far_byte_from-e.result + 1) c.after-before.result told so refl l.invariant.2 l.invariant.3 in (
       l.invariant.0,
       l.invariant.1,
       counted.0,
@@ -123,7 +125,7 @@ loop-from-preserved c =
       c.walk_line-walked.auto.lanes ∙ l.invariant.5,
       c.walk_line-walked.auto.zones ∙ l.invariant.6,
       c.walk_line-walked.auto.checkpoints ∙ l.invariant.7,
-      goes_on (inner A.edition) s l.from h l.before l.place m l.line c.far_byte_from-e.result c.far_byte_from-e.ensures c.line_change-becomes.result (c.line_change-becomes.ensures kind) walked c.in-Ended.q (tables c.in-Ended.more) c.in-Ended.next (c.far_byte_from-e.result + 1) c.after-before.result told so refl ∙ l.invariant.8,
+      goes_on (inner A.edition) s l.from h l.before l.place m l.line c.far_byte_from-e.result c.far_byte_from-e.ensures c.line_change-becomes.result (c.line_change-becomes.ensures kind) walked c.in-Ok.q (tables c.in-Ok.more) c.in-Ok.next (c.far_byte_from-e.result + 1) c.after-before.result told so refl ∙ l.invariant.8,
     )
 
 pub shape_of-segments : goal.shape_of-segments

@@ -3,10 +3,10 @@ use Rattle.output.proofs.Writing.{◌then◌}
 use Rattle.mend_words.specs.Told.{past_told}
 use Rattle.mend_words.proofs.put_past.Goals as goal
 
-pub returns-in-Accepted : goal.returns-in-Accepted
+pub returns-in-Ok : goal.returns-in-Ok
 unfolding past_told
-returns-in-Accepted c = rw c.in-Accepted.is c.put_sentence-a.ensures
+returns-in-Ok c = rw c.in-Ok.is c.put_sentence-a.ensures
 
-pub returns-in-Refused : goal.returns-in-Refused
+pub returns-in-Err : goal.returns-in-Err
 unfolding past_told
-returns-in-Refused c = rw c.in-Refused.is (c.put_sentence-a.ensures then c.put_fault.ensures)
+returns-in-Err c = rw c.in-Err.is (c.put_sentence-a.ensures then c.put_fault.ensures)

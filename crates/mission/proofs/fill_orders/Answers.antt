@@ -1,4 +1,5 @@
 -- `mission::fill_orders` meets its contract. Assumes nothing.
+use Rattle.std.specs.Prelude.{Ok, Err}
 use mathlib.Core.Path.{◌≡◌, refl, sym, ap, ◌∙◌}
 use Prim.Native.Nat.{◌+◌, ◌≤◌, ◌<◌}
 use native.Mathlib.Omega.{arith}
@@ -12,15 +13,14 @@ use Rattle.refusal.proofs.Sized.{too_long, not_too-long}
 use Rattle.walk.proofs.Cutting.{at-end}
 use Rattle.walk.proofs.MdfSteps.{rest}
 use Rattle.plain_parts.specs.Stands.{stretch}
-use Rattle.plain_order.specs.declared.MissionSaid.TheVariants as Said
 use Rattle.plain_order.specs.declared.MissionLine.TheVariants as Line
-use Rattle.plain_order.specs.Orders.{Says, LineSays, number_of}
+use Rattle.plain_order.specs.Orders.{Says, LineSays}
 use Rattle.plain_order.proofs.Lines.{within}
 use Rattle.mission.specs.Storing.{MissionMemory, memory}
 use Rattle.mission.specs.Reading.{put, filled_of, filled_in}
 use Rattle.mission.proofs.Steps.{one_more, blank_line_of, bad_line, said-line}
 use Rattle.mission.proofs.fill_orders.Goals as goal
-use Rattle.mission.proofs.fill_orders.Goals.{Joined-line_said, in-Blank, in-Filled+in-Is}
+use Rattle.mission.proofs.fill_orders.Goals.{Joined-line_said, in-Blank, in-Filled+in-Ok}
 
 pub returns-then-text-gt-LONGEST_TEXT : goal.returns-then-text-gt-LONGEST_TEXT
 unfolding filled_in
@@ -41,34 +41,31 @@ overflow_add-from c =
     let says : LineSays made.result s l.from l.place (Line.Blank e) = rw c.in-Blank.is at (c.line_said.ensures h few) in
     omega (arith, within s l.from e h says.0)
 
-pub shape_of-goals-in_default : goal.shape_of-goals-in_default
-shape_of-goals-in_default c = c.loop-from.invariant.4
+pub shape_of-goals-in-Err : goal.shape_of-goals-in-Err
+shape_of-goals-in-Err c = c.loop-from.invariant.4
 
-pub shape_of-limits-in_default : goal.shape_of-limits-in_default
-shape_of-limits-in_default c = c.loop-from.invariant.5
+pub shape_of-limits-in-Err : goal.shape_of-limits-in-Err
+shape_of-limits-in-Err c = c.loop-from.invariant.5
 
-pub returns-in_default : goal.returns-in_default
-returns-in_default c =
+pub returns-in-Err : goal.returns-in-Err
+returns-in-Err c =
     let l = c.loop-from in
     let s = c.args.text.now in
     let made = c.mdf_table-table in
     let h = c.loop-from-test.true in
     let few : length s < 4294967296 = omega (arith, l.invariant.6) in
-    let filled : Says made.result s l.from l.place c.in-Filled.said = rw c.in-Filled.is at (c.line_said.ensures h few) in
-    let same : c.number.result ≡ c.in_default.field-0 = c.number.ensures ∙ ap number_of c.in_default.is in
-    let says : Says made.result s l.from l.place (Said.Refused c.number.result) = rw same (rw c.in_default.is at filled) in
-    sym (bad_line made.result made.ensures s l.from (reach (stops_by (Byte 10)) s l.from) h refl l.place (memory l.gained l.goals l.limits) l.line c.number.result says) ∙ l.invariant.3
+    let says : Says made.result s l.from l.place (Err c.in-Err.number) = rw c.in-Err.is at (rw c.in-Filled.is at (c.line_said.ensures h few)) in
+    sym (bad_line made.result made.ensures s l.from (reach (stops_by (Byte 10)) s l.from) h refl l.place (memory l.gained l.goals l.limits) l.line c.in-Err.number says) ∙ l.invariant.3
 
-pub overflow_add-from-in-Filled : goal.overflow_add-from-in-Filled
-overflow_add-from-in-Filled c =
+pub overflow_add-from-in-Ok : goal.overflow_add-from-in-Ok
+overflow_add-from-in-Ok c =
     let l = c.loop-from in
     let s = c.args.text.now in
     let made = c.mdf_table-table in
     let h = c.loop-from-test.true in
     let few : length s < 4294967296 = omega (arith, l.invariant.6) in
-    let filled : Says made.result s l.from l.place c.in-Filled.said = rw c.in-Filled.is at (c.line_said.ensures h few) in
-    let says : Says made.result s l.from l.place (Said.Is c.in-Is.s c.in-Is.q c.in-Is.e) = rw c.in-Is.is at filled in
-    omega (arith, within s l.from c.in-Is.e h says.0)
+    let says : Says made.result s l.from l.place (Ok (c.in-Ok.s, c.in-Ok.q, c.in-Ok.e)) = rw c.in-Ok.is at (rw c.in-Filled.is at (c.line_said.ensures h few)) in
+    omega (arith, within s l.from c.in-Ok.e h says.0)
 
 -- the next line starts further on, and within the text or right behind it
 further : (c : Joined-line_said) → (c.loop-from.from < c.match-line_said.from) × (c.match-line_said.from ≤ length c.args.text.now + 1)
@@ -84,10 +81,9 @@ further c =
           let says : LineSays made.result s l.from l.place (Line.Blank e) = rw w.in-Blank.is at (c.line_said.ensures h few) in
           let i = within s l.from e h says.0 in
           (omega (arith, w.from-is), omega (arith, w.from-is))
-      | in-Filled+in-Is w ↦
-          let filled : Says made.result s l.from l.place w.in-Filled.said = rw w.in-Filled.is at (c.line_said.ensures h few) in
-          let k = w.in-Is in
-          let says : Says made.result s l.from l.place (Said.Is k.s k.q k.e) = rw k.is at filled in
+      | in-Filled+in-Ok w ↦
+          let k = w.in-Ok in
+          let says : Says made.result s l.from l.place (Ok (k.s, k.q, k.e)) = rw k.is at (rw w.in-Filled.is at (c.line_said.ensures h few)) in
           let i = within s l.from k.e h says.0 in
           (omega (arith, w.from-is), omega (arith, w.from-is))
     ]
@@ -115,10 +111,9 @@ loop-from-preserved c =
             rw w.limits-is l.invariant.5,
             l.invariant.6,
           )
-      | in-Filled+in-Is w ↦
-          let filled : Says made.result s l.from l.place w.in-Filled.said = rw w.in-Filled.is at (c.line_said.ensures h few) in
-          let k = w.in-Is in
-          let says : Says made.result s l.from l.place (Said.Is k.s k.q k.e) = rw k.is at filled in
+      | in-Filled+in-Ok w ↦
+          let k = w.in-Ok in
+          let says : Says made.result s l.from l.place (Ok (k.s, k.q, k.e)) = rw k.is at (rw w.in-Filled.is at (c.line_said.ensures h few)) in
           let e = k.e in
           let g = w.gather-gained in
           let here = place l.from l.line (stretch s l.from e) in

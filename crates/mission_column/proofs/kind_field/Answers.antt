@@ -19,12 +19,12 @@ pub returns-then-f-order_fields_needed : goal.returns-then-f-order_fields_needed
 unfolding kind_field_of
 returns-then-f-order_fields_needed c =
     let few = c.order_fields_needed.ensures ∙ order-needed c.args.kind c.requires.1 in
-    let stands = none-refuses _ c.refuses.result c.refuses.ensures c.in-Taken.is in
+    let stands = none-refuses _ c.refuses.result c.refuses.ensures c.in-Ok.is in
     rw (← c.cell-cell.ensures, eq-eqb _ 0 stands, ← few, eq-eqb _ _ c.if-f-order_fields_needed.true) c.wrong.ensures
 
 pub returns-else-f-order_fields_needed : goal.returns-else-f-order_fields_needed
 unfolding kind_field_of
 returns-else-f-order_fields_needed c =
     let few = c.order_fields_needed.ensures ∙ order-needed c.args.kind c.requires.1 in
-    let stands = none-refuses _ c.refuses.result c.refuses.ensures c.in-Taken.is in
+    let stands = none-refuses _ c.refuses.result c.refuses.ensures c.in-Ok.is in
     rw (← c.cell-cell.ensures, eq-eqb _ 0 stands, ← few, ne_eqb _ _ c.if-f-order_fields_needed.false)

@@ -22,21 +22,21 @@ returns-in_default c =
 pub returns-then-text-from : goal.returns-then-text-from
 returns-then-text-from c =
     let A = c.args in
-    no_line A.text.now A.wanted A.number c.if-text-gt-LONGEST_TEXT.false c.in-At.place c.in-At.from (sym c.in-At.is ∙ c.arrive.ensures) c.if-text-from.true
+    no_line A.text.now A.wanted A.number c.if-text-gt-LONGEST_TEXT.false c.in-Some.place c.in-Some.from (sym c.in-Some.is ∙ c.arrive.ensures) c.if-text-from.true
 
 pub slice_bounds-line_column-end : goal.slice_bounds-line_column-end
 slice_bounds-line_column-end c =
     let s = c.args.text.now in
-    omega (arith, c.far_byte_from-e.ensures, reach_le (stops_by (Byte 10)) s c.in-At.from (omega (arith, c.if-text-from.false)))
+    omega (arith, c.far_byte_from-e.ensures, reach_le (stops_by (Byte 10)) s c.in-Some.from (omega (arith, c.if-text-from.false)))
 
 pub overflow_cast-result : goal.overflow_cast-result
 overflow_cast-result c =
     let A = c.args in
     let t = c.mdf_table-table in
-    search (rules, c.line_column.ensures, small t.result A.text.now c.in-At.from c.far_byte_from-e.result (omega (arith, c.if-text-from.false)) c.far_byte_from-e.ensures c.in-At.place A.number c.if-text-gt-LONGEST_TEXT.false)
+    search (rules, c.line_column.ensures, small t.result A.text.now c.in-Some.from c.far_byte_from-e.result (omega (arith, c.if-text-from.false)) c.far_byte_from-e.ensures c.in-Some.place A.number c.if-text-gt-LONGEST_TEXT.false)
 
 pub returns : goal.returns
 returns c =
     let A = c.args in
     let t = c.mdf_table-table in
-    c.line_column.ensures ∙ line_there A.text.now A.wanted A.number c.if-text-gt-LONGEST_TEXT.false c.in-At.place c.in-At.from (sym c.in-At.is ∙ c.arrive.ensures) c.far_byte_from-e.result (omega (arith, c.if-text-from.false)) c.far_byte_from-e.ensures t.result t.ensures
+    c.line_column.ensures ∙ line_there A.text.now A.wanted A.number c.if-text-gt-LONGEST_TEXT.false c.in-Some.place c.in-Some.from (sym c.in-Some.is ∙ c.arrive.ensures) c.far_byte_from-e.result (omega (arith, c.if-text-from.false)) c.far_byte_from-e.ensures t.result t.ensures

@@ -16,4 +16,4 @@ returns-in_default c =
 pub returns : goal.returns
 unfolding mission_place_before_of
 returns c =
-    ap standing (sym c.in-At.is ∙ c.arrive.ensures) ∙ sym (not_too-long c.args.text.now _ _ c.if-text-gt-LONGEST_TEXT.false)
+    ap standing (sym c.in-Some.is ∙ c.arrive.ensures) ∙ sym (not_too-long c.args.text.now _ _ c.if-text-gt-LONGEST_TEXT.false)

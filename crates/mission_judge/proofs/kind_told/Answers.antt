@@ -6,10 +6,10 @@ use Rattle.place_table.proofs.Verdicts.{none-refuses, refused-by}
 use Rattle.judge.specs.Judging.{of_kind}
 use Rattle.mission_judge.proofs.kind_told.Goals as goal
 
-pub returns-in-Refused : goal.returns-in-Refused
+pub returns-in-Err : goal.returns-in-Err
 unfolding of_kind
-returns-in-Refused c =
-    let r = refused-by _ _ c.refuses.result c.refuses.ensures c.in-Refused.is in
+returns-in-Err c =
+    let r = refused-by _ _ c.refuses.result c.refuses.ensures c.in-Err.is in
     rw (← c.cell-cell.ensures, ne_eqb _ 0 r.1, r.0)
 
 pub returns-then-f-order_fields_needed : goal.returns-then-f-order_fields_needed

@@ -5,4 +5,4 @@ pub returns-in_default : goal.returns-in_default
 returns-in_default c = rw (← c.new.ensures, c.in_default.is)
 
 pub returns : goal.returns
-returns c = rw (← c.new.ensures, c.in-Is.is)
+returns c = rw (← c.new.ensures, c.in-Some.is)

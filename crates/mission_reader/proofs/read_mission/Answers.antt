@@ -5,14 +5,14 @@ use Rattle.mission_reader.proofs.Steps.{judged-told, cleared}
 use mathlib.Core.Path.{◌∙◌}
 use Rattle.mission_reader.proofs.read_mission.Goals as goal
 
-pub returns-in-Fault : goal.returns-in-Fault
-returns-in-Fault c =
+pub returns-in-Err : goal.returns-in-Err
+returns-in-Err c =
     let A = c.args in
-    cleared (rndf_of A.rndf.now A.name A.checkpoints.now A.checkpoint_count A.parts) A.mdf.now _ _ _ _ _ (rw c.in-Fault.is at c.fill_orders-filled.ensures) c.clear.ensures c.clear-2.ensures
+    cleared (rndf_of A.rndf.now A.name A.checkpoints.now A.checkpoint_count A.parts) A.mdf.now _ _ _ _ _ (rw c.in-Err.is at c.fill_orders-filled.ensures) c.clear.ensures c.clear-2.ensures
 
-pub returns-in-Rows : goal.returns-in-Rows
-returns-in-Rows c =
+pub returns-in-Ok : goal.returns-in-Ok
+returns-in-Ok c =
     let A = c.args in
     let b = rndf_of A.rndf.now A.name A.checkpoints.now A.checkpoint_count A.parts in
     judged-told b A.mdf.now (memory _ _ _) c.judge_rows.result c.judge_rows.ensures
-    ∙ cleared b A.mdf.now _ _ _ _ _ (rw c.in-Rows.is at c.fill_orders-filled.ensures) c.clear.ensures c.clear-2.ensures
+    ∙ cleared b A.mdf.now _ _ _ _ _ (rw c.in-Ok.is at c.fill_orders-filled.ensures) c.clear.ensures c.clear-2.ensures

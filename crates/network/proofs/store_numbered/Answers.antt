@@ -9,4 +9,4 @@ returns-in_default c = rw c.in_default.is refl
 
 pub returns : goal.returns
 unfolding store_numbered_of
-returns c = rw c.in-Is.is c.store_checkpoint.ensures
+returns c = rw c.in-Some.is c.store_checkpoint.ensures

@@ -14,9 +14,9 @@ pub returns-in_default-by_value : goal.returns-in_default-by_value
 unfolding the_refusal_of
 returns-in_default-by_value c =
     let r = refused-by _ _ c.tested-by_value.result c.tested-by_value.ensures c.in_default-by_value.is in
-    rw (eq-eqb _ 0 (none-refuses _ c.refuses-by_kind.result c.refuses-by_kind.ensures c.in-Taken.is), ne_eqb _ 0 r.1) c.tested-by_value.ensures
+    rw (eq-eqb _ 0 (none-refuses _ c.refuses-by_kind.result c.refuses-by_kind.ensures c.in-Ok.is), ne_eqb _ 0 r.1) c.tested-by_value.ensures
 
 pub returns : goal.returns
 unfolding the_refusal_of
 returns c =
-    rw (eq-eqb _ 0 (none-refuses _ c.refuses-by_kind.result c.refuses-by_kind.ensures c.in-Taken.is), eq-eqb _ 0 (none-refuses _ c.tested-by_value.result c.tested-by_value.ensures c.in-Taken-by_value.is)) c.barred.ensures
+    rw (eq-eqb _ 0 (none-refuses _ c.refuses-by_kind.result c.refuses-by_kind.ensures c.in-Ok.is), eq-eqb _ 0 (none-refuses _ c.tested-by_value.result c.tested-by_value.ensures c.in-Ok-by_value.is)) c.barred.ensures

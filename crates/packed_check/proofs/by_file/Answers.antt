@@ -3,7 +3,7 @@ use mathlib.Core.Path.{refl}
 use Rattle.packed_check.proofs.by_file.Goals as goal
 
 pub returns-then-are_few : goal.returns-then-are_few
-returns-then-are_few c = rw (c.in-Told.is, ← c.are_few.ensures, c.if-are_few.true, ← c.segments_at-told.ensures) c.by_segments.ensures
+returns-then-are_few c = rw (c.in-Some.is, ← c.are_few.ensures, c.if-are_few.true, ← c.segments_at-told.ensures) c.by_segments.ensures
 
 pub returns-else-are_few : goal.returns-else-are_few
-returns-else-are_few c = rw (c.in-Told.is, ← c.are_few.ensures, c.if-are_few.false) refl
+returns-else-are_few c = rw (c.in-Some.is, ← c.are_few.ensures, c.if-are_few.false) refl

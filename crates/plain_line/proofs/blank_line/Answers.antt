@@ -6,4 +6,4 @@ use Rattle.plain_line.proofs.blank_line.Goals as goal
 pub returns : goal.returns
 returns c =
     let a = c.args in
-    line-blank a.text.now a.from c.in-At.e (rw c.in-At.is at c.end_of.ensures)
+    line-blank a.text.now a.from c.in-Some.e (rw c.in-Some.is at c.end_of.ensures)

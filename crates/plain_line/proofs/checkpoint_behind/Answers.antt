@@ -6,7 +6,7 @@ use Rattle.plain_line.proofs.checkpoint_behind.Goals as goal
 pub returns : goal.returns
 returns c =
     let a = c.args in
-    let first = rw c.in-Is.is at c.triple_at.ensures in
-    let gap = rw c.in-At.is at c.gap_at.ensures in
-    let second = rw c.in-Is-integer_at.is at c.integer_at.ensures in
-    checkpoint-made a.s.now a.from c.in-Is.i c.in-At.b c.in-Is-integer_at.e c.in-Is.x c.in-Is.y c.in-Is.z first gap c.in-Is-integer_at.n second
+    let first = rw c.in-Some.is at c.triple_at.ensures in
+    let gap = rw c.in-Some-gap_at.is at c.gap_at.ensures in
+    let second = rw c.in-Some-integer_at.is at c.integer_at.ensures in
+    checkpoint-made a.s.now a.from c.in-Some.i c.in-Some-gap_at.b c.in-Some-integer_at.e c.in-Some.x c.in-Some.y c.in-Some.z first gap c.in-Some-integer_at.n second

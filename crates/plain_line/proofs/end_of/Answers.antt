@@ -1,17 +1,16 @@
 -- `plain_line::end_of` meets its contract. Assumes nothing.
+use Rattle.std.specs.Prelude.{Some, None, Option}
 use mathlib.Core.Path.{sym, subst}
 use Prim.Native.Nat.{ℕ}
 use Rattle.terms.specs.Ascii.{Bytes}
 use Rattle.plain_parts.specs.Stands.{LineEnds}
-use Rattle.plain_parts.specs.declared.Reached as DR
-use Rattle.plain_parts.specs.declared.Reached.TheVariants as Reached
 use Rattle.plain_parts.proofs.Ended.{line-ends-here}
 use Rattle.plain_line.specs.Plain.{EndsShort, FewBytes, ShortEnd}
 use Rattle.plain_line.proofs.end_of.Goals as goal
 
-short : (s : Bytes) (from stop end : ℕ) (r : DR.Reached) → LineEnds s stop end → FewBytes from end r → ShortEnd s from stop r
-short s from stop end (Reached.At e) h k = subst (EndsShort s from stop) (sym k.0) (record { ends = h; order = k.1; short = k.2 })
-short s from stop end Reached.No h k = tt
+short : (s : Bytes) (from stop end : ℕ) (r : Option ℕ) → LineEnds s stop end → FewBytes from end r → ShortEnd s from stop r
+short s from stop end (Some e) h k = subst (EndsShort s from stop) (sym k.0) (record { ends = h; order = k.1; short = k.2 })
+short s from stop end None h k = tt
 
 -- src/lib.rt:300:13
 pub returns-then-text-stop-eq10 : goal.returns-then-text-stop-eq10
@@ -23,4 +22,4 @@ returns-then-text-stop-eq10 c =
 pub returns : goal.returns
 returns c =
     let a = c.args in
-    short a.text.now a.from a.stop c.in-At.end c.short_end-2.result (rw c.in-At.is at c.end_at.ensures) c.short_end-2.ensures
+    short a.text.now a.from a.stop c.in-Some.end c.short_end-2.result (rw c.in-Some.is at c.end_at.ensures) c.short_end-2.ensures

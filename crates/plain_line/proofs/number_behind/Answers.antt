@@ -5,4 +5,4 @@ use Rattle.plain_line.proofs.number_behind.Goals as goal
 -- src/lib.rt:86:1
 pub returns : goal.returns
 returns c =
-    rw c.numbered.ensures (number-made c.args.s.now c.args.from c.in-Is.e c.args.kind c.in-Is.n c.requires (rw c.in-Is.is at c.integer_at.ensures))
+    rw c.numbered.ensures (number-made c.args.s.now c.args.from c.in-Some.e c.args.kind c.in-Some.n c.requires (rw c.in-Some.is at c.integer_at.ensures))

@@ -5,4 +5,4 @@ use Rattle.plain_line.proofs.pair_behind.Goals as goal
 -- src/lib.rt:97:1
 pub returns : goal.returns
 returns c =
-    rw c.paired.ensures (pair_made c.args.s.now c.args.from c.in-Is.e c.args.kind c.in-Is.m c.in-Is.n c.requires (rw c.in-Is.is at c.pair_at.ensures))
+    rw c.paired.ensures (pair_made c.args.s.now c.args.from c.in-Some.e c.args.kind c.in-Some.m c.in-Some.n c.requires (rw c.in-Some.is at c.pair_at.ensures))

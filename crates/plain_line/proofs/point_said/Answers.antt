@@ -10,11 +10,11 @@ use Rattle.plain_line.proofs.point_said.Goals as goal
 pub returns : goal.returns
 returns c =
     let a = c.args in
-    let first = rw c.in-Is.is at c.triple_at.ensures in
-    let gap = rw c.in-At.is at c.gap_at.ensures in
-    let second = rw c.in-Is-coordinate_at.is at c.coordinate_at.ensures in
-    let gap-2 = rw c.in-At-gap_at.is at c.gap_at-2.ensures in
-    let third = rw c.in-Is-coordinate_at-2.is at c.coordinate_at-2.ensures in
-    let north : to_z w32 (of_z w32 c.in-Is-coordinate_at.latitude) ≡ c.in-Is-coordinate_at.latitude = search (rules, c.in-Is-coordinate_at.known_told-in-Is-coordinate_at-1-own.given) in
-    let east : to_z w32 (of_z w32 c.in-Is-coordinate_at-2.longitude) ≡ c.in-Is-coordinate_at-2.longitude = search (rules, c.in-Is-coordinate_at-2.known_told-in-Is-coordinate_at-2-1-own.given) in
-    rw (north, east) (point-made a.s.now a.from c.in-Is.i c.in-At.b c.in-Is-coordinate_at-2.k c.in-Is.x c.in-Is.y c.in-Is.z first gap c.in-Is-coordinate_at.j c.in-At-gap_at.c c.in-Is-coordinate_at.latitude c.in-Is-coordinate_at-2.longitude second gap-2 third)
+    let first = rw c.in-Some.is at c.triple_at.ensures in
+    let gap = rw c.in-Some-gap_at.is at c.gap_at.ensures in
+    let second = rw c.in-Some-coordinate_at.is at c.coordinate_at.ensures in
+    let gap-2 = rw c.in-Some-gap_at-2.is at c.gap_at-2.ensures in
+    let third = rw c.in-Some-coordinate_at-2.is at c.coordinate_at-2.ensures in
+    let north : to_z w32 (of_z w32 c.in-Some-coordinate_at.latitude) ≡ c.in-Some-coordinate_at.latitude = search (rules, c.in-Some-coordinate_at.latitude-1-own.given) in
+    let east : to_z w32 (of_z w32 c.in-Some-coordinate_at-2.longitude) ≡ c.in-Some-coordinate_at-2.longitude = search (rules, c.in-Some-coordinate_at-2.longitude-1-own.given) in
+    rw (north, east) (point-made a.s.now a.from c.in-Some.i c.in-Some-gap_at.b c.in-Some-coordinate_at-2.k c.in-Some.x c.in-Some.y c.in-Some.z first gap c.in-Some-coordinate_at.j c.in-Some-gap_at-2.c c.in-Some-coordinate_at.latitude c.in-Some-coordinate_at-2.longitude second gap-2 third)

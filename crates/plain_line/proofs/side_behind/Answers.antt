@@ -5,4 +5,4 @@ use Rattle.plain_line.proofs.side_behind.Goals as goal
 -- src/lib.rt:125:1
 pub returns : goal.returns
 returns c =
-    rw c.sided.ensures (side-made c.args.s.now c.args.from c.in-Is.e c.args.kind c.in-Is.b c.requires (rw c.in-Is.is at c.boundary_at.ensures))
+    rw c.sided.ensures (side-made c.args.s.now c.args.from c.in-Some.e c.args.kind c.in-Some.b c.requires (rw c.in-Some.is at c.boundary_at.ensures))

@@ -4,10 +4,10 @@ use Rattle.place_table.proofs.Verdicts.{none-refuses, refused-by}
 use Rattle.plain_fields.specs.LineStands.{stated}
 use Rattle.plain_order.proofs.stand.Goals as goal
 
-pub returns-in-Refused : goal.returns-in-Refused
+pub returns-in-Err : goal.returns-in-Err
 unfolding stated
-returns-in-Refused c =
-    let r = refused-by _ _ c.refuses.result c.refuses.ensures c.in-Refused.is in
+returns-in-Err c =
+    let r = refused-by _ _ c.refuses.result c.refuses.ensures c.in-Err.is in
     rw (← c.cell-cell.ensures, ne_eqb _ 0 r.1, r.0)
 
 pub returns : goal.returns

@@ -6,4 +6,4 @@ use Rattle.plain_parts.proofs.comment_end.Goals as goal
 pub returns : goal.returns
 returns c =
     let a = c.args in
-    behind-note a.s.now a.from c.in-At.e c.bare_end.result (rw c.in-At.is at c.comment_at.ensures) c.bare_end.ensures
+    behind-note a.s.now a.from c.in-Some.e c.bare_end.result (rw c.in-Some.is at c.comment_at.ensures) c.bare_end.ensures

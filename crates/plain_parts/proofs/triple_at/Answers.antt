@@ -8,22 +8,22 @@ use Rattle.plain_parts.proofs.triple_at.Goals as goal
 -- src/lib.rt:134:49
 pub overflow_add-p : goal.overflow_add-p
 overflow_add-p c =
-    let k : Stands _ _ _ _ = rw c.in-Is.is at c.integer_at.ensures in
+    let k : Stands _ _ _ _ = rw c.in-Some.is at c.integer_at.ensures in
     omega (arith, k.inside)
 
 -- src/lib.rt:138:53
 pub overflow_add-q : goal.overflow_add-q
 overflow_add-q c =
-    let k : Stands _ _ _ _ = rw c.in-Is-integer_at.is at c.integer_at-then-dot_at.ensures in
+    let k : Stands _ _ _ _ = rw c.in-Some-integer_at.is at c.integer_at-then-dot_at.ensures in
     omega (arith, k.inside)
 
 -- src/lib.rt:141:13
 pub returns-then-dot_at-2 : goal.returns-then-dot_at-2
 returns-then-dot_at-2 c =
     let a = c.args in
-    let m = rw c.in-Is.is at c.integer_at.ensures in
+    let m = rw c.in-Some.is at c.integer_at.ensures in
     let dot = rw c.if-dot_at.true at c.dot_at.ensures in
-    let n = rw c.in-Is-integer_at.is at c.integer_at-then-dot_at.ensures in
+    let n = rw c.in-Some-integer_at.is at c.integer_at-then-dot_at.ensures in
     let point = rw c.if-dot_at-2.true at c.dot_at-then-dot_at.ensures in
-    let o = rw c.in-Is-integer_at-2.is at c.integer_at-then-dot_at-2.ensures in
-    triple-joined a.s.now a.from c.in-Is.p c.in-Is-integer_at-2.e c.in-Is.x m dot c.in-Is-integer_at.y c.in-Is-integer_at-2.z (pair-joined a.s.now (c.in-Is.p + 1) c.in-Is-integer_at.q c.in-Is-integer_at-2.e c.in-Is-integer_at.y n point c.in-Is-integer_at-2.z o)
+    let o = rw c.in-Some-integer_at-2.is at c.integer_at-then-dot_at-2.ensures in
+    triple-joined a.s.now a.from c.in-Some.p c.in-Some-integer_at-2.e c.in-Some.x m dot c.in-Some-integer_at.y c.in-Some-integer_at-2.z (pair-joined a.s.now (c.in-Some.p + 1) c.in-Some-integer_at.q c.in-Some-integer_at-2.e c.in-Some-integer_at.y n point c.in-Some-integer_at-2.z o)

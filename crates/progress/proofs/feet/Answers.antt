@@ -3,10 +3,10 @@ use mathlib.Core.Path.{sym, ap, ◌∙◌}
 use Rattle.progress.specs.After.{width_read, width_of}
 use Rattle.progress.proofs.feet.Goals as goal
 
-pub returns-in-Is : goal.returns-in-Is
+pub returns-in-Some : goal.returns-in-Some
 unfolding width_of
-returns-in-Is c = ap width_read (sym c.in-Is.is ∙ c.new.ensures)
+returns-in-Some c = ap width_read (sym c.in-Some.is ∙ c.new.ensures)
 
-pub returns-in-Refused : goal.returns-in-Refused
+pub returns-in-None : goal.returns-in-None
 unfolding width_of
-returns-in-Refused c = c.missing.ensures ∙ ap width_read (sym c.in-Refused.is ∙ c.new.ensures)
+returns-in-None c = c.missing.ensures ∙ ap width_read (sym c.in-None.is ∙ c.new.ensures)

@@ -1,20 +1,20 @@
 -- `reach::ruled` meets its contract. Assumes nothing.
+use Rattle.std.specs.Prelude.{Ok, Err}
 use lib.ListN.{length}
-use Rattle.drive.specs.declared.Verdict.TheVariants as Verdict
 use Rattle.reach.proofs.Parts.{ruled-accepted, ruled-refused}
 use Rattle.reach.proofs.ruled.Goals as goal
 
-pub returns-in-Good : goal.returns-in-Good
-returns-in-Good c =
+pub returns-in-Ok-found : goal.returns-in-Ok-found
+returns-in-Ok-found c =
     let a = c.args in
-    record { value = ruled-accepted a.lanes.now a.zones.now a.checkpoints.now a.exits.now a.goals.now a.start (length a.work.now) a.reply c.in-Accepted.c c.in-Accepted.file c.in-Accepted.m c.in-Accepted.own c.in-Accepted.is c.judged-found.result Verdict.Good c.judged-found.ensures.value c.in-Good.is; work_after = c.judged-found.ensures.work_after }
+    record { value = ruled-accepted a.lanes.now a.zones.now a.checkpoints.now a.exits.now a.goals.now a.start (length a.work.now) a.reply c.in-Ok.c c.in-Ok.file c.in-Ok.m c.in-Ok.own c.in-Ok.is c.judged-found.result (Ok tt) c.judged-found.ensures.value c.in-Ok-found.is; work_after = c.judged-found.ensures.work_after }
 
-pub returns-in-Wrong : goal.returns-in-Wrong
-returns-in-Wrong c =
+pub returns-in-Err-found : goal.returns-in-Err-found
+returns-in-Err-found c =
     let a = c.args in
-    record { value = ruled-accepted a.lanes.now a.zones.now a.checkpoints.now a.exits.now a.goals.now a.start (length a.work.now) a.reply c.in-Accepted.c c.in-Accepted.file c.in-Accepted.m c.in-Accepted.own c.in-Accepted.is c.judged-found.result (Verdict.Wrong c.in-Wrong.line c.in-Wrong.number) c.judged-found.ensures.value c.in-Wrong.is; work_after = c.judged-found.ensures.work_after }
+    record { value = ruled-accepted a.lanes.now a.zones.now a.checkpoints.now a.exits.now a.goals.now a.start (length a.work.now) a.reply c.in-Ok.c c.in-Ok.file c.in-Ok.m c.in-Ok.own c.in-Ok.is c.judged-found.result (Err (c.in-Err-found.line, c.in-Err-found.number)) c.judged-found.ensures.value c.in-Err-found.is; work_after = c.judged-found.ensures.work_after }
 
-pub returns-in-Refused : goal.returns-in-Refused
-returns-in-Refused c =
+pub returns-in-Err : goal.returns-in-Err
+returns-in-Err c =
     let a = c.args in
-    record { value = ruled-refused a.lanes.now a.zones.now a.checkpoints.now a.exits.now a.goals.now a.start (length a.work.now) a.reply c.in-Refused.why c.in-Refused.is; work_after = c.clear.ensures }
+    record { value = ruled-refused a.lanes.now a.zones.now a.checkpoints.now a.exits.now a.goals.now a.start (length a.work.now) a.reply c.in-Err.why c.in-Err.is; work_after = c.clear.ensures }

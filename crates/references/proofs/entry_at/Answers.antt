@@ -7,11 +7,11 @@ use Rattle.references.proofs.entry_at.Goals as goal
 pub returns-else-is_number_byte : goal.returns-else-is_number_byte
 returns-else-is_number_byte c =
     let a = c.args in
-    let there = rw c.in-Is.is at c.triple_at.ensures in
-    sym (entry-stands a.text.now a.at c.in-Is.e c.in-Is.x c.in-Is.y c.in-Is.z there (ends-by-byte a.text.now c.in-Is.e (omega arith) (sym c.is_number_byte.ensures ∙ c.if-is_number_byte.false)))
+    let there = rw c.in-Some.is at c.triple_at.ensures in
+    sym (entry-stands a.text.now a.at c.in-Some.e c.in-Some.x c.in-Some.y c.in-Some.z there (ends-by-byte a.text.now c.in-Some.e (omega arith) (sym c.is_number_byte.ensures ∙ c.if-is_number_byte.false)))
 
 pub returns-else-e-text : goal.returns-else-e-text
 returns-else-e-text c =
     let a = c.args in
-    let there = rw c.in-Is.is at c.triple_at.ensures in
-    sym (entry-stands a.text.now a.at c.in-Is.e c.in-Is.x c.in-Is.y c.in-Is.z there (ends-by-text a.text.now c.in-Is.e (omega arith)))
+    let there = rw c.in-Some.is at c.triple_at.ensures in
+    sym (entry-stands a.text.now a.at c.in-Some.e c.in-Some.x c.in-Some.y c.in-Some.z there (ends-by-text a.text.now c.in-Some.e (omega arith)))

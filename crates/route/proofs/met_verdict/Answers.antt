@@ -1,8 +1,8 @@
 -- `route::met_verdict` meets its contract. Assumes nothing.
+use Rattle.std.specs.Prelude.{Err}
 use mathlib.Core.Path.{sym, ap, subst, ◌∙◌}
 use Prim.Native.Nat.{ℕ, ◌≤◌, ◌<◌}
 use Rattle.room.specs.Room.{fitted}
-use Rattle.route.specs.declared.Verdict.TheVariants as Verdict
 use borrow.Author.Tests.{lt-ltb, le-ltb}
 use Rattle.route.specs.Judged.{met_verdict_of}
 use Rattle.route.proofs.met_verdict.Goals as goal
@@ -12,7 +12,7 @@ unfolding met_verdict_of
 returns-then-met-count c =
     let a = c.args in
     let met = c.goals_met-met.ensures in
-    ap (λ (line : ℕ). Verdict.Wrong line 23) (c.in_word.ensures ∙ ap fitted met) ∙ rw (lt-ltb _ _ (subst (λ (k : ℕ). k < a.count) met c.if-met-count.true))
+    ap (λ (line : ℕ). Err (line, 23)) (c.in_word.ensures ∙ ap fitted met) ∙ rw (lt-ltb _ _ (subst (λ (k : ℕ). k < a.count) met c.if-met-count.true))
 
 pub returns-then-ends : goal.returns-then-ends
 unfolding met_verdict_of

@@ -1,25 +1,25 @@
 -- `route::ruled` meets its contract. Assumes nothing.
+use Rattle.std.specs.Prelude.{Ok}
 use mathlib.Core.Path.{sym, ap, ◌∙◌}
-use Rattle.replies.specs.declared.PairReply.TheVariants as Pair
 use Rattle.route.specs.Judged.{replied, ruled}
 use Rattle.route.proofs.ruled.Goals as goal
 
-pub returns-in-Good : goal.returns-in-Good
+pub returns-in-Ok-found : goal.returns-in-Ok-found
 unfolding ruled
-returns-in-Good c =
+returns-in-Ok-found c =
     let a = c.args in
-    let good = sym c.judged-found.ensures ∙ c.in-Good.is in
-    sym (ap (ruled a.lanes.now a.zones.now a.checkpoints.now a.exits.now a.goals.now a.start a.route.now) c.in-Accepted.is ∙ ap (replied (Pair.Accepted c.in-Accepted.c c.in-Accepted.file c.in-Accepted.m c.in-Accepted.own)) good)
+    let good = sym c.judged-found.ensures ∙ c.in-Ok-found.is in
+    sym (ap (ruled a.lanes.now a.zones.now a.checkpoints.now a.exits.now a.goals.now a.start a.route.now) c.in-Ok.is ∙ ap (replied (Ok (c.in-Ok.c, c.in-Ok.file, c.in-Ok.m, c.in-Ok.own))) good)
 
-pub returns-in-Wrong : goal.returns-in-Wrong
+pub returns-in-Err-found : goal.returns-in-Err-found
 unfolding ruled
-returns-in-Wrong c =
+returns-in-Err-found c =
     let a = c.args in
-    let wrong = sym c.judged-found.ensures ∙ c.in-Wrong.is in
-    sym (ap (ruled a.lanes.now a.zones.now a.checkpoints.now a.exits.now a.goals.now a.start a.route.now) c.in-Accepted.is ∙ ap (replied (Pair.Accepted c.in-Accepted.c c.in-Accepted.file c.in-Accepted.m c.in-Accepted.own)) wrong)
+    let wrong = sym c.judged-found.ensures ∙ c.in-Err-found.is in
+    sym (ap (ruled a.lanes.now a.zones.now a.checkpoints.now a.exits.now a.goals.now a.start a.route.now) c.in-Ok.is ∙ ap (replied (Ok (c.in-Ok.c, c.in-Ok.file, c.in-Ok.m, c.in-Ok.own))) wrong)
 
-pub returns-in-Refused : goal.returns-in-Refused
+pub returns-in-Err : goal.returns-in-Err
 unfolding ruled
-returns-in-Refused c =
+returns-in-Err c =
     let a = c.args in
-    sym (ap (ruled a.lanes.now a.zones.now a.checkpoints.now a.exits.now a.goals.now a.start a.route.now) c.in-Refused.is)
+    sym (ap (ruled a.lanes.now a.zones.now a.checkpoints.now a.exits.now a.goals.now a.start a.route.now) c.in-Err.is)

@@ -9,10 +9,10 @@ use Rattle.said_line.specs.Saying.{got_of}
 use Rattle.said_line.proofs.Cuts.{cut-valued, at-most-three, few-told}
 use Rattle.said_line.proofs.kind_cut.Goals as goal
 
-pub returns-in-Refused : goal.returns-in-Refused
+pub returns-in-Err : goal.returns-in-Err
 unfolding of_kind
-returns-in-Refused c =
-    let r = refused-by _ _ c.refuses.result c.refuses.ensures c.in-Refused.is in
+returns-in-Err c =
+    let r = refused-by _ _ c.refuses.result c.refuses.ensures c.in-Err.is in
     (rw (← c.cell-cell.ensures, ne_eqb _ 0 r.1, r.0), tt)
 
 pub returns-then-f-fields_needed : goal.returns-then-f-fields_needed

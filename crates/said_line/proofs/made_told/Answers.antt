@@ -2,4 +2,4 @@
 use Rattle.said_line.proofs.made_told.Goals as goal
 
 pub returns : goal.returns
-returns c = rw c.in-Is.is
+returns c = rw c.in-Some.is

@@ -1,20 +1,24 @@
 -- `unpacker::read_packed` meets its contract. Assumes nothing.
+use Rattle.std.specs.Prelude.{Result}
 use mathlib.Core.Path.{ap, ◌∙◌}
 use lib.ListN.{length}
 use Rattle.law.specs.Tables.{lent}
-use Rattle.unpacker.specs.declared.Told.{Told}
 use Rattle.unpacker.specs.Telling.{roomed}
 use Rattle.unpacker.proofs.Steps.{refused-so, unpacked-so}
 use Rattle.unpacker.proofs.read_packed.Goals as goal
+use Rattle.counts.specs.declared.Counts.{Counts}
+use Rattle.rows.specs.declared.FileRow.{FileRow}
+use Rattle.unpacked_rows.specs.declared.Places.{Places}
+use Rattle.refusal.specs.declared.Refusal.{Refusal}
 
-pub returns-in-Refused : goal.returns-in-Refused
-returns-in-Refused c =
+pub returns-in-Err : goal.returns-in-Err
+returns-in-Err c =
     let A = c.args in
-    let is = c.roomed-told.ensures ∙ ap (λ (x : Told). roomed x (length A.segments.now) (length A.lanes.now) (length A.zones.now) (length A.spots.now) (length A.points.now) (length A.checkpoints.now) (length A.stops.now) (length A.exits.now)) c.look.ensures in
-    refused-so A.bytes.now (lent A.segments.now A.lanes.now A.zones.now A.spots.now A.points.now A.checkpoints.now A.stops.now A.exits.now) c.shared_slice_known-1.given c.roomed-told.result is _ (lent c.clear_tables.new.segments c.clear_tables.new.lanes c.clear_tables.new.zones c.clear_tables.new.spots c.clear_tables.new.points c.clear_tables.new.checkpoints c.clear_tables.new.stops c.clear_tables.new.exits) c.in-Refused.is c.clear_tables.ensures
+    let is = c.roomed-told.ensures ∙ ap (λ (x : Result (Counts × FileRow × Places) Refusal). roomed x (length A.segments.now) (length A.lanes.now) (length A.zones.now) (length A.spots.now) (length A.points.now) (length A.checkpoints.now) (length A.stops.now) (length A.exits.now)) c.look.ensures in
+    refused-so A.bytes.now (lent A.segments.now A.lanes.now A.zones.now A.spots.now A.points.now A.checkpoints.now A.stops.now A.exits.now) c.shared_slice_known-1.given c.roomed-told.result is _ (lent c.clear_tables.new.segments c.clear_tables.new.lanes c.clear_tables.new.zones c.clear_tables.new.spots c.clear_tables.new.points c.clear_tables.new.checkpoints c.clear_tables.new.stops c.clear_tables.new.exits) c.in-Err.is c.clear_tables.ensures
 
-pub returns-in-Form : goal.returns-in-Form
-returns-in-Form c =
+pub returns-in-Ok : goal.returns-in-Ok
+returns-in-Ok c =
     let A = c.args in
-    let is = c.roomed-told.ensures ∙ ap (λ (x : Told). roomed x (length A.segments.now) (length A.lanes.now) (length A.zones.now) (length A.spots.now) (length A.points.now) (length A.checkpoints.now) (length A.stops.now) (length A.exits.now)) c.look.ensures in
-    unpacked-so A.bytes.now (lent A.segments.now A.lanes.now A.zones.now A.spots.now A.points.now A.checkpoints.now A.stops.now A.exits.now) c.shared_slice_known-1.given c.roomed-told.result is _ _ _ (lent c.clear_tables.new.segments c.clear_tables.new.lanes c.clear_tables.new.zones c.clear_tables.new.spots c.clear_tables.new.points c.clear_tables.new.checkpoints c.clear_tables.new.stops c.clear_tables.new.exits) (lent c.store_tables.new.segments c.store_tables.new.lanes c.store_tables.new.zones c.store_tables.new.spots c.store_tables.new.points c.store_tables.new.checkpoints c.store_tables.new.stops c.store_tables.new.exits) c.in-Form.is c.clear_tables.ensures c.store_tables.ensures
+    let is = c.roomed-told.ensures ∙ ap (λ (x : Result (Counts × FileRow × Places) Refusal). roomed x (length A.segments.now) (length A.lanes.now) (length A.zones.now) (length A.spots.now) (length A.points.now) (length A.checkpoints.now) (length A.stops.now) (length A.exits.now)) c.look.ensures in
+    unpacked-so A.bytes.now (lent A.segments.now A.lanes.now A.zones.now A.spots.now A.points.now A.checkpoints.now A.stops.now A.exits.now) c.shared_slice_known-1.given c.roomed-told.result is _ _ _ (lent c.clear_tables.new.segments c.clear_tables.new.lanes c.clear_tables.new.zones c.clear_tables.new.spots c.clear_tables.new.points c.clear_tables.new.checkpoints c.clear_tables.new.stops c.clear_tables.new.exits) (lent c.store_tables.new.segments c.store_tables.new.lanes c.store_tables.new.zones c.store_tables.new.spots c.store_tables.new.points c.store_tables.new.checkpoints c.store_tables.new.stops c.store_tables.new.exits) c.in-Ok.is c.clear_tables.ensures c.store_tables.ensures

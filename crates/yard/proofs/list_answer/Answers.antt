@@ -1,8 +1,8 @@
 -- `yard::list_answer` meets its contract, by the reply's two cases. Assumes nothing.
 use Rattle.yard.proofs.list_answer.Goals as goal
 
-pub returns-in-Answered : goal.returns-in-Answered
-returns-in-Answered c = rw c.in-Answered.is
+pub returns-in-Ok : goal.returns-in-Ok
+returns-in-Ok c = rw c.in-Ok.is
 
-pub returns-in-Refused : goal.returns-in-Refused
-returns-in-Refused c = rw c.in-Refused.is
+pub returns-in-Err : goal.returns-in-Err
+returns-in-Err c = rw c.in-Err.is

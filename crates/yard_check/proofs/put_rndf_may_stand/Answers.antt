@@ -3,10 +3,10 @@ use Rattle.output.proofs.Writing.{none}
 use Rattle.yard_check.specs.Tells.{rndf_may_stand}
 use Rattle.yard_check.proofs.put_rndf_may_stand.Goals as goal
 
-pub returns-in-Accepted : goal.returns-in-Accepted
+pub returns-in-Ok : goal.returns-in-Ok
 unfolding rndf_may_stand
-returns-in-Accepted c = rw c.in-Accepted.is none
+returns-in-Ok c = rw c.in-Ok.is none
 
-pub returns-in-Refused : goal.returns-in-Refused
+pub returns-in-Err : goal.returns-in-Err
 unfolding rndf_may_stand
-returns-in-Refused c = rw c.in-Refused.is c.put_may_stand.ensures
+returns-in-Err c = rw c.in-Err.is c.put_may_stand.ensures

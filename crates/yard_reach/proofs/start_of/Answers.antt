@@ -3,14 +3,14 @@ use Rattle.std.proofs.Common.{refl}
 use Rattle.yard_reach.specs.Starts.{start_of, named}
 use Rattle.yard_reach.proofs.start_of.Goals as goal
 
-pub returns-in-At : goal.returns-in-At
+pub returns-in-Some : goal.returns-in-Some
 unfolding start_of named
-returns-in-At c = rw (c.in-Accepted.is, ← c.start_row-found.ensures, c.in-At.is, c.in_word.ensures) refl
+returns-in-Some c = rw (c.in-Ok.is, ← c.start_row-found.ensures, c.in-Some.is, c.in_word.ensures) refl
 
-pub returns-in-Nothing : goal.returns-in-Nothing
+pub returns-in-None : goal.returns-in-None
 unfolding start_of named
-returns-in-Nothing c = rw (c.in-Accepted.is, ← c.start_row-found.ensures, c.in-Nothing.is) refl
+returns-in-None c = rw (c.in-Ok.is, ← c.start_row-found.ensures, c.in-None.is) refl
 
-pub returns-in-Refused : goal.returns-in-Refused
+pub returns-in-Err : goal.returns-in-Err
 unfolding start_of
-returns-in-Refused c = rw c.in-Refused.is refl
+returns-in-Err c = rw c.in-Err.is refl
