@@ -66,6 +66,7 @@ fn short(words: &[u32], column: usize) -> u16
 }
 
 // And in a field of 8 bits, saturated as well.
+// Kept as it is: the new form is no plainer: one function over the type of field would take that type's conversion and its largest number, to save one line.
 fn byte(words: &[u32], column: usize) -> u8
     ensures { result ≡ byte_word words.now column }
 {
@@ -234,6 +235,7 @@ impl ReadRow<u32, LIMIT_STRIDE> for LimitRow {
     }
 }
 
+// Each table's rows by name: its type of row, and so its stride, is then known at the call.
 pub fn segment_at(t: &[u32], row: usize) -> SegmentRow
     ensures { result ≡ segment_at_of t.now row }
 {

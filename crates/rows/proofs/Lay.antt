@@ -1,14 +1,15 @@
 -- Rows in a flat table, for any type of word and any stride: what is stored is what is read, and nothing else changes.
 -- Each table's laws are these (proofs/Forms.antt). Assumes nothing.
+use Rattle.std.proofs.lemmas.List.{drop-take}
 use mathlib.Core.Path.{◌≡◌, refl, sym, ap, ◌∙◌}
 use mathlib.Core.Logic.{◌≢◌}
-use mathlib.Core.List.{List, [], ◌∷◌, ◌++◌, append_assoc}
+use mathlib.Core.List.{List, [], ◌++◌, append_assoc}
 use mathlib.Core.Bool.{Bool, true, false}
-use Prim.Native.Nat.{ℕ, zero, suc, ◌+◌, ◌-◌, ◌*◌, ◌<◌, ◌≤◌}
+use Prim.Native.Nat.{ℕ, suc, ◌+◌, ◌-◌, ◌*◌, ◌<◌, ◌≤◌}
 use native.Mathlib.Nat.{suc-mul, mul-le-mul_right, div-mul-le_self, le-div_iff_mul-le}
 use native.Mathlib.Omega.{arith}
 use lib.ListN.{length, get_or, take, drop, length-append, length-drop}
-use lib.Seq.{length-take-le, take_at, drop_at, take-append-le, drop-append-add, drop-drop, get_or-take, get_or-drop, take-take, take-nil}
+use lib.Seq.{length-take-le, take_at, drop_at, take-append-le, drop-append-add, drop-drop, get_or-take, get_or-drop, take-take}
 use lib.Dec.{ltb}
 use borrow.Author.Tests.{lt-ltb, le-ltb, ltb-true, ltb-false}
 use Rattle.rows.specs.Lay.{rows_of, row_at, put_row_of}
@@ -62,12 +63,6 @@ module _ {A : Type 0} (stride : ℕ) (t : List A) (row : ℕ) where
       go : (b : Bool) → ltb row (rows_of (length t) stride) ≡ b → P
       go true e = is (ltb-true row (rows_of (length t) stride) e)
       go false e = not (ltb-false row (rows_of (length t) stride) e)
-
--- a stretch of a list is a stretch of its front
-front-only : {A : Type 0} (a n : ℕ) (l : List A) → take n (drop a l) ≡ drop a (take (a + n) l)
-front-only zero n l = ap (λ (i : ℕ). take i l) (let e : n ≡ zero + n = omega arith in e)
-front-only (suc a) n [] = take-nil n ∙ sym (ap (drop (suc a)) (take-nil (suc a + n)))
-front-only (suc a) n (x ∷ l) = front-only a n l ∙ ap (λ (i : ℕ). drop (suc a) (take i (x ∷ l))) (let e : suc (a + n) ≡ suc a + n = omega arith in e)
 
 -- the length is kept, whatever row is stored
 pub length-put : {A : Type 0} (stride : ℕ) (t : List A) (row : ℕ) (words : List A) → length words ≡ stride → length (put_row_of stride t row words) ≡ length t
@@ -136,7 +131,7 @@ module _ {A : Type 0} (stride : ℕ) (t : List A) (row : ℕ) (words : List A) (
               let o = mul-le-mul_right stride (ltb-true k row e) in
               let s = suc-mul k stride in
               let n : k * stride + stride ≤ row * stride = omega arith in
-              front-only (k * stride) stride (put_row_of stride t row words) ∙ ap (drop (k * stride)) (take_put (k * stride + stride) n) ∙ sym (front-only (k * stride) stride t)
+              sym (drop-take (k * stride) stride (put_row_of stride t row words)) ∙ ap (drop (k * stride)) (take_put (k * stride + stride) n) ∙ drop-take (k * stride) stride t
           same false e =
               let g = ltb-false k row e in
               let r : row < k = omega (arith, apart) in

@@ -1,4 +1,5 @@
 -- Whole tables: rows stored one by one into a cleared slice are the table of these rows; a cleared table reads as nothing but zero. Assumes nothing.
+pub use Rattle.std.proofs.lemmas.List.{drop-replicate, take-replicate}
 use mathlib.Core.Path.{◌≡◌, refl, sym, ap, ◌∙◌}
 use mathlib.Core.List.{List, [], ◌∷◌, ◌++◌, append_assoc}
 use Prim.Native.Nat.{ℕ, zero, suc, ◌+◌, ◌-◌, ◌*◌, ◌<◌, ◌≤◌}
@@ -9,17 +10,6 @@ use lib.Seq.{take_at, drop-drop, drop-append-add}
 use Rattle.rows.specs.Lay.{rows_of, row_at, put_row_of}
 use Rattle.rows.specs.Table.{flat, table_of, put_rows}
 use Rattle.rows.proofs.Lay.{row_fits, fits-row, row_inside, put-inside, length-put}
-
--- what is behind a front of a cleared table, and a stretch of it
-pub drop-replicate : {A : Type 0} (k n : ℕ) (a : A) → drop k (replicate n a) ≡ replicate (n - k) a
-drop-replicate zero n a = ap (λ (i : ℕ). replicate i a) (let e : n ≡ n - zero = omega arith in e)
-drop-replicate (suc k) zero a = ap (λ (i : ℕ). replicate i a) (let e : 0 ≡ zero - suc k = omega arith in e)
-drop-replicate (suc k) (suc n) a = drop-replicate k n a ∙ ap (λ (i : ℕ). replicate i a) (let e : n - k ≡ suc n - suc k = omega arith in e)
-
-pub take-replicate : {A : Type 0} (k n : ℕ) (a : A) → k ≤ n → take k (replicate n a) ≡ replicate k a
-take-replicate zero n a h = refl
-take-replicate (suc k) zero a h = absurd (omega arith)
-take-replicate (suc k) (suc n) a h = ap (◌∷◌ a) (take-replicate k n a (omega arith))
 
 -- every row of a cleared table is zero
 pub row-cleared : {A : Type 0} (stride n row : ℕ) (nought : A) → row < rows_of n stride → row_at stride (replicate n nought) row ≡ replicate stride nought

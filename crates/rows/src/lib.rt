@@ -279,6 +279,7 @@ pub fn store<T: Copy, R: Row<T, STRIDE>, const STRIDE: usize>(t: &mut [T], row: 
     }
 }
 
+// Each table's rows by name.
 pub fn store_segment(t: &mut [u32], row: usize, segment: SegmentRow)
     ensures { t.new ≡ put_row_of segment_stride t.old row (segment_words_of segment) }
 {

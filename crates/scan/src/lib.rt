@@ -67,7 +67,7 @@ fn is_plain(b: u8) -> bool
 // ## Eight bytes at a time
 // Most bytes of a text stop no scan. What is asked of eight bytes at once, with `&` and no branch for each, the compiler asks by one instruction.
 
-// Each of the bytes passes. It has two callers, and is too small to be called.
+// Each of the bytes passes. It stands at two places, where the compiler would make calls of it, which cost more than they ask.
 #[inline(always)]
 fn all_pass<F: Fn(u8) -> bool>(bytes: &[u8], test: F) -> bool
     requires { F.IsAlwaysCallable test }

@@ -31,6 +31,7 @@ fn in_range(n: u32, least: u32, largest: u16) -> Option<u16>
     }
 }
 
+// Kept as it is: the new form is no plainer: one `Number<Kind>` would take a marker type and an alias for each kind, to save four structs of one line.
 // A width in feet; 0 is a width.
 #[derive(Clone, Copy)]
 pub struct Feet(pub u16);
