@@ -1,6 +1,6 @@
 #!/usr/bin/env python3
 """Compares the reasons of refusals: the table of docs/REFUSALS.md, the definition (crates/reasons/specs/Reasons.antt) and the code's table
-(crates/reasons/src/lib.rt, put_reason); and the words of 11 with file 0 (docs/REFUSALS.md: in brackets; the definition: short_work; the code: put_reason_of). Prints the lines that
+(crates/reasons/src/lib.rt, reason); and the words of 11 with file 0 (docs/REFUSALS.md: in brackets; the definition: short_work; the code: put_reason_of). Prints the lines that
 differ; the status is 1 if any does.
 
 That code and definition agree is proved; docs/REFUSALS.md is held to them here.
@@ -28,7 +28,7 @@ def of_work():
     return [lines_of(path, pattern) for path, pattern in (
         ("docs/REFUSALS.md", r"^\| 11 \| [^|]+ \(file 0, for the work space of `kastepuhm_check_mission`: ([^|]+)\) \|"),
         ("crates/reasons/specs/Reasons.antt", r'^short_work = ascii "(.*)"$'),
-        ("crates/reasons/src/lib.rt", r'^    put_bytes\(out, at, b"(the work space .*)"\)$'))]
+        ("crates/reasons/src/lib.rt", r'^ +return put_bytes\(out, at, b"(the work space .*)"\);$'))]
 
 
 def of_definition():
@@ -37,7 +37,7 @@ def of_definition():
 
 
 def of_code():
-    return {int(number): words for number, words in lines_of("crates/reasons/src/lib.rt", r'^        (\d+) => put_bytes\(\s*out,\s*at,\s*b"(.*)",?\s*\),$')}
+    return {int(number): words for number, words in lines_of("crates/reasons/src/lib.rt", r'^        (\d+) =>\s+b"(.*)",$')}
 
 
 def listed(table):

@@ -16,10 +16,9 @@ use shown::first;
 pub fn first_difference(a: &[u8], b: &[u8]) -> Option<(usize, usize)>
     ensures { result ≡ first_difference_of a.now b.now }
 {
-    let mut i: usize = 0;
     let mut start: usize = 0;
     let mut passed: usize = 0;
-    while i < a.len() {
+    for i in 0..a.len() {
         if b.len() <= i {
             return Some((start, passed));
         }
@@ -27,14 +26,11 @@ pub fn first_difference(a: &[u8], b: &[u8]) -> Option<(usize, usize)>
             return Some((start, passed));
         }
         if a[i] == 10 {
-            i += 1;
-            start = i;
+            start = i + 1;
             passed += 1;
-            continue;
         }
-        i += 1;
     }
-    if i < b.len() {
+    if a.len() < b.len() {
         return Some((start, passed));
     }
     None

@@ -118,6 +118,9 @@ millionths-small s = go (the_millionths_of s) refl
     go (Some m) e = let b = body_back s m e in let h : b.whole ≤ 999 = b.three in let g : b.part ≤ 999999 = b.six in let c : m ≡ b.whole * 1000000 + b.part = b.count in omega arith
     go None e = tt
 
+pub small : (s : Bytes) (m : ℕ) → the_millionths_of s ≡ Some m → m ≤ 999999999
+small s m e = let h : Small (Some m) = rw e at (millionths-small s) in h
+
 -- ## The sign
 first-digit : (l t : Bytes) → plain l ≡ true → eqb (get_or (l ++ t) 0 0) 45 ≡ false
 unfolding all

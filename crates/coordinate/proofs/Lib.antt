@@ -9,4 +9,3 @@
 --   K-short, K-bytes, K-long (and house-K-long: at least 8 bytes): the same of any field that spells a value.
 pub mod Coordinates
 pub mod House
-mod Signs

@@ -3,8 +3,9 @@
 // either side of 0: whether it is in range (refusal 9) is tested in `permitted`. Rests on `terms`, `scan` and `number`.
 #![tactic(auto)]
 
-ghost use Rattle.std.specs.Prelude.{◌≡◌};
-ghost use Rattle.coordinate.specs.Executable.{Small, the_millionths_of, with_sign, the_coordinate_of};
+ghost use Rattle.std.specs.Prelude.{◌≡◌, ◌≤◌};
+ghost use Rattle.coordinate.specs.Executable.{the_millionths_of, the_coordinate_of};
+ghost use Rattle.coordinate.specs.Sign.{signed};
 
 use number::{number_of, plain_of};
 
@@ -18,48 +19,32 @@ fn millionths_of(s: &[u8]) -> Option<u32>
     if 10 < s.len() {
         return None;
     }
-    let p = s.len() - 7;
-    if s[p] == b'.' {
-        let d = plain_of(&s[..p]);
-        let Some(whole) = d else {
-            return None;
-        };
-        let q = p + 1;
-        let f = number_of(&s[q..]);
-        let Some(part) = f else {
-            return None;
-        };
-        Some(whole * 1000000 + part)
-    } else {
-        None
+    let point = s.len() - 7;
+    if s[point] != b'.' {
+        return None;
     }
+    let whole = plain_of(&s[..point])?;
+    let part = number_of(&s[point + 1..])?;
+    Some(whole * 1000000 + part)
 }
 
 // A count of millionths with its sign, which is the whole field's: -0.500000 is -500,000.
-fn with_sign(minus: bool, n: Option<u32>) -> Option<i32>
-    requires { Small n }
-    ensures { result ≡ with_sign minus n }
+fn signed(minus: bool, m: u32) -> i32
+    requires { m ≤ 999999999 }
+    ensures { result ≡ signed minus m }
 {
-    match n {
-        Some(m) => {
-            let above = m as i32;
-            let below = 0 - above;
-            if minus { Some(below) } else { Some(above) }
-        }
-        None => None,
-    }
+    let above = m as i32;
+    if minus { -above } else { above }
 }
 
 // An optional minus, 1 to 3 digits with no leading zero but a single 0, a point, six digits.
 pub fn coordinate_of(s: &[u8]) -> Option<i32>
     ensures { result ≡ the_coordinate_of s.now }
 {
-    if 0 < s.len() {
-        if s[0] == b'-' {
-            return with_sign(true, millionths_of(&s[1..]));
-        }
-        with_sign(false, millionths_of(s))
-    } else {
-        None
+    if !s.is_empty() && s[0] == b'-' {
+        let below = millionths_of(&s[1..])?;
+        return Some(signed(true, below));
     }
+    let above = millionths_of(s)?;
+    Some(signed(false, above))
 }

@@ -20,7 +20,7 @@ use Rattle.line.proofs.Ends.{trim_le, trim-take}
 use Rattle.line.proofs.Comments.{outer-at}
 use Rattle.line.proofs.Spans.{fields_within, fields-listed}
 use Rattle.house_lines.specs.Arranged.{fields_on_of, rank_of}
-use Rattle.house_lines.specs.Said.{rank_word, body_end_of, blank, said_in_of, said_on_of, parts_of}
+use Rattle.house_lines.specs.Said.{rank_word, body_end_of, said_in_of, said_on_of, parts_of}
 
 pub body_le : (l : Bytes) → body_end_of l ≤ length l
 unfolding body_end_of

@@ -29,19 +29,11 @@ use word::begins_with_digit;
 fn is_first(word: &[u8]) -> bool
     ensures { result ≡ first_of word.now }
 {
-    if same(word, b"lane_width") {
-        return true;
-    }
-    if same(word, b"spot_width") {
-        return true;
-    }
-    if same(word, b"segment_name") {
-        return true;
-    }
-    if same(word, b"zone_name") {
-        return true;
-    }
-    same(word, b"format_version")
+    same(word, b"lane_width")
+        || same(word, b"spot_width")
+        || same(word, b"segment_name")
+        || same(word, b"zone_name")
+        || same(word, b"format_version")
 }
 
 // The rank of an option that is never put: the house writing leaves the creation date out.
@@ -101,10 +93,7 @@ fn said_in(body: &[u8]) -> Said
             fields,
         };
     }
-    let first = fields.a;
-    let a = first.start;
-    let e = first.stop;
-    let rank = rank_of(&body[a..e]);
+    let rank = rank_of(&body[fields.a.start..fields.a.stop]);
     Said { rank, fields }
 }
 
@@ -121,7 +110,7 @@ fn said_on(line: &[u8]) -> Said
 fn needs_mending(s: &[u8], point: bool) -> bool
     ensures { result ≡ mends point s.now }
 {
-    if point { same(s, b"-0.000000") } else { false }
+    point && same(s, b"-0.000000")
 }
 
 // A field; that coordinate is written without its sign.
@@ -140,10 +129,8 @@ fn put_further(line: &[u8], f: Span, there: bool, point: bool, out: &mut [u8], a
     ensures { Wrote (pen out.old at) (behind_tab there point (part line.now f)) (pen out.new result) }
 {
     if there {
-        let a = f.start;
-        let e = f.stop;
         let to = put_tab(out, at);
-        return put_field(&line[a..e], point, out, to);
+        return put_field(&line[f.start..f.stop], point, out, to);
     }
     at
 }
@@ -153,11 +140,9 @@ fn put_fields(line: &[u8], f: Fields, out: &mut [u8], at: usize) -> usize
     requires { FieldsWithin line.now f }
     ensures { Wrote (pen out.old at) (line_of (parts_of line.now f)) (pen out.new result) }
 {
-    let first = f.a;
-    let a = first.start;
-    let e = first.stop;
-    let point = begins_with_digit(&line[a..e]);
-    let one = put_field(&line[a..e], point, out, at);
+    let first = &line[f.a.start..f.a.stop];
+    let point = begins_with_digit(first);
+    let one = put_field(first, point, out, at);
     let two = put_further(line, f.b, 1 < f.count, point, out, one);
     let three = put_further(line, f.c, 2 < f.count, point, out, two);
     put_line_end(out, three)
@@ -211,10 +196,7 @@ fn put_passes(text: &[u8], from: usize, out: &mut [u8], at: usize) -> usize
 fn is_due(rank: u8, fresh: bool) -> bool
     ensures { result ≡ due rank fresh }
 {
-    if rank == 0 {
-        return false;
-    }
-    if rank == BLANK {
+    if rank == 0 || rank == BLANK {
         return false;
     }
     fresh
@@ -224,10 +206,7 @@ fn is_due(rank: u8, fresh: bool) -> bool
 fn fresh_after(rank: u8, fresh: bool) -> bool
     ensures { result ≡ fresh_after_of rank fresh }
 {
-    if rank == 0 {
-        return true;
-    }
-    if rank == BLANK { fresh } else { false }
+    rank == 0 || rank == BLANK && fresh
 }
 
 // The whole run, where it is due.

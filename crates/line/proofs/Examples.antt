@@ -5,7 +5,7 @@ use mathlib.Core.List.{[], ◌∷◌}
 use Rattle.terms.specs.Ascii.{ascii}
 use Rattle.scan.specs.Allowed.{separates, all}
 use Rattle.scan.specs.Reach.{up_to, first, two, stops_by}
-use Rattle.line.specs.Content.{at, parted, parted-by}
+use Rattle.line.specs.Content.{at, parted-by}
 use Rattle.line.specs.Lines.{lines_of, drop_cr}
 use Rattle.line.specs.Forms.{outer_of, note_of, closes, form_of, fields_at}
 

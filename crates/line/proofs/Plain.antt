@@ -1,24 +1,22 @@
 -- The bytes of a content up to the first that is not plain: no comment opens among them, and each is allowed there. Assumes nothing.
 use Rattle.std.specs.Prelude.{Ok}
-use mathlib.Core.Path.{◌≡◌, refl, sym, ap, subst, ◌∙◌}
-use mathlib.Core.List.{[], ◌∷◌}
-use mathlib.Core.Bool.{Bool, true, false, not, ◌&&◌}
+use mathlib.Core.Path.{◌≡◌, refl, sym, ap, ◌∙◌}
+use mathlib.Core.List.{[]}
+use mathlib.Core.Bool.{true, ◌&&◌}
 use Prim.Native.Nat.{ℕ, ◌+◌, ◌-◌, ◌≤◌}
 use native.Mathlib.Nat.{zero-add}
 use native.Mathlib.Omega.{arith}
 use borrow.Author.Tests.{le-leb}
-use lib.Dec.{eqb}
 use lib.ListN.{length, take, drop, drop_of_length-le}
-use lib.Seq.{take-length}
 use Rattle.terms.specs.Ascii.{Bytes}
 use Rattle.terms.proofs.Tests.{both}
-use Rattle.scan.specs.Allowed.{outside, inside, all}
+use Rattle.scan.specs.Allowed.{outside, all}
 use Rattle.scan.specs.Reach.{up_to, reach, fails, other, plain}
 use Rattle.scan.proofs.Bytes.{all_imp}
 use Rattle.scan.proofs.Reach.{from_start, up_to_le, reach-end, reach-from, all-before}
 use Rattle.scan.proofs.Eights.{all-joined, reach-over, two_none}
 use Rattle.line.specs.Content.{longest}
-use Rattle.line.specs.Forms.{opens, outer_of, note_of, closed_note, form_of}
+use Rattle.line.specs.Forms.{opens, outer_of, note_of, form_of}
 use Rattle.line.proofs.Comments.{outer-at, note-at}
 
 module _ (s : Bytes) where

@@ -16,15 +16,10 @@ use scan::{
 pub fn trimmed(s: &[u8]) -> usize
     ensures { result ≡ trim_of s.now }
 {
-    if 0 < s.len() {
-        let k = s.len() - 1;
-        if s[k] == b'\r' {
-            return k;
-        }
-        s.len()
-    } else {
-        0
+    if 0 < s.len() && s[s.len() - 1] == b'\r' {
+        return s.len() - 1;
     }
+    s.len()
 }
 
 fn all_separators(s: &[u8]) -> bool
@@ -50,12 +45,7 @@ fn closed(s: &[u8]) -> bool
     ensures { result ≡ closes s.now }
 {
     let e = two_from(s, 0, b'*', b'/');
-    if e < s.len() {
-        let k = e + 2;
-        all_separators(&s[k..])
-    } else {
-        false
-    }
+    e < s.len() && all_separators(&s[e + 2..])
 }
 
 // No comment, or one that is closed. It opens at `mark`.
@@ -63,12 +53,7 @@ fn is_shut(s: &[u8], mark: usize) -> bool
     requires { mark ≡ up_to opens s.now }
     ensures { result ≡ shut s.now }
 {
-    if mark < s.len() {
-        let k = mark + 2;
-        closed(&s[k..])
-    } else {
-        true
-    }
+    s.len() <= mark || closed(&s[mark + 2..])
 }
 
 // Every byte is allowed where it stands. Before `stop` each is plain.
@@ -76,11 +61,7 @@ fn is_clean(s: &[u8], stop: usize, mark: usize) -> bool
     requires { (stop ≡ up_to (fails plain) s.now) × (mark ≡ up_to opens s.now) }
     ensures { result ≡ clean s.now }
 {
-    if outside_bytes(&s[stop..mark]) {
-        inside_bytes(&s[mark..])
-    } else {
-        false
-    }
+    outside_bytes(&s[stop..mark]) && inside_bytes(&s[mark..])
 }
 
 pub fn form_of(s: &[u8]) -> Result<usize, u8>
@@ -95,15 +76,13 @@ pub fn form_of(s: &[u8]) -> Result<usize, u8>
         return Ok(stop);
     }
     let mark = two_from(s, stop, b'/', b'*');
-    if is_shut(s, mark) {
-        if is_clean(s, stop, mark) {
-            Ok(mark)
-        } else {
-            Err(4)
-        }
-    } else {
-        Err(3)
+    if !is_shut(s, mark) {
+        return Err(3);
     }
+    if !is_clean(s, stop, mark) {
+        return Err(4);
+    }
+    Ok(mark)
 }
 
 // A field's first byte, and the place behind its last.
@@ -134,18 +113,16 @@ pub struct Fields {
 fn count_of(a: Span, b: Span, c: Span, d: Span) -> u8
     ensures { result ≡ count_of a b c d }
 {
-    if a.start < a.stop {
-        if b.start < b.stop {
-            if c.start < c.stop {
-                if d.start < d.stop { 4 } else { 3 }
-            } else {
-                2
-            }
-        } else {
-            1
-        }
-    } else {
+    if a.stop <= a.start {
         0
+    } else if b.stop <= b.start {
+        1
+    } else if c.stop <= c.start {
+        2
+    } else if d.stop <= d.start {
+        3
+    } else {
+        4
     }
 }
 

@@ -29,8 +29,8 @@ pub fn put_quoted(out: &mut [u8], at: usize, s: &[u8]) -> usize
     ensures { Wrote (pen out.old at) (quoted s.now) (pen out.new result) }
 {
     let mut to = put_byte(out, at, b'"');
-    for i in 0..s.len() {
-        to = put_escaped(out, to, s[i]);
+    for &b in s {
+        to = put_escaped(out, to, b);
     }
     put_byte(out, to, b'"')
 }
@@ -75,10 +75,7 @@ pub fn put_positions(out: &mut [u8], at: usize, points: &[i32], first: u32, coun
 fn last_of(first: u32, count: u32) -> usize
     ensures { result ≡ first + (count - 1) }
 {
-    if count == 0 {
-        return first as usize;
-    }
-    first as usize + (count as usize - 1)
+    first as usize + (count as usize).saturating_sub(1)
 }
 
 // The same from the last to the first, and the last once more.

@@ -51,15 +51,14 @@ pub pow-fits : (v i k : ℕ) → v < 10 ^ i → i ≤ k → v < 10 ^ k
 pow-fits v i k h l = omega (arith, pow-le-pow_right {n = 10} (lit< tt) l)
 
 -- ## The cases of `plain`, by what a program tests
+pub nonempty : (s : Bytes) → eqb (length s) 0 ≡ false → 0 < length s
+nonempty [] e = clash e
+nonempty (b ∷ t) e = omega arith
+
 pub plain-empty : (s : Bytes) → length s ≡ 0 → plain s ≡ false
 unfolding plain
 plain-empty [] e = refl
 plain-empty (b ∷ t) e = absurd (omega arith)
-
-pub plain_zero : (s : Bytes) → get_or s 0 0 ≡ 48 → length s ≡ 1 → s ≡ 48 ∷ []
-plain_zero [] e l = absurd (omega arith)
-plain_zero (b ∷ []) e l = rw e
-plain_zero (b ∷ a ∷ t) e l = absurd (omega arith)
 
 pub plain-zeros : (s : Bytes) → get_or s 0 0 ≡ 48 → (length s ≡ 1 → ⊥) → plain s ≡ false
 unfolding plain
@@ -71,6 +70,19 @@ pub plain_other : (s : Bytes) → 0 < length s → (get_or s 0 0 ≡ 48 → ⊥)
 unfolding plain
 plain_other [] h n = absurd (omega arith)
 plain_other (b ∷ t) h n = rw (ne_eqb b 48 n)
+
+plain_one : (b : ℕ) → plain (b ∷ []) ≡ digits (b ∷ [])
+unfolding plain all
+plain_one b = go (eqb b 48) refl
+  where
+    go : (x : Bool) → eqb b 48 ≡ x → plain (b ∷ []) ≡ digits (b ∷ [])
+    go true q = rw (eqb-true b 48 q)
+    go false q = rw q
+
+pub plain_unless : (s : Bytes) → 0 < length s → (get_or s 0 0 ≡ 48 → length s ≤ 1) → plain s ≡ digits s
+plain_unless [] h n = absurd (omega arith)
+plain_unless (b ∷ []) h n = plain_one b
+plain_unless (b ∷ a ∷ t) h n = plain_other (b ∷ a ∷ t) h (λ e. omega (arith, n e))
 
 pub plain-digits : (s : Bytes) → plain s ≡ true → digits s ≡ true
 unfolding plain all

@@ -4,7 +4,7 @@
 #![tactic(auto)]
 
 ghost use Rattle.std.specs.Prelude.{◌≡◌, ◌≤◌, length};
-ghost use Rattle.number.specs.Executable.{number_of, plain_of, if_few, the_integer_of, both_of, the_pair_of, three_of, triple_of, is_name_length_of};
+ghost use Rattle.number.specs.Executable.{number_of, plain_of, if_few, the_integer_of, the_pair_of, triple_of, is_name_length_of};
 
 use scan::{byte_from, is_digit};
 
@@ -18,11 +18,10 @@ fn digits_worth(s: &[u8]) -> Option<u32>
 {
     let mut v: u32 = 0;
     for &b in s {
-        if is_digit(b) {
-            v = v * 10 + ((b - b'0') as u32);
-        } else {
+        if !is_digit(b) {
             return None;
         }
+        v = v * 10 + (b - b'0') as u32;
     }
     Some(v)
 }
@@ -42,13 +41,10 @@ fn plain_worth(s: &[u8]) -> Option<u32>
     requires { length s.now ≤ 9 }
     ensures { result ≡ plain_of s.now }
 {
-    if s.len() == 0 {
+    if s.is_empty() {
         return None;
     }
-    if s[0] == b'0' {
-        if s.len() == 1 {
-            return Some(0);
-        }
+    if s[0] == b'0' && 1 < s.len() {
         return None;
     }
     digits_worth(s)
@@ -74,32 +70,17 @@ pub fn integer_of(s: &[u8]) -> Option<u32>
     plain_worth(s)
 }
 
-// Both, or no pair.
-fn both(a: Option<u32>, b: Option<u32>) -> Option<(u32, u32)>
-    ensures { result ≡ both_of a b }
-{
-    let Some(m) = a else {
-        return None;
-    };
-    let Some(n) = b else {
-        return None;
-    };
-    Some((m, n))
-}
-
 // Two integers, cut at the first dot: a second dot is no digit.
 pub fn pair_of(s: &[u8]) -> Option<(u32, u32)>
     ensures { result ≡ the_pair_of s.now }
 {
-    let p = byte_from(s, 0, b'.');
-    if p < s.len() {
-        let q = p + 1;
-        let a = integer_of(&s[..p]);
-        let b = integer_of(&s[q..]);
-        both(a, b)
-    } else {
-        None
+    let dot = byte_from(s, 0, b'.');
+    if s.len() <= dot {
+        return None;
     }
+    let m = integer_of(&s[..dot])?;
+    let n = integer_of(&s[dot + 1..])?;
+    Some((m, n))
 }
 
 // An identifier x.y.z.
@@ -110,37 +91,22 @@ pub struct Id {
     pub z: u32,
 }
 
-// All three, or no triple.
-fn three(a: Option<u32>, b: Option<(u32, u32)>) -> Option<Id>
-    ensures { result ≡ three_of a b }
-{
-    let Some(x) = a else {
-        return None;
-    };
-    let Some((y, z)) = b else {
-        return None;
-    };
-    Some(Id { x, y, z })
-}
-
 // An integer up to the first dot, and two behind it.
 pub fn triple_of(s: &[u8]) -> Option<Id>
     ensures { result ≡ triple_of s.now }
 {
-    let p = byte_from(s, 0, b'.');
-    if p < s.len() {
-        let q = p + 1;
-        let a = integer_of(&s[..p]);
-        let b = pair_of(&s[q..]);
-        three(a, b)
-    } else {
-        None
+    let dot = byte_from(s, 0, b'.');
+    if s.len() <= dot {
+        return None;
     }
+    let x = integer_of(&s[..dot])?;
+    let (y, z) = pair_of(&s[dot + 1..])?;
+    Some(Id { x, y, z })
 }
 
 // A name has 1 to 128 bytes.
 pub fn is_name_length(n: usize) -> bool
     ensures { result ≡ is_name_length_of n }
 {
-    if 1 <= n { n <= 128 } else { false }
+    1 <= n && n <= 128
 }

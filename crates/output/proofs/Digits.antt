@@ -3,7 +3,6 @@ use mathlib.Core.Path.{◌≡◌, ap, ◌∙◌}
 use mathlib.Core.List.{[], ◌∷◌}
 use Prim.Native.Nat.{ℕ, ◌%◌, ◌<◌}
 use native.Mathlib.Omega.{arith}
-use Rattle.terms.specs.Ascii.{Bytes}
 use Rattle.number.specs.Decimal.{digit_of, decimal}
 use Rattle.number.proofs.Decimals.{decimal-one}
 

@@ -1,29 +1,33 @@
 -- Laws of packed numbers: their length, their bytes, and that two numbers never share them. Assumes nothing.
 use mathlib.Core.Path.{◌≡◌, refl, sym, ap, ◌∙◌}
-use mathlib.Core.List.{List, [], ◌∷◌, ◌++◌}
-use Prim.Native.Nat.{ℕ, zero, suc, ◌+◌, ◌*◌, ◌^◌, ◌/◌, ◌%◌, ◌<◌}
+use mathlib.Core.List.{[], ◌∷◌, ◌++◌}
+use Prim.Native.Nat.{ℕ, zero, suc, ◌^◌, ◌/◌, ◌%◌, ◌<◌}
 use native.Mathlib.Omega.{arith}
 use native.Mathlib.Nat.{pow-suc}
 use lib.ListN.{length, take, drop, length-append}
 use lib.Seq.{take_at, drop_at}
-use Rattle.terms.specs.Ascii.{Bytes}
+use mir.Syntax.{w16, w32}
+use Rattle.std.specs.Int.{to_be_bytes}
 use Rattle.terms.specs.Words.{Each}
 use Rattle.terms.proofs.Lists.{each_append}
 use Rattle.output.specs.Packed.{big_endian}
 
--- ## As the program puts them
+-- ## By their bytes
 pub packed-two : (n : ℕ) → n < 65536 → big_endian 2 n ≡ (n / 256 ∷ []) ++ (n % 256 ∷ [])
 unfolding big_endian
 packed-two n h = let e : n / 256 % 256 ≡ n / 256 = omega arith in rw e
 
-pub packed_four : (n : ℕ) → n < 4294967296 → big_endian 4 n ≡ big_endian 2 (n / 65536) ++ big_endian 2 (n % 65536)
+-- ## As the library gives their bytes
+pub bytes-two : (n : ℕ) → to_be_bytes w16 n ≡ big_endian 2 n
 unfolding big_endian
-packed_four n h =
-    let a : n / 256 / 256 / 256 % 256 ≡ n / 65536 / 256 % 256 = omega arith in
-    let b : n / 256 / 256 % 256 ≡ n / 65536 % 256 = omega arith in
-    let d : n / 256 % 256 ≡ n % 65536 / 256 % 256 = omega arith in
-    let e : n % 256 ≡ n % 65536 % 256 = omega arith in
-    rw (a, b, d, e)
+bytes-two n = refl
+
+pub bytes_four : (n : ℕ) → to_be_bytes w32 n ≡ big_endian 4 n
+unfolding big_endian
+bytes_four n =
+    let a : n / 16777216 % 256 ≡ n / 256 / 256 / 256 % 256 = omega arith in
+    let b : n / 65536 % 256 ≡ n / 256 / 256 % 256 = omega arith in
+    rw (← a, ← b)
 
 -- ## What they are
 pub packed-long : (k n : ℕ) → length (big_endian k n) ≡ k

@@ -48,8 +48,8 @@ pub fn put_bytes(out: &mut [u8], at: usize, s: &[u8]) -> usize
     ensures { Wrote (pen out.old at) s.now (pen out.new result) }
 {
     let mut to = at;
-    for i in 0..s.len() {
-        to = put_byte(out, to, s[i]);
+    for &b in s {
+        to = put_byte(out, to, b);
     }
     to
 }
@@ -132,9 +132,9 @@ pub fn put_coordinate(out: &mut [u8], at: usize, z: i32) -> usize
 {
     if z < 0 {
         let a = put_byte(out, at, b'-');
-        return put_degrees(out, a, (0 - (z as i64)) as u32);
+        return put_degrees(out, a, z.unsigned_abs());
     }
-    put_degrees(out, at, z as u32)
+    put_degrees(out, at, z.unsigned_abs())
 }
 
 // ## Packed numbers, the high byte first
@@ -142,15 +142,13 @@ pub fn put_coordinate(out: &mut [u8], at: usize, z: i32) -> usize
 pub fn put_u16_be(out: &mut [u8], at: usize, n: u16) -> usize
     ensures { Wrote (pen out.old at) (big_endian 2 n) (pen out.new result) }
 {
-    let a = put_byte(out, at, (n / 256) as u8);
-    put_byte(out, a, (n % 256) as u8)
+    put_bytes(out, at, &n.to_be_bytes())
 }
 
 pub fn put_u32_be(out: &mut [u8], at: usize, n: u32) -> usize
     ensures { Wrote (pen out.old at) (big_endian 4 n) (pen out.new result) }
 {
-    let a = put_u16_be(out, at, (n / 65536) as u16);
-    put_u16_be(out, a, (n % 65536) as u16)
+    put_bytes(out, at, &n.to_be_bytes())
 }
 
 // ## The whole output
@@ -159,16 +157,14 @@ pub fn put_u32_be(out: &mut [u8], at: usize, n: u32) -> usize
 pub fn clear_output(out: &mut [u8])
     ensures { out.new ≡ zero_bytes (length out.old) }
 {
-    for i in 0..out.len() {
-        out[i] = 0;
-    }
+    out.fill(0);
 }
 
 // All was put up to this place: it is not past the size limit, nor behind the output's end.
 fn is_within(lent: usize, at: usize) -> bool
     ensures { result ≡ within lent at }
 {
-    if at <= MOST { at <= lent } else { false }
+    at <= MOST && at <= lent
 }
 
 // The end of a writing at a place: it stays if all of it is there, else the output is zero over its whole length.

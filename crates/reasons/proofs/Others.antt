@@ -1,15 +1,14 @@
--- A number that one part of the table of reasons does not have, as its last arm meets it: the next part has it, or none; and the two cases of 11. Assumes nothing.
-use mathlib.Core.Path.{◌≡◌, refl, sym, ◌∙◌}
+-- A number that the table of reasons does not have, as its last arm meets it; and the two cases of 11. Assumes nothing.
+use mathlib.Core.Path.{◌≡◌, refl, sym}
 use mathlib.Core.Bool.{Bool, true, false}
 use mathlib.Core.Logic.{◌⊎◌, inl, inr, ⊎_elim}
-use Prim.Native.Nat.{ℕ, zero, suc, ◌+◌, ◌-◌, ◌<◌, ◌≤◌}
+use Prim.Native.Nat.{ℕ, zero, suc, ◌+◌, ◌<◌, ◌≤◌}
 use native.Mathlib.Omega.{arith}
 use lib.Dec.{eqb, ltb}
 use lib.ListN.{get_or-eq_default}
-use borrow.Author.Tests.{eq-eqb, ne_eqb, ltb-true, ltb-false, lt-ltb, le-ltb}
+use borrow.Author.Tests.{eq-eqb, ne_eqb, ltb-true, ltb-false}
 use Rattle.terms.specs.Words.{pick}
 use Rattle.reasons.specs.Reasons.{reason, reasons, no_reason, reason_of, short_work}
-use Rattle.reasons.specs.Parts.{reason_from}
 
 -- none of so many numbers from this one on
 abbrev pub NoneOf : (first many n : ℕ) → Type 0
@@ -27,35 +26,20 @@ outside : (first many n : ℕ) → NoneOf first many n → (n < first) ⊎ (firs
 outside first zero n h = ⊎_elim (λ (l : n < first). inl l) (λ (l : first ≤ n). inr (omega arith)) (below_or_not n first)
 outside first (suc many) n h = ⊎_elim (λ (l : n < first). inl l) (λ (l : first + many ≤ n). inr (let d = h.1 in omega (arith, d))) (outside first many n h.0)
 
--- the next part has what this one does not have
-pub handed-on : (first many n : ℕ) → NoneOf first many n → reason_from (first + many) n ≡ reason_from first n
-unfolding reason_from
-handed-on first many n h =
-    ⊎_elim
-    (λ (l : n < first). let k : n < first + many = omega arith in rw (lt-ltb n first l, lt-ltb n (first + many) k) refl)
-    (λ (l : first + many ≤ n). let k : first ≤ n = omega arith in rw (le-ltb n first k, le-ltb n (first + many) l) refl)
-    (outside first many n h)
-
--- the whole table begins at 1
-pub from_one : (n : ℕ) → reason_from 1 n ≡ reason n
-unfolding reason_from reason reasons
-from_one zero = refl
-from_one (suc n) = let l : 1 ≤ suc n = omega arith in rw (le-ltb (suc n) 1 l) refl
+-- it begins at 1
+before : (n : ℕ) → n < 1 → reason n ≡ no_reason
+unfolding reason reasons
+before zero l = refl
+before (suc n) l = absurd (omega arith)
 
 -- it ends before 32
 behind : (n : ℕ) → 32 ≤ n → reason n ≡ no_reason
 unfolding reason reasons
 behind n l = get_or-eq_default reasons no_reason {n = n} (omega arith)
 
--- the last part has five numbers
-pub none_else : (n : ℕ) → NoneOf 27 5 n → no_reason ≡ reason_from 27 n
-unfolding reason_from
-none_else n h =
-    sym
-    (⊎_elim
-    (λ (l : n < 27). rw (lt-ltb n 27 l) refl)
-    (λ (l : 32 ≤ n). let k : 27 ≤ n = omega arith in rw (le-ltb n 27 k) (behind n l))
-    (outside 27 5 n h))
+-- a number that is none of the table's
+pub none_else : (n : ℕ) → NoneOf 1 31 n → no_reason ≡ reason n
+none_else n h = sym (⊎_elim (λ (l : n < 1). before n l) (λ (l : 32 ≤ n). behind n l) (outside 1 31 n h))
 
 -- ## 11 of file 0, and every other
 module _ (file number : ℕ) where

@@ -1,3 +1,2 @@
 -- The words of refusals.
 pub mod Reasons
-pub mod Parts

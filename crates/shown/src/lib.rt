@@ -40,8 +40,8 @@ fn put_shown(out: &mut [u8], at: usize, line: &[u8]) -> usize
     ensures { Wrote (pen out.old at) (shown line.now) (pen out.new result) }
 {
     let mut to = at;
-    for i in 0..line.len() {
-        to = put_shown_byte(out, to, line[i]);
+    for &b in line {
+        to = put_shown_byte(out, to, b);
     }
     to
 }
@@ -62,8 +62,8 @@ fn put_blanks(out: &mut [u8], at: usize, line: &[u8]) -> usize
     ensures { Wrote (pen out.old at) (blanks line.now) (pen out.new result) }
 {
     let mut to = at;
-    for i in 0..line.len() {
-        to = put_blank(out, to, line[i]);
+    for &b in line {
+        to = put_blank(out, to, b);
     }
     to
 }
@@ -124,10 +124,7 @@ pub fn line_of(text: &[u8], wanted: u32) -> &[u8]
 pub fn from_column(line: &[u8], column: u32) -> &[u8]
     ensures { result.now ≡ drop (column - 1) line.now }
 {
-    if column == 0 {
-        return line;
-    }
-    let from = column as usize - 1;
+    let from = (column as usize).saturating_sub(1);
     if from < line.len() {
         &line[from..]
     } else {

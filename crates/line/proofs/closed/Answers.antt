@@ -1,5 +1,6 @@
 -- `line::closed` meets its contract. Assumes nothing.
 use mathlib.Core.Path.{sym, ap, ◌∙◌}
+use borrow.Author.Tests.{le-ltb}
 use Prim.Native.Nat.{◌+◌, ◌-◌}
 use native.Mathlib.Omega.{arith}
 use lib.ListN.{length, drop, length-drop}
@@ -33,4 +34,4 @@ pub returns-else-e-s : goal.returns-else-e-s
 returns-else-e-s c =
     let s = c.args.s.now in
     let q = c.two_from-e.ensures ∙ from_start shuts s in
-    sym (closes-none s (rw q at c.if-e-s.false))
+    le-ltb _ _ c.if-e-s.false ∙ sym (closes-none s (rw q at c.if-e-s.false))

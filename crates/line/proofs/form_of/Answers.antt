@@ -32,18 +32,18 @@ is_clean-requires c =
     let m = c.two_from-mark.ensures ∙ ap (reach opens s) p ∙ opens-from s in
     (p, m)
 
-pub returns-then-is_clean : goal.returns-then-is_clean
+pub returns-then-not-is_shut : goal.returns-then-not-is_shut
 unfolding form_of
-returns-then-is_clean c =
+returns-then-not-is_shut c = simp (le-leb _ _ c.if-s-gt512.false, sym c.is_shut.ensures, c.if-not-is_shut.true)
+
+pub returns-then-not-is_clean : goal.returns-then-not-is_clean
+unfolding form_of
+returns-then-not-is_clean c = simp (le-leb _ _ c.if-s-gt512.false, sym c.is_shut.ensures, sym c.is_clean.ensures, c.if-not-is_shut.false, c.if-not-is_clean.true)
+
+pub returns : goal.returns
+unfolding form_of
+returns c =
     let s = c.args.s.now in
     let p = c.plain_from-stop.ensures ∙ from_start (fails plain) s in
     let m = c.two_from-mark.ensures ∙ ap (reach opens s) p ∙ opens-from s in
-    simp (le-leb _ _ c.if-s-gt512.false, sym c.is_shut.ensures, sym c.is_clean.ensures, c.if-is_shut.true, c.if-is_clean.true, m)
-
-pub returns-else-is_clean : goal.returns-else-is_clean
-unfolding form_of
-returns-else-is_clean c = simp (le-leb _ _ c.if-s-gt512.false, sym c.is_shut.ensures, sym c.is_clean.ensures, c.if-is_shut.true, c.if-is_clean.false)
-
-pub returns-else-is_shut : goal.returns-else-is_shut
-unfolding form_of
-returns-else-is_shut c = simp (le-leb _ _ c.if-s-gt512.false, sym c.is_shut.ensures, c.if-is_shut.false)
+    simp (le-leb _ _ c.if-s-gt512.false, sym c.is_shut.ensures, sym c.is_clean.ensures, c.if-not-is_shut.false, c.if-not-is_clean.false, m)

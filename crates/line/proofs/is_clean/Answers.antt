@@ -45,4 +45,4 @@ returns-else-outside_bytes c =
     let k = c.args.mark in
     let o = ap (λ (i : ℕ). all outside (take (k - i) (drop i s))) c.requires.0 ∙ ap (λ (m : ℕ). all outside (take (m - up_to (fails plain) s) (drop (up_to (fails plain) s) s))) c.requires.1 ∙ outer-from s in
     let b = sym c.if-outside_bytes.false ∙ c.outside_bytes.ensures ∙ o in
-    ap (λ x. x && all inside (note_of s)) b
+    c.if-outside_bytes.false ∙ ap (λ x. x && all inside (note_of s)) b

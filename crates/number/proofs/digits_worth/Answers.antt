@@ -11,16 +11,16 @@ use Rattle.scan.specs.Allowed.{digit, all}
 use Rattle.number.specs.Executable.{worth, number_of}
 use Rattle.number.proofs.Digits.{digit-range, digits-no, digits-go, worth-go, pow_more, pow-fits}
 use Rattle.number.proofs.digits_worth.Goals as goal
-use Rattle.number.proofs.digits_worth.Goals.{Then-is_digit}
+use Rattle.number.proofs.digits_worth.Goals.{Else-not-is_digit}
 
 -- the byte read in a turn
-abbrev byte : Then-is_digit → ℕ
+abbrev byte : Else-not-is_digit → ℕ
 byte c = get_or c.args.s.now c.loop-b.b-index 0
 
-is_digit : (c : Then-is_digit) → digit (byte c) ≡ true
-is_digit c = sym c.is_digit.ensures ∙ c.if-is_digit.true
+is_digit : (c : Else-not-is_digit) → digit (byte c) ≡ true
+is_digit c = sym c.is_digit.ensures ∙ c.if-not-is_digit.false
 
-in-range : (c : Then-is_digit) → (48 ≤ byte c) × (byte c ≤ 57)
+in-range : (c : Else-not-is_digit) → (48 ≤ byte c) × (byte c ≤ 57)
 in-range c = digit-range (byte c) (is_digit c)
 
 pub overflow_mul-v : goal.overflow_mul-v
@@ -31,26 +31,26 @@ overflow_mul-v c =
 pub overflow_add-v : goal.overflow_add-v
 overflow_add-v c =
     let l = c.loop-b in
-    omega (arith, pow-fits l.v l.b-index 8 l.invariant.0 (omega arith), in-range (goal.at.overflow_add-v c).Then-is_digit)
+    omega (arith, pow-fits l.v l.b-index 8 l.invariant.0 (omega arith), in-range (goal.at.overflow_add-v c).Else-not-is_digit)
 
 pub loop-b-preserved : goal.loop-b-preserved
 loop-b-preserved c =
     let s = c.args.s.now in
     let i = c.loop-b.b-index in
     let v = c.loop-b.v in
-    let d = is_digit (goal.at.loop-b-preserved c).Then-is_digit in
-    let b = in-range (goal.at.loop-b-preserved c).Then-is_digit in (
+    let d = is_digit (goal.at.loop-b-preserved c).Else-not-is_digit in
+    let b = in-range (goal.at.loop-b-preserved c).Else-not-is_digit in (
       pow_more v (get_or s i 0 - 48) i c.loop-b.invariant.0 (omega arith),
       worth-go s i (omega arith) v ∙ c.loop-b.invariant.1,
       digits-go s i (omega arith) d ∙ c.loop-b.invariant.2,
     )
 
-pub returns-else-is_digit : goal.returns-else-is_digit
+pub returns-then-not-is_digit : goal.returns-then-not-is_digit
 unfolding number_of
-returns-else-is_digit c =
+returns-then-not-is_digit c =
     let s = c.args.s.now in
     let i = c.loop-b.b-index in
-    let d : digit (get_or s i 0) ≡ false = sym c.is_digit.ensures ∙ c.if-is_digit.false in
+    let d : digit (get_or s i 0) ≡ false = sym c.is_digit.ensures ∙ c.if-not-is_digit.true in
     rw (sym c.loop-b.invariant.2, digits-no s i (omega arith) d)
 
 pub returns : goal.returns

@@ -1,31 +1,45 @@
 -- `number::pair_of` meets its contract: cut at the first dot. Assumes nothing.
-use mathlib.Core.Path.{◌≡◌, sym, ap, ap₂, ◌∙◌}
+use mathlib.Core.Path.{◌≡◌, sym, ap, ◌∙◌}
 use Prim.Native.Nat.{◌+◌, ◌-◌}
 use native.Mathlib.Omega.{arith}
 use borrow.Author.Tests.{lt-ltb, le-ltb}
 use lib.ListN.{length, drop, length-drop}
-use lib.Seq.{take_all, length-take-le}
+use lib.Seq.{take_all}
 use Rattle.scan.specs.Reach.{stops_by}
 use Rattle.scan.specs.declared.Until.TheVariants.{Byte}
 use Rattle.scan.proofs.Reach.{from_start}
-use Rattle.number.specs.Executable.{dot, the_integer_of, both_of, the_pair_of}
+use Rattle.number.specs.Executable.{dot, the_integer_of, the_pair_of}
 use Rattle.number.proofs.pair_of.Goals as goal
 
-pub slice_bounds-integer_of-end : goal.slice_bounds-integer_of-end
-slice_bounds-integer_of-end c = sym (length-take-le c.byte_from-p.result c.args.s.now (omega arith))
-
-pub returns-then-p-s : goal.returns-then-p-s
+pub returns-then-s-dot : goal.returns-then-s-dot
 unfolding the_pair_of
-returns-then-p-s c =
+returns-then-s-dot c =
     let s = c.args.s.now in
-    let q : c.byte_from-p.result ≡ dot s = c.byte_from-p.ensures ∙ from_start (stops_by (Byte 46)) s in
-    let k = c.byte_from-p.result + 1 in
+    let q : c.byte_from-dot.result ≡ dot s = c.byte_from-dot.ensures ∙ from_start (stops_by (Byte 46)) s in
+    rw (← q, le-ltb _ _ c.if-s-dot.true)
+
+pub returns-in_err-m : goal.returns-in_err-m
+unfolding the_pair_of
+returns-in_err-m c =
+    let s = c.args.s.now in
+    let q : c.byte_from-dot.result ≡ dot s = c.byte_from-dot.ensures ∙ from_start (stops_by (Byte 46)) s in
+    rw (c.from_residual.ensures, ← q, lt-ltb _ _ c.if-s-dot.false, ← c.integer_of.ensures, c.in_err-m.was)
+
+pub returns-in_err-n : goal.returns-in_err-n
+unfolding the_pair_of
+returns-in_err-n c =
+    let s = c.args.s.now in
+    let q : c.byte_from-dot.result ≡ dot s = c.byte_from-dot.ensures ∙ from_start (stops_by (Byte 46)) s in
+    let k = c.byte_from-dot.result + 1 in
     let t = take_all (length s - k) (drop k s) (omega (arith, length-drop k s)) in
-    rw (← q, lt-ltb _ _ c.if-p-s.true) (c.both.ensures ∙ ap₂ both_of c.integer_of-a.ensures (c.integer_of-b.ensures ∙ ap the_integer_of t))
+    rw (c.from_residual-in_err-n.ensures, ← q, lt-ltb _ _ c.if-s-dot.false, ← c.integer_of.ensures, c.in_ok-m.was, ← t, ← c.integer_of-2.ensures, c.in_err-n.was)
 
-pub returns-else-p-s : goal.returns-else-p-s
+pub returns : goal.returns
 unfolding the_pair_of
-returns-else-p-s c =
+returns c =
     let s = c.args.s.now in
-    let q : c.byte_from-p.result ≡ dot s = c.byte_from-p.ensures ∙ from_start (stops_by (Byte 46)) s in
-    rw (← q, le-ltb _ _ c.if-p-s.false)
+    let q : c.byte_from-dot.result ≡ dot s = c.byte_from-dot.ensures ∙ from_start (stops_by (Byte 46)) s in
+    let k = c.byte_from-dot.result + 1 in
+    let t = take_all (length s - k) (drop k s) (omega (arith, length-drop k s)) in
+    let n : the_integer_of (drop k s) ≡ _ = ap the_integer_of (sym t) ∙ sym c.integer_of-2.ensures ∙ c.in_ok-n.was in
+    rw (← q, lt-ltb _ _ c.if-s-dot.false, ← c.integer_of.ensures, c.in_ok-m.was, n)

@@ -3,14 +3,15 @@ use Rattle.terms.specs.Ascii.{ascii}
 use Rattle.output.proofs.Writing.{same}
 use Rattle.reasons.proofs.Others.{of-a-file, of_another, of_work}
 use Rattle.reasons.proofs.put_reason_of.Goals as goal
+use Rattle.reasons.proofs.put_reason_of.Goals.{else-file-eq0-via-then-file-eq0+else-number-eq11, else-file-eq0-via-else-file-eq0}
 
-pub returns-then-file-ne0 : goal.returns-then-file-ne0
-returns-then-file-ne0 c = same (of-a-file _ _ c.if-file-ne0.true) c.put_reason.ensures
-
-pub returns-then-number-ne11 : goal.returns-then-number-ne11
-returns-then-number-ne11 c = same (of_another _ _ c.if-number-ne11.true) c.put_reason-then-number-ne11.ensures
+pub returns-then-number-eq11 : goal.returns-then-number-eq11
+unfolding ascii
+returns-then-number-eq11 c = same (of_work _ _ c.if-file-eq0.true c.if-number-eq11.true) c.put_bytes.ensures
 
 pub returns : goal.returns
-unfolding ascii
 returns c =
-    same (of_work _ _ c.if-file-ne0.false c.if-number-ne11.false) c.put_bytes.ensures
+    elim c.else-file-eq0.branch [
+      | else-file-eq0-via-then-file-eq0+else-number-eq11 w ↦ same (of_another _ _ w.if-number-eq11.false) c.put_reason.ensures
+      | else-file-eq0-via-else-file-eq0 w ↦ same (of-a-file _ _ w.if-file-eq0.false) c.put_reason.ensures
+    ]

@@ -1,4 +1,4 @@
--- `shown::put_blanks` meets its contract: what is put is of the first i bytes. Assumes nothing.
+-- `shown::put_blanks` meets its contract: what is put is of the bytes so far. Assumes nothing.
 use mathlib.Core.Path.{refl, sym, ap, ◌∙◌}
 use Prim.Native.Nat.{◌<◌}
 use native.Mathlib.Numerals.{add-one}
@@ -10,22 +10,20 @@ use Rattle.shown.specs.Shown.{blanks}
 use Rattle.shown.proofs.Laws.{blanks-none, blanks-last}
 use Rattle.shown.proofs.put_blanks.Goals as goal
 
-pub loop-i-init : goal.loop-i-init
-loop-i-init c = (omega arith, refl, refl, same blanks-none none)
+pub loop-b-init : goal.loop-b-init
+loop-b-init c = (refl, same blanks-none none)
 
-pub loop-i-preserved : goal.loop-i-preserved
-loop-i-preserved c =
-    let l = c.loop-i in
-    let a = c.args in
-    let h : l.i < length a.line.now = omega arith in (
-      omega arith,
-      refl,
-      c.put_blank-to.auto.out ∙ l.invariant.2,
-      same (blanks-last (take l.i a.line.now) _ ∙ ap blanks (sym (rw add-one (take-suc a.line.now l.i 0 h)))) (l.invariant.3 then c.put_blank-to.ensures),
+pub loop-b-preserved : goal.loop-b-preserved
+loop-b-preserved c =
+    let l = c.loop-b in
+    let line = c.args.line.now in
+    let h : l.b-index < length line = omega arith in (
+      c.put_blank-to.auto.out ∙ l.invariant.0,
+      same (blanks-last (take l.b-index line) _ ∙ ap blanks (sym (rw add-one (take-suc line l.b-index 0 h)))) (l.invariant.1 then c.put_blank-to.ensures),
     )
 
 pub shape_of-out : goal.shape_of-out
-shape_of-out c = c.loop-i.invariant.2
+shape_of-out c = c.loop-b.invariant.0
 
 pub returns : goal.returns
-returns c = same (ap blanks (take_all c.loop-i.i c.args.line.now (omega arith))) c.loop-i.invariant.3
+returns c = same (ap blanks (take_all c.loop-b.b-index c.args.line.now (omega arith))) c.loop-b.invariant.1
