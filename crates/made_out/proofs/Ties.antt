@@ -15,10 +15,10 @@ use Rattle.number.specs.Executable.{the_integer_of, the_pair_of, triple_of, is_n
 use Rattle.coordinate.specs.Executable.{the_coordinate_of}
 use Rattle.word.specs.Number.{boundary_number}
 use Rattle.word.proofs.Boundary.{boundary-most}
-use Rattle.grammar.specs.Statements.{Kind, Boundary, RNDF_name_of, num_segments, num_zones, format_version_of, creation_date_of, segment, num_lanes, segment_name_of, end_segment, lane, num_waypoints, lane_width_of, left_boundary_of, right_boundary_of, checkpoint, stop, exit, end_lane_of, zone, num_spots, zone_name_of, end_zone, perimeter, num_perimeterpoints, end_perimeter, spot, spot_width_of, end_spot, end_file_of, point}
+use Rattle.grammar.specs.Statements.{Kind, RNDF_name_of, num_segments, num_zones, format_version_of, creation_date_of, segment, num_lanes, segment_name_of, end_segment, lane, num_waypoints, lane_width_of, left_boundary_of, right_boundary_of, checkpoint, stop, exit, end_lane_of, zone, num_spots, zone_name_of, end_zone, perimeter, num_perimeterpoints, end_perimeter, spot, spot_width_of, end_spot, end_file_of, point}
 use Rattle.grammar.specs.PlaceRows.{kind_row}
 use Rattle.grammar.specs.Renamed.{says_named}
-use Rattle.text.specs.Judge.{Vals, read, read_all, both, number, pair_from, triple_from, degrees, boundary_from, a_name}
+use Rattle.text.specs.Judge.{read, read_all, both, number, pair_from, triple_from, degrees, boundary_from, a_name}
 use Rattle.text.specs.RndfWords.{word_at, rndf_sorts, rndf_make}
 use Rattle.statement.specs.declared.Statement.{Statement}
 use Rattle.statement.specs.declared.Statement.TheVariants as st

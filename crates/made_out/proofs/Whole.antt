@@ -1,6 +1,6 @@
 -- The program's answers are those of `made_of` and `order_made_of` wherever a reader asks: of a known kind, on a line whose end fits into 32 bits.
 -- And what the line has of a stretch is the stretch, cut at the line's end. Assumes nothing.
-use mathlib.Core.Path.{◌≡◌, refl, sym, ap, ◌∙◌}
+use mathlib.Core.Path.{◌≡◌, refl, sym, ◌∙◌}
 use mathlib.Core.List.{[]}
 use Prim.Native.Nat.{ℕ, ◌+◌, ◌-◌, ◌≤◌, ◌<◌}
 use native.Mathlib.Omega.{arith}

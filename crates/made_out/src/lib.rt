@@ -27,11 +27,12 @@ const SHAPE: [u8; 30] = [
     1, 2, 2, 1, 1, 2, 2, 1, 0, 3, 2, 2, 4, 4, 5, 6, 7, 0, 2, 2, 1, 0, 3, 2, 0, 3, 2, 0, 0, 8,
 ];
 
-fn shape_of(kind: usize) -> u8
+// What stands behind the keyword of a kind.
+pub fn shape_of(kind: u8) -> u8
     requires { kind < 30 }
     ensures { result ≡ get_or shapes kind 0 }
 {
-    SHAPE[kind]
+    SHAPE[kind as usize]
 }
 
 pub fn bare(kind: u8) -> Statement
@@ -117,11 +118,7 @@ fn field(s: &[u8], f: Span) -> &[u8]
 pub fn line_fits(base: usize, length: usize) -> bool
     ensures { result ≡ ltb (base + length) 4294967296 }
 {
-    if length < 4294967296 {
-        base < 4294967296 - length
-    } else {
-        false
-    }
+    length < 4294967296 && base < 4294967296 - length
 }
 
 // The statement of each shape.
@@ -141,18 +138,13 @@ fn name_made(kind: u8, base: usize, s: &[u8], f: Span) -> Option<Statement>
 fn number_made(kind: u8, n: Option<u32>) -> Option<Statement>
     ensures { result ≡ number_made_of kind n }
 {
-    let Some(v) = n else {
-        return None;
-    };
-    Some(numbered(kind, v))
+    Some(numbered(kind, n?))
 }
 
 fn pair_made(kind: u8, p: Option<(u32, u32)>) -> Option<Statement>
     ensures { result ≡ pair_made_of kind p }
 {
-    let Some((m, n)) = p else {
-        return None;
-    };
+    let (m, n) = p?;
     Some(paired(kind, m, n))
 }
 
@@ -165,49 +157,25 @@ fn side_made(kind: u8, b: u8) -> Option<Statement>
 fn checkpoint_made(i: Option<Id>, n: Option<u32>) -> Option<Statement>
     ensures { result ≡ checkpoint_made_of i n }
 {
-    let Some(w) = i else {
-        return None;
-    };
-    let Some(v) = n else {
-        return None;
-    };
-    Some(Statement::Checkpoint(w, v))
+    Some(Statement::Checkpoint(i?, n?))
 }
 
 fn stop_made(i: Option<Id>) -> Option<Statement>
     ensures { result ≡ stop_made_of i }
 {
-    let Some(w) = i else {
-        return None;
-    };
-    Some(Statement::Stop(w))
+    Some(Statement::Stop(i?))
 }
 
 fn exit_made(i: Option<Id>, j: Option<Id>) -> Option<Statement>
     ensures { result ≡ exit_made_of i j }
 {
-    let Some(w) = i else {
-        return None;
-    };
-    let Some(e) = j else {
-        return None;
-    };
-    Some(Statement::Exit(w, e))
+    Some(Statement::Exit(i?, j?))
 }
 
 fn point_made(i: Option<Id>, a: Option<i32>, o: Option<i32>) -> Option<Statement>
     ensures { result ≡ point_made_of i a o }
 {
-    let Some(w) = i else {
-        return None;
-    };
-    let Some(latitude) = a else {
-        return None;
-    };
-    let Some(longitude) = o else {
-        return None;
-    };
-    Some(Statement::Point(w, latitude, longitude))
+    Some(Statement::Point(i?, a?, o?))
 }
 
 // How many fields a line of the kind has, its keyword among them; none for a row that is no kind.
@@ -215,7 +183,7 @@ pub fn fields_needed(kind: u8) -> u8
     ensures { result ≡ fields_needed_of kind }
 {
     if kind < 30 {
-        let shape = shape_of(kind as usize);
+        let shape = shape_of(kind);
         match shape {
             0 => 1,
             5 => 3,
@@ -235,7 +203,7 @@ fn made_of_kind(s: &[u8], base: usize, f: Fields, kind: u8) -> Option<Statement>
     let a = f.a;
     let b = f.b;
     let c = f.c;
-    let shape = shape_of(kind as usize);
+    let shape = shape_of(kind);
     match shape {
         0 => Some(bare(kind)),
         1 => name_made(kind, base, s, b),
@@ -257,22 +225,21 @@ fn made_of_kind(s: &[u8], base: usize, f: Fields, kind: u8) -> Option<Statement>
 pub fn made_out(s: &[u8], base: usize, f: Fields, kind: u8) -> Option<Statement>
     ensures { result ≡ made_within s.now base f kind }
 {
-    if kind < 30 {
-        if line_fits(base, s.len()) {
-            return made_of_kind(s, base, f, kind);
-        }
+    if kind < 30 && line_fits(base, s.len()) {
+        made_of_kind(s, base, f, kind)
+    } else {
+        None
     }
-    None
 }
 
 // What stands behind the keyword: 0 nothing, 1 a name, 2 an integer; 3 and 4: no keyword, one integer, three.
 const ORDER_SHAPE: [u8; 13] = [1, 1, 1, 1, 0, 2, 0, 0, 2, 0, 0, 3, 4];
 
-fn order_shape(kind: usize) -> u8
+fn order_shape(kind: u8) -> u8
     requires { kind < 13 }
     ensures { result ≡ get_or order_shapes kind 0 }
 {
-    ORDER_SHAPE[kind]
+    ORDER_SHAPE[kind as usize]
 }
 
 fn bare_order(kind: u8) -> Order
@@ -324,32 +291,20 @@ fn name_ordered(kind: u8, base: usize, s: &[u8], f: Span) -> Option<Order>
 fn number_ordered(kind: u8, n: Option<u32>) -> Option<Order>
     ensures { result ≡ number_ordered_of kind n }
 {
-    let Some(v) = n else {
-        return None;
-    };
-    Some(numbered_order(kind, v))
+    Some(numbered_order(kind, n?))
 }
 
 fn limit_ordered(i: Option<u32>, a: Option<u32>, b: Option<u32>) -> Option<Order>
     ensures { result ≡ limit_ordered_of i a b }
 {
-    let Some(id) = i else {
-        return None;
-    };
-    let Some(minimum) = a else {
-        return None;
-    };
-    let Some(maximum) = b else {
-        return None;
-    };
-    Some(Order::Limit(id, minimum, maximum))
+    Some(Order::Limit(i?, a?, b?))
 }
 
 pub fn order_fields_needed(kind: u8) -> u8
     ensures { result ≡ order_fields_needed_of kind }
 {
     if kind < 13 {
-        let shape = order_shape(kind as usize);
+        let shape = order_shape(kind);
         match shape {
             0 => 1,
             3 => 1,
@@ -368,7 +323,7 @@ fn order_of_kind(s: &[u8], base: usize, f: Fields, kind: u8) -> Option<Order>
     let a = f.a;
     let b = f.b;
     let c = f.c;
-    let shape = order_shape(kind as usize);
+    let shape = order_shape(kind);
     match shape {
         0 => Some(bare_order(kind)),
         1 => name_ordered(kind, base, s, b),
@@ -386,10 +341,9 @@ fn order_of_kind(s: &[u8], base: usize, f: Fields, kind: u8) -> Option<Order>
 pub fn order_made_out(s: &[u8], base: usize, f: Fields, kind: u8) -> Option<Order>
     ensures { result ≡ order_made_within s.now base f kind }
 {
-    if kind < 13 {
-        if line_fits(base, s.len()) {
-            return order_of_kind(s, base, f, kind);
-        }
+    if kind < 13 && line_fits(base, s.len()) {
+        order_of_kind(s, base, f, kind)
+    } else {
+        None
     }
-    None
 }

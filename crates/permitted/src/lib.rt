@@ -23,47 +23,35 @@ use units::{
 pub fn lane_width(n: u32) -> bool
     ensures { result ≡ is_at_most n }
 {
-    match Feet::new(n) {
-        Some(_) => true,
-        None => false,
-    }
+    Feet::new(n).is_some()
 }
 
 // A spot's width: 0 is none.
 pub fn spot_width(n: u32) -> bool
     ensures { result ≡ is_counted n }
 {
-    if 1 <= n { lane_width(n) } else { false }
+    1 <= n && lane_width(n)
 }
 
 // A speed.
 fn speed(n: u32) -> bool
     ensures { result ≡ is_at_most n }
 {
-    match Mph::new(n) {
-        Some(_) => true,
-        None => false,
-    }
+    Mph::new(n).is_some()
 }
 
 // The number of a checkpoint, or of a goal.
 pub fn checkpoint_number(n: u32) -> bool
     ensures { result ≡ is_counted n }
 {
-    match CheckpointNumber::new(n) {
-        Some(_) => true,
-        None => false,
-    }
+    CheckpointNumber::new(n).is_some()
 }
 
 // The identifier of a segment or zone.
 fn segment_id(n: u32) -> bool
     ensures { result ≡ is_counted n }
 {
-    match SegmentId::new(n) {
-        Some(_) => true,
-        None => false,
-    }
+    SegmentId::new(n).is_some()
 }
 
 // So many zones behind c segments: the last one's identifier is not over the largest. 01: "zones M+1 to M+N", "M + N ≤ 32,768".
@@ -78,7 +66,7 @@ pub fn up_to(c: u32, n: u32) -> bool
 pub fn counted(n: u32) -> bool
     ensures { result ≡ is_counted n }
 {
-    if 1 <= n { n <= LARGEST_INTEGER } else { false }
+    1 <= n && n <= LARGEST_INTEGER
 }
 
 // One that may be 0.
@@ -101,134 +89,90 @@ pub fn the_number(due: u64, n: u32) -> bool
 pub fn the_part(m: u32, due: u64, a: u32, b: u32) -> bool
     ensures { result ≡ is_the_part m due a b }
 {
-    if m == a { due == b as u64 } else { false }
+    m == a && due == b as u64
 }
 
 // The point m.n.k.
 fn is_point(m: u32, n: u32, k: u64, i: Id) -> bool
     ensures { result ≡ is_point_of m n k i }
 {
-    if m == i.x {
-        if n == i.y { k == i.z as u64 } else { false }
-    } else {
-        false
-    }
+    m == i.x && (n == i.y && k == i.z as u64)
 }
 
 // Millionths of a degree from the equator.
 fn latitude(z: i32) -> bool
     ensures { result ≡ is_latitude z }
 {
-    if LEAST_LATITUDE <= z {
-        z <= LARGEST_LATITUDE
-    } else {
-        false
-    }
+    LEAST_LATITUDE <= z && z <= LARGEST_LATITUDE
 }
 
 // And from the first meridian.
 fn longitude(z: i32) -> bool
     ensures { result ≡ is_longitude z }
 {
-    if LEAST_LONGITUDE <= z {
-        z <= LARGEST_LONGITUDE
-    } else {
-        false
-    }
+    LEAST_LONGITUDE <= z && z <= LARGEST_LONGITUDE
 }
 
 fn on_earth(a: i32, o: i32) -> bool
     ensures { result ≡ (is_latitude a && is_longitude o) }
 {
-    if latitude(a) { longitude(o) } else { false }
+    latitude(a) && longitude(o)
 }
 
 // The point m.n.due, somewhere on earth.
 pub fn the_point(m: u32, n: u32, due: u64, i: Id, a: i32, o: i32) -> bool
     ensures { result ≡ is_the_point m n due i a o }
 {
-    if is_point(m, n, due, i) {
-        on_earth(a, o)
-    } else {
-        false
-    }
+    is_point(m, n, due, i) && on_earth(a, o)
 }
 
 // From the first to the last.
 fn numbered(first: u32, last: u32, n: u32) -> bool
     ensures { result ≡ is_numbered first last n }
 {
-    if first <= n { n <= last } else { false }
+    first <= n && n <= last
 }
 
 // A point of the part m.n, which has w.
 pub fn own_stop(m: u32, n: u32, w: u32, i: Id) -> bool
     ensures { result ≡ is_own_stop m n w i }
 {
-    if is_point(m, n, i.z as u64, i) {
-        numbered(1, w, i.z)
-    } else {
-        false
-    }
+    is_point(m, n, i.z as u64, i) && numbered(1, w, i.z)
 }
 
 // A point of the part m.n, from the first that may be one to the last, and a checkpoint number.
 pub fn own_checkpoint(m: u32, n: u32, first: u32, last: u32, i: Id, number: u32) -> bool
     ensures { result ≡ is_own_checkpoint m n first last i number }
 {
-    if is_point(m, n, i.z as u64, i) {
-        if numbered(first, last, i.z) {
-            checkpoint_number(number)
-        } else {
-            false
-        }
-    } else {
-        false
-    }
+    is_point(m, n, i.z as u64, i) && (numbered(first, last, i.z) && checkpoint_number(number))
 }
 
 // An entry: x is an identifier, z a point's number, and y a lane's, or 0.
 fn entry(e: Id) -> bool
     ensures { result ≡ is_entry_of e }
 {
-    if segment_id(e.x) {
-        if at_most(e.y) { counted(e.z) } else { false }
-    } else {
-        false
-    }
+    segment_id(e.x) && (at_most(e.y) && counted(e.z))
 }
 
 // An entry from a perimeter: y is more than 0 too.
 fn inner_entry(e: Id) -> bool
     ensures { result ≡ is_inner_entry e }
 {
-    if segment_id(e.x) {
-        if counted(e.y) { counted(e.z) } else { false }
-    } else {
-        false
-    }
+    segment_id(e.x) && (counted(e.y) && counted(e.z))
 }
 
 // An exit from a point of the lane m.n, which has w.
 pub fn own_exit(m: u32, n: u32, w: u32, i: Id, e: Id) -> bool
     ensures { result ≡ is_own_exit m n w i e }
 {
-    if own_stop(m, n, w, i) {
-        entry(e)
-    } else {
-        false
-    }
+    own_stop(m, n, w, i) && entry(e)
 }
 
 // An exit from a point of the perimeter m.0, which has w.
 pub fn perimeter_exit(m: u32, w: u32, i: Id, e: Id) -> bool
     ensures { result ≡ is_perimeter_exit m w i e }
 {
-    if own_stop(m, 0, w, i) {
-        inner_entry(e)
-    } else {
-        false
-    }
+    own_stop(m, 0, w, i) && inner_entry(e)
 }
 
 // The one test of a speed limit's minimum against its maximum: a maximum of 0 is none.
@@ -242,33 +186,21 @@ fn not_above(minimum: u32, maximum: u32) -> bool
 fn speeds(minimum: u32, maximum: u32) -> bool
     ensures { result ≡ (is_at_most minimum && (is_at_most maximum && is_not_above minimum maximum)) }
 {
-    if speed(minimum) {
-        if speed(maximum) {
-            not_above(minimum, maximum)
-        } else {
-            false
-        }
-    } else {
-        false
-    }
+    speed(minimum) && (speed(maximum) && not_above(minimum, maximum))
 }
 
 // A speed limit: an id, a minimum and a maximum.
 pub fn limited(id: u32, minimum: u32, maximum: u32) -> bool
     ensures { result ≡ is_limit id minimum maximum }
 {
-    if segment_id(id) {
-        speeds(minimum, maximum)
-    } else {
-        false
-    }
+    segment_id(id) && speeds(minimum, maximum)
 }
 
 // One less is owed.
 pub fn less(n: u32) -> u32
     ensures { result ≡ pred n }
 {
-    if n == 0 { 0 } else { n - 1 }
+    n.saturating_sub(1)
 }
 
 // The row of a place with so much owed: one where there is more, another where all is done.

@@ -1,7 +1,7 @@
 -- What a verdict says of the number. Assumes nothing.
 use Rattle.std.specs.Prelude.{⊤, Ok, Err, Result}
 use mathlib.Core.Path.{◌≡◌, refl}
-use mathlib.Core.Bool.{Bool, false}
+use mathlib.Core.Bool.{false}
 use Prim.Native.Nat.{ℕ, zero, suc}
 use native.Mathlib.Omega.{arith}
 use lib.Dec.{eqb}

@@ -36,10 +36,7 @@ fn due(kind: u8, next: u8) -> [u8; 30]
     requires { kind < 30 }
     ensures { result ≡ due_row kind next }
 {
-    let mut row = [REFUSED; 30];
-    let column = kind as usize;
-    row[column] = next;
-    row
+    also([REFUSED; 30], kind, next)
 }
 
 // The same with an option.
@@ -47,8 +44,7 @@ fn also(mut row: [u8; 30], kind: u8, option: u8) -> [u8; 30]
     requires { kind < 30 }
     ensures { result ≡ also_row row kind option }
 {
-    let column = kind as usize;
-    row[column] = option;
+    row[kind as usize] = option;
     row
 }
 
@@ -170,12 +166,8 @@ pub fn rndf_cell(table: &[[u8; 30]; 27], row: u8, kind: u8) -> u8
 {
     let at = row as usize;
     let column = kind as usize;
-    if at < 27 {
-        if column < 30 {
-            table[at][column]
-        } else {
-            REFUSED
-        }
+    if at < 27 && column < 30 {
+        table[at][column]
     } else {
         REFUSED
     }
@@ -186,12 +178,8 @@ pub fn mdf_cell(table: &[[u8; 13]; 12], row: u8, kind: u8) -> u8
 {
     let at = row as usize;
     let column = kind as usize;
-    if at < 12 {
-        if column < 13 {
-            table[at][column]
-        } else {
-            REFUSED
-        }
+    if at < 12 && column < 13 {
+        table[at][column]
     } else {
         REFUSED
     }

@@ -1,22 +1,20 @@
 -- What the judge makes of a content whose fields are known. Assumes nothing.
 use Rattle.std.specs.Prelude.{Some}
-use mathlib.Core.Path.{◌≡◌, refl, sym, ap, ◌∙◌}
+use mathlib.Core.Path.{◌≡◌, sym, ap, ◌∙◌}
 use mathlib.Core.List.{List, [], ◌∷◌}
-use mathlib.Core.Bool.{Bool, true, false}
 use Prim.Native.Nat.{ℕ, zero, suc, ◌+◌, ◌≤◌, ◌<◌}
 use native.Mathlib.Omega.{arith}
 use borrow.Author.Tests.{eqb-true, eq-eqb, ne_eqb, lt-ltb}
 use lib.ListN.{length, get_or}
 use lib.Dec.{eqb}
 use Rattle.terms.specs.Ascii.{Bytes}
-use Rattle.terms.specs.Words.{pick}
 use Rattle.line.specs.Content.{Field}
 use Rattle.line.specs.Forms.{fields_at, fields_in_of, field_in, listed, part}
 use Rattle.line.proofs.Spans.{fields-listed}
 use Rattle.statement.specs.declared.Statement.{Statement}
-use Rattle.made_out.specs.Made.{shapes, needs_of, made_of, made_from}
+use Rattle.made_out.specs.Made.{shapes, needs_of, made_of}
 use Rattle.place.specs.declared.Place.{Place}
-use Rattle.judge.specs.Judging.{Got, blank, Judging, taken, valued, of_kind, known, told}
+use Rattle.judge.specs.Judging.{blank, of_kind, known, told}
 use Rattle.judge.specs.RndfLine.{rndf_kind, judging}
 use Rattle.judge.proofs.Judged.{same_count, some_field}
 use Rattle.plain_line.specs.Fields.{Makes}

@@ -1,7 +1,7 @@
 -- The statements that a plain line makes, shape by shape. Assumes nothing.
-use mathlib.Core.Path.{◌≡◌, refl, sym, ap, subst, ◌∙◌}
-use mathlib.Core.List.{List, [], ◌∷◌}
-use mathlib.Core.Bool.{Bool, true, false}
+use mathlib.Core.Path.{◌≡◌, refl, sym, ap, subst}
+use mathlib.Core.List.{[], ◌∷◌}
+use mathlib.Core.Bool.{true}
 use Prim.Native.Nat.{ℕ, ◌-◌, ◌≤◌, ◌<◌}
 use Prim.Native.Char.{code}
 use native.Mathlib.Omega.{arith}
@@ -13,8 +13,8 @@ use Rattle.terms.proofs.Tests.{both}
 use Rattle.scan.specs.Allowed.{separates, field_byte, all}
 use Rattle.scan.specs.Reach.{other}
 use Rattle.scan.proofs.Bytes.{all_imp}
-use Rattle.line.specs.Content.{Field, at, IsField}
-use Rattle.line.specs.Forms.{fields_at, fields_in_of, part}
+use Rattle.line.specs.Content.{at, IsField}
+use Rattle.line.specs.Forms.{fields_in_of, part}
 use Rattle.line_fields.specs.LineFields.{last_of}
 use Rattle.number.specs.Executable.{is_name_length_of}
 use Rattle.number.specs.House.{number_byte}
@@ -39,7 +39,7 @@ use Rattle.plain_parts.specs.Stands.{stretch, Stands, name_byte, NameEnds}
 use Rattle.plain_parts.proofs.Stretches.{stretch-long}
 use Rattle.plain_word.specs.Stands.{KeywordAt, BoundaryAt}
 use Rattle.plain_word.proofs.Rows.{keyword-number, boundary-number-here}
-use Rattle.plain_line.specs.Fields.{Spelt, Makes, BehindIt, Says}
+use Rattle.plain_line.specs.Fields.{Spelt, BehindIt, Says}
 use Rattle.plain_line.proofs.Spelt.{one_field, more-fields}
 use Rattle.plain_line.proofs.Made.{one-part, two-parts, second-start, three-parts, first_part, makes}
 

@@ -2,23 +2,20 @@
 use mathlib.Core.Path.{◌≡◌, sym, ap, ◌∙◌}
 use mathlib.Core.List.{[]}
 use mathlib.Core.Bool.{true}
-use mathlib.Core.Logic.{inl, inr}
 use Prim.Native.Nat.{ℕ, ◌≤◌}
 use native.Mathlib.Omega.{arith}
-use lib.ListN.{get_or}
 use Rattle.terms.specs.Ascii.{Bytes}
 use Rattle.scan.specs.Allowed.{separates, all}
 use Rattle.line.proofs.Spelled.{fields-are}
 use Rattle.line_fields.specs.LineFields.{last_start_of}
 use Rattle.line_fields.proofs.LastField.{fields-of-line}
 use Rattle.statement.specs.declared.Statement.{Statement}
-use Rattle.made_out.specs.Made.{shapes}
 use Rattle.judge.specs.RndfLine.{judging}
 use Rattle.plain_parts.specs.Stands.{stretch}
 use Rattle.plain_fields.specs.LineStands.{LineStands}
 use Rattle.plain_fields.proofs.Fields.{line-stands}
 use Rattle.plain_fields.proofs.Judged.{looked-at}
-use Rattle.plain_line.specs.Fields.{Says, Shape}
+use Rattle.plain_line.specs.Fields.{Says}
 use Rattle.plain_line.specs.Plain.{EndsShort, PlainStands}
 use Rattle.plain_line.specs.declared.Plain.TheVariants as Plain
 use Rattle.plain_line.proofs.Spelt.{whole, blank_line_of}
@@ -40,8 +37,3 @@ line-said s from a stop e k st last h b says end =
     let l : LineStands s from e says.fields = line-stands s from e says.fields (record { at = E.at; order = omega arith; fielded = f; ends = E.ends }) end.short in
     let fs = fields-are l.fielded.fielded in
     (record { ends = l.ends; gets = λ table p. looked-at (judging table) l p ∙ told-said table l.fielded.outer from p k st says.kind (says.of_kind_of l.fielded.outer from fs) (says.makes l.fielded.outer from fs) }, sym (ap last_start_of (fields-of-line l.ended l.fielded) ∙ says.lastly))
-
--- ## A shape that is told
-pub shaped : (k shape n : ℕ) → Shape k shape → shape ≡ n → (n ≡ 9 → ⊥) → get_or shapes k 0 ≡ n
-shaped k shape n (inl e) q other = absurd (other (sym q ∙ e))
-shaped k shape n (inr e) q other = e ∙ q

@@ -1,5 +1,5 @@
 -- Fields of a plain line as they stand in the text, and the statement that they make. Assumes nothing.
-use Rattle.std.specs.Prelude.{◌≡◌, List, [], ◌∷◌, ◌++◌, true, false, ◌⊎◌, ℕ, ◌≤◌, ◌<◌, length, get_or, eqb, Some, None, Option}
+use Rattle.std.specs.Prelude.{◌≡◌, List, ◌∷◌, ◌++◌, true, false, ℕ, ◌≤◌, ◌<◌, length, get_or, eqb, Some, None, Option}
 use Rattle.terms.specs.Ascii.{Bytes}
 use Rattle.scan.specs.Allowed.{separates, all}
 use Rattle.line.specs.Content.{Field, SpellsFields}
@@ -47,7 +47,3 @@ pub record Says (s : Bytes) (from stop k : ℕ) (st : Statement) (last : ℕ) : 
 abbrev pub FieldsStand : Bytes → ℕ → Option (ℕ × Statement × ℕ × ℕ) → Type 0
 FieldsStand s from (Some (k, st, stop, last)) = Says s from stop k st last
 FieldsStand s from None = Unit {0}
-
--- what stands behind the keyword of a kind, where it is told
-abbrev pub Shape : ℕ → ℕ → Type 0
-Shape k shape = (shape ≡ 9) ⊎ (get_or shapes k 0 ≡ shape)

@@ -10,10 +10,10 @@
 
 ghost use Rattle.std.specs.Prelude.{◌≡◌, ◌<◌, ◌≤◌, length, get_or};
 ghost use Rattle.made_out.specs.Made.{shapes};
-ghost use Rattle.plain_line.specs.Fields.{BehindStands, FieldsStand, Shape};
+ghost use Rattle.plain_line.specs.Fields.{BehindStands, FieldsStand};
 ghost use Rattle.plain_line.specs.Plain.{FewBytes, ShortEnd, PlainStands};
 
-use made_out::{bare, named, numbered, paired, sided};
+use made_out::{bare, named, numbered, paired, shape_of, sided};
 use number::{Id, is_name_length};
 use plain_parts::{coordinate_at, end_at, gap_at, integer_at, name_end, pair_at, triple_at};
 use plain_word::{boundary_at, keyword_at};
@@ -32,21 +32,11 @@ pub enum Plain {
 fn point_said(s: &[u8], from: usize) -> Option<(u8, Statement, usize, usize)>
     ensures { FieldsStand s.now from result }
 {
-    let Some((x, y, z, i)) = triple_at(s, from) else {
-        return None;
-    };
-    let Some(b) = gap_at(s, i) else {
-        return None;
-    };
-    let Some((latitude, j)) = coordinate_at(s, b) else {
-        return None;
-    };
-    let Some(c) = gap_at(s, j) else {
-        return None;
-    };
-    let Some((longitude, k)) = coordinate_at(s, c) else {
-        return None;
-    };
+    let (x, y, z, i) = triple_at(s, from)?;
+    let b = gap_at(s, i)?;
+    let (latitude, j) = coordinate_at(s, b)?;
+    let c = gap_at(s, j)?;
+    let (longitude, k) = coordinate_at(s, c)?;
     Some((
         kinds::POINT,
         Statement::Point(Id { x, y, z }, latitude, longitude),
@@ -62,12 +52,11 @@ fn name_behind(s: &[u8], from: usize, kind: u8) -> Option<(Statement, usize, usi
 {
     let e = name_end(s, from);
     let n = e - from;
-    if is_name_length(n) {
-        if from < 4294967296 {
-            return Some((named(kind, from as u32, n as u32), e, from));
-        }
+    if is_name_length(n) && from < 4294967296 {
+        Some((named(kind, from as u32, n as u32), e, from))
+    } else {
+        None
     }
-    None
 }
 
 // An integer behind a keyword.
@@ -75,9 +64,7 @@ fn number_behind(s: &[u8], from: usize, kind: u8) -> Option<(Statement, usize, u
     requires { get_or shapes kind 0 ≡ 2 }
     ensures { BehindStands s.now from kind result }
 {
-    let Some((n, e)) = integer_at(s, from) else {
-        return None;
-    };
+    let (n, e) = integer_at(s, from)?;
     Some((numbered(kind, n), e, from))
 }
 
@@ -86,9 +73,7 @@ fn pair_behind(s: &[u8], from: usize, kind: u8) -> Option<(Statement, usize, usi
     requires { get_or shapes kind 0 ≡ 3 }
     ensures { BehindStands s.now from kind result }
 {
-    let Some((m, n, e)) = pair_at(s, from) else {
-        return None;
-    };
+    let (m, n, e) = pair_at(s, from)?;
     Some((paired(kind, m, n), e, from))
 }
 
@@ -97,9 +82,7 @@ fn side_behind(s: &[u8], from: usize, kind: u8) -> Option<(Statement, usize, usi
     requires { get_or shapes kind 0 ≡ 4 }
     ensures { BehindStands s.now from kind result }
 {
-    let Some((b, e)) = boundary_at(s, from) else {
-        return None;
-    };
+    let (b, e) = boundary_at(s, from)?;
     Some((sided(kind, b), e, from))
 }
 
@@ -107,15 +90,9 @@ fn side_behind(s: &[u8], from: usize, kind: u8) -> Option<(Statement, usize, usi
 fn checkpoint_behind(s: &[u8], from: usize) -> Option<(Statement, usize, usize)>
     ensures { BehindStands s.now from 14 result }
 {
-    let Some((x, y, z, i)) = triple_at(s, from) else {
-        return None;
-    };
-    let Some(b) = gap_at(s, i) else {
-        return None;
-    };
-    let Some((n, e)) = integer_at(s, b) else {
-        return None;
-    };
+    let (x, y, z, i) = triple_at(s, from)?;
+    let b = gap_at(s, i)?;
+    let (n, e) = integer_at(s, b)?;
     Some((Statement::Checkpoint(Id { x, y, z }, n), e, b))
 }
 
@@ -123,9 +100,7 @@ fn checkpoint_behind(s: &[u8], from: usize) -> Option<(Statement, usize, usize)>
 fn stop_behind(s: &[u8], from: usize) -> Option<(Statement, usize, usize)>
     ensures { BehindStands s.now from 15 result }
 {
-    let Some((x, y, z, e)) = triple_at(s, from) else {
-        return None;
-    };
+    let (x, y, z, e) = triple_at(s, from)?;
     Some((Statement::Stop(Id { x, y, z }), e, from))
 }
 
@@ -133,15 +108,9 @@ fn stop_behind(s: &[u8], from: usize) -> Option<(Statement, usize, usize)>
 fn exit_behind(s: &[u8], from: usize) -> Option<(Statement, usize, usize)>
     ensures { BehindStands s.now from 16 result }
 {
-    let Some((x, y, z, i)) = triple_at(s, from) else {
-        return None;
-    };
-    let Some(b) = gap_at(s, i) else {
-        return None;
-    };
-    let Some((to_x, to_y, to_z, e)) = triple_at(s, b) else {
-        return None;
-    };
+    let (x, y, z, i) = triple_at(s, from)?;
+    let b = gap_at(s, i)?;
+    let (to_x, to_y, to_z, e) = triple_at(s, b)?;
     Some((
         Statement::Exit(
             Id { x, y, z },
@@ -154,41 +123,6 @@ fn exit_behind(s: &[u8], from: usize) -> Option<(Statement, usize, usize)>
         e,
         b,
     ))
-}
-
-// What stands behind the keyword of a kind, as in `made_out`; 9 for kinds of which it is not told here.
-fn shape_of(kind: u8) -> u8
-    ensures { Shape kind result }
-{
-    match kind {
-        kinds::END_SEGMENT => 0,
-        kinds::END_LANE => 0,
-        kinds::END_ZONE => 0,
-        kinds::END_PERIMETER => 0,
-        kinds::END_SPOT => 0,
-        kinds::END_FILE => 0,
-        kinds::NUM_SEGMENTS => 2,
-        kinds::NUM_ZONES => 2,
-        kinds::SEGMENT => 2,
-        kinds::NUM_LANES => 2,
-        kinds::NUM_WAYPOINTS => 2,
-        kinds::LANE_WIDTH => 2,
-        kinds::ZONE => 2,
-        kinds::NUM_SPOTS => 2,
-        kinds::NUM_PERIMETERPOINTS => 2,
-        kinds::SPOT_WIDTH => 2,
-        kinds::LANE => 3,
-        kinds::PERIMETER => 3,
-        kinds::SPOT => 3,
-        kinds::LEFT_BOUNDARY => 4,
-        kinds::RIGHT_BOUNDARY => 4,
-        kinds::RNDF_NAME => 1,
-        kinds::FORMAT_VERSION => 1,
-        kinds::CREATION_DATE => 1,
-        kinds::SEGMENT_NAME => 1,
-        kinds::ZONE_NAME => 1,
-        _ => 9,
-    }
 }
 
 // Checkpoints, stops and exits.
@@ -205,7 +139,7 @@ fn mark_behind(s: &[u8], from: usize, kind: u8) -> Option<(Statement, usize, usi
 
 // The fields behind the keyword of a kind with this shape.
 fn shape_behind(s: &[u8], from: usize, kind: u8, shape: u8) -> Option<(Statement, usize, usize)>
-    requires { Shape kind shape × (from ≤ length s.now) }
+    requires { (get_or shapes kind 0 ≡ shape) × (from ≤ length s.now) }
     ensures { BehindStands s.now from kind result }
 {
     match shape {
@@ -221,19 +155,13 @@ fn shape_behind(s: &[u8], from: usize, kind: u8, shape: u8) -> Option<(Statement
 fn word_said(s: &[u8], from: usize) -> Option<(u8, Statement, usize, usize)>
     ensures { FieldsStand s.now from result }
 {
-    let Some((kind, w)) = keyword_at(s, from) else {
-        return None;
-    };
+    let (kind, w) = keyword_at(s, from)?;
     let shape = shape_of(kind);
     if shape == 0 {
         return Some((kind, bare(kind), w, from));
     }
-    let Some(b) = gap_at(s, w) else {
-        return None;
-    };
-    let Some((said, e, last)) = shape_behind(s, b, kind, shape) else {
-        return None;
-    };
+    let b = gap_at(s, w)?;
+    let (said, e, last) = shape_behind(s, b, kind, shape)?;
     Some((kind, said, e, last))
 }
 
@@ -253,26 +181,21 @@ fn fields_said(s: &[u8], from: usize) -> Option<(u8, Statement, usize, usize)>
 fn short_end(from: usize, end: usize) -> Option<usize>
     ensures { FewBytes from end result }
 {
-    if from <= end {
-        if end - from <= 512 {
-            return Some(end);
-        }
+    if from <= end && end - from <= 512 {
+        Some(end)
+    } else {
+        None
     }
-    None
 }
 
 // The end of a line that starts at `from`, of which all up to `stop` is known. Most lines end right there, and those are told here: a call for each costs a twentieth of the reading.
 fn end_of(text: &[u8], from: usize, stop: usize) -> Option<usize>
     ensures { ShortEnd text.now from stop result }
 {
-    if stop < text.len() {
-        if text[stop] == b'\n' {
-            return short_end(from, stop);
-        }
+    if stop < text.len() && text[stop] == b'\n' {
+        return short_end(from, stop);
     }
-    let Some(end) = end_at(text, stop) else {
-        return None;
-    };
+    let end = end_at(text, stop)?;
     short_end(from, end)
 }
 

@@ -35,12 +35,8 @@ pub enum MissionLine {
 fn goal_at(text: &[u8], from: usize) -> Option<(Order, usize)>
     ensures { OrderStands text.now from 11 result }
 {
-    let Some((n, a)) = integer_at(text, from) else {
-        return None;
-    };
-    let Some(stop) = end_at(text, a) else {
-        return None;
-    };
+    let (n, a) = integer_at(text, from)?;
+    let stop = end_at(text, a)?;
     Some((Order::Goal(n), stop))
 }
 
@@ -48,24 +44,12 @@ fn goal_at(text: &[u8], from: usize) -> Option<(Order, usize)>
 fn limit_at(text: &[u8], from: usize) -> Option<(Order, usize)>
     ensures { OrderStands text.now from 12 result }
 {
-    let Some((id, a)) = integer_at(text, from) else {
-        return None;
-    };
-    let Some(second) = gap_at(text, a) else {
-        return None;
-    };
-    let Some((minimum, b)) = integer_at(text, second) else {
-        return None;
-    };
-    let Some(third) = gap_at(text, b) else {
-        return None;
-    };
-    let Some((maximum, d)) = integer_at(text, third) else {
-        return None;
-    };
-    let Some(stop) = end_at(text, d) else {
-        return None;
-    };
+    let (id, a) = integer_at(text, from)?;
+    let second = gap_at(text, a)?;
+    let (minimum, b) = integer_at(text, second)?;
+    let third = gap_at(text, b)?;
+    let (maximum, d) = integer_at(text, third)?;
+    let stop = end_at(text, d)?;
     Some((Order::Limit(id, minimum, maximum), stop))
 }
 
@@ -84,9 +68,7 @@ fn plain_order(text: &[u8], from: usize, kind: u8) -> Option<(Order, usize)>
     ensures { OrderLine text.now from kind result }
 {
     let at = not_separator_from(text, from);
-    let Some((o, stop)) = order_at(text, at, kind) else {
-        return None;
-    };
+    let (o, stop) = order_at(text, at, kind)?;
     if stop - from <= 512 {
         Some((o, stop))
     } else {

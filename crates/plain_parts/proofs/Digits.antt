@@ -18,14 +18,14 @@ use Rattle.plain_parts.proofs.Stretches.{one, more}
 again : (b : ℕ) → digit b ≡ true → digit_of (b - 48) ≡ b
 again b e = let r = digit-range b e in omega arith
 
-pub first-digit : (s : Bytes) (from : ℕ) → from < length s → digit (get_or s from 0) ≡ true → Stands s from (from + 1) (λ w. SpellsInteger w (get_or s from 0 - 48))
-first-digit s from h e =
-    let r = digit-range (get_or s from 0) e in
+pub first-digit : (s : Bytes) (from b v : ℕ) → from < length s → b ≡ get_or s from 0 → digit b ≡ true → v ≡ b - 48 → Stands s from (from + 1) (λ w. SpellsInteger w v)
+first-digit s from b v k h e q =
+    let r = digit-range b e in
     record {
       order = omega arith;
       inside = omega arith;
       spelled = record {
-        spelled = one s from h ∙ ap (λ (b : ℕ). b ∷ []) (sym (again (get_or s from 0) e)) ∙ sym (decimal-one (get_or s from 0 - 48) (omega arith));
+        spelled = one s from k ∙ ap (λ (b : ℕ). b ∷ []) (sym h ∙ sym (again b e) ∙ ap (λ (v : ℕ). digit_of v) (sym q)) ∙ sym (decimal-one v (omega arith));
         five_digits = omega arith;
       };
     }

@@ -1,5 +1,8 @@
 -- Where a line ends, as a program tells it that reads on from a place: separators, perhaps a comment, perhaps one CR, then an LF or the text's end. Assumes nothing.
 use Rattle.std.specs.Prelude.{Some, None, Option}
+use Rattle.std.specs.Prelude.{nat_eq}
+use Rattle.std.specs.List.{starts_with}
+use Rattle.std.proofs.lemmas.Slice.Eq.{bytes_eq-Decides}
 use mathlib.Core.Path.{◌≡◌, refl, sym, ap, ap₂, subst, ◌∙◌}
 use mathlib.Core.List.{[], ◌∷◌, ◌++◌}
 use mathlib.Core.Bool.{Bool, true, false, ◌&&◌}
@@ -52,16 +55,12 @@ no_note s at (Some stop) h = record { note = []; return = stretch s at stop; ord
 no_note s at None h = tt
 
 -- ## A comment
-pub opening : (s : Bytes) (at : ℕ) → at + 2 ≤ length s → OpeningStands s at (eqb (get_or s at 0) 47 && eqb (get_or s (at + 1) 0) 42)
+pub opening : (s : Bytes) (at : ℕ) (opens : Bool) → at < length s → (opens ≡ true → 2 ≤ length (drop at s)) → opens ≡ starts_with nat_eq (drop at s) (47 ∷ 42 ∷ []) → OpeningStands s at opens
 unfolding ascii
-opening s at h = go (eqb (get_or s at 0) 47 && eqb (get_or s (at + 1) 0) 42) refl
-  where
-    go : (x : Bool) → (eqb (get_or s at 0) 47 && eqb (get_or s (at + 1) 0) 42) ≡ x → OpeningStands s at x
-    go true e =
-        let p = both (eqb (get_or s at 0) 47) (eqb (get_or s (at + 1) 0) 42) e in
-        let n : at + 2 ≡ at + 1 + 1 = omega arith in
-        (h, ap (stretch s at) n ∙ ahead s at (at + 1 + 1) (omega arith) (omega arith) ∙ ap₂ ◌∷◌ (eqb-true (get_or s at 0) 47 p.0) (one s (at + 1) (omega arith) ∙ ap (λ (b : ℕ). b ∷ []) (eqb-true (get_or s (at + 1) 0) 42 p.1)))
-    go false e = tt
+opening s at true h long e =
+    let n : at + 2 - at ≡ 2 = omega arith in
+    (omega (arith, long refl, length-drop at s), ap (λ (n : ℕ). take n (drop at s)) n ∙ sym ((bytes_eq-Decides (47 ∷ 42 ∷ []) (take 2 (drop at s))).0 (sym e)))
+opening s at false h long e = tt
 
 -- the scans behind an opening: for the closing, for what does not separate behind it, for what may not stand inside
 abbrev shuts : Bytes → Bool

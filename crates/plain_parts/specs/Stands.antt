@@ -37,9 +37,10 @@ abbrev pub TripleStands : Bytes → ℕ → Option (ℕ × ℕ × ℕ × ℕ) �
 TripleStands s from (Some (x, y, z, stop)) = Stands s from stop (λ w. SpellsTriple w x y z)
 TripleStands s from None = Unit {0}
 
--- six digits, where the number has no more
-abbrev pub SixStand : Bytes → ℕ → ℕ → Type 0
-SixStand s from n = n ≤ 999999 → (from + 6 ≤ length s) × (stretch s from (from + 6) ≡ padded 6 n)
+-- six digits
+abbrev pub SixStand : Bytes → ℕ → Option ℕ → Type 0
+SixStand s from (Some n) = (n ≤ 999999) × (from + 6 ≤ length s) × (stretch s from (from + 6) ≡ padded 6 n)
+SixStand s from None = Unit {0}
 
 -- a coordinate without its sign
 pub record SpellsDegrees (field : Bytes) (count : ℕ) : Type 0 where

@@ -18,17 +18,14 @@ const LF: u8 = 10;
 
 const CR: u8 = 13;
 
-// Above every number of six digits.
-const NO_SIX: u32 = 1000000;
-
 // The integer 0, whose digit stands there: no further digit, and something behind it.
 fn zero_at(s: &[u8], from: usize) -> Option<(u32, usize)>
     requires { Stands s.now from (from + 1) (λ w. SpellsInteger w 0) }
     ensures { IntegerStands s.now from result }
 {
     let i = from + 1;
-    if i < s.len() {
-        if is_digit(s[i]) { None } else { Some((0, i)) }
+    if i < s.len() && !is_digit(s[i]) {
+        Some((0, i))
     } else {
         None
     }
@@ -42,14 +39,13 @@ fn digits_from(s: &[u8], from: usize, first: u32) -> Option<(u32, usize)>
     let mut v = first;
     for i in from + 1..s.len() {
         let d = s[i];
-        if is_digit(d) {
-            if 9999 < v {
-                return None;
-            }
-            v = v * 10 + ((d - b'0') as u32);
-        } else {
+        if !is_digit(d) {
             return Some((v, i));
         }
+        if 9999 < v {
+            return None;
+        }
+        v = v * 10 + u32::from(d - b'0');
     }
     None
 }
@@ -58,20 +54,15 @@ fn digits_from(s: &[u8], from: usize, first: u32) -> Option<(u32, usize)>
 pub fn integer_at(s: &[u8], from: usize) -> Option<(u32, usize)>
     ensures { IntegerStands s.now from result }
 {
-    if from < s.len() {
-        let b = s[from];
-        if is_digit(b) {
-            let v = (b - b'0') as u32;
-            if v == 0 {
-                zero_at(s, from)
-            } else {
-                digits_from(s, from, v)
-            }
-        } else {
-            None
-        }
+    let b = *s.get(from)?;
+    if !is_digit(b) {
+        return None;
+    }
+    let v = u32::from(b - b'0');
+    if v == 0 {
+        zero_at(s, from)
     } else {
-        None
+        digits_from(s, from, v)
     }
 }
 
@@ -79,93 +70,72 @@ pub fn integer_at(s: &[u8], from: usize) -> Option<(u32, usize)>
 fn dot_at(s: &[u8], at: usize) -> bool
     ensures { DotStands s.now at result }
 {
-    if at < s.len() { s[at] == b'.' } else { false }
+    at < s.len() && s[at] == b'.'
 }
 
 pub fn pair_at(s: &[u8], from: usize) -> Option<(u32, u32, usize)>
     ensures { PairStands s.now from result }
 {
-    let Some((m, p)) = integer_at(s, from) else {
+    let (m, p) = integer_at(s, from)?;
+    if !dot_at(s, p) {
         return None;
-    };
-    if dot_at(s, p) {
-        let Some((n, e)) = integer_at(s, p + 1) else {
-            return None;
-        };
-        Some((m, n, e))
-    } else {
-        None
     }
+    let (n, e) = integer_at(s, p + 1)?;
+    Some((m, n, e))
 }
 
 // Not by `pair_at`: one call more for each identifier costs a twentieth of the time on a text with many.
 pub fn triple_at(s: &[u8], from: usize) -> Option<(u32, u32, u32, usize)>
     ensures { TripleStands s.now from result }
 {
-    let Some((x, p)) = integer_at(s, from) else {
+    let (x, p) = integer_at(s, from)?;
+    if !dot_at(s, p) {
         return None;
-    };
-    if dot_at(s, p) {
-        let Some((y, q)) = integer_at(s, p + 1) else {
-            return None;
-        };
-        if dot_at(s, q) {
-            let Some((z, e)) = integer_at(s, q + 1) else {
-                return None;
-            };
-            return Some((x, y, z, e));
-        }
     }
-    None
+    let (y, q) = integer_at(s, p + 1)?;
+    if !dot_at(s, q) {
+        return None;
+    }
+    let (z, e) = integer_at(s, q + 1)?;
+    Some((x, y, z, e))
 }
 
-// Six digits, as a number; NO_SIX where there are none.
-fn six_at(s: &[u8], from: usize) -> u32
+// Six digits, as a number.
+fn six_at(s: &[u8], from: usize) -> Option<u32>
     ensures { SixStand s.now from result }
 {
-    if s.len() < 6 {
-        return NO_SIX;
-    }
-    if s.len() - 6 < from {
-        return NO_SIX;
+    if s.len() < 6 || s.len() - 6 < from {
+        return None;
     }
     let mut v: u32 = 0;
     for k in 0..6 {
         let b = s[from + k];
-        if is_digit(b) {
-            v = v * 10 + ((b - b'0') as u32);
-        } else {
-            return NO_SIX;
+        if !is_digit(b) {
+            return None;
         }
+        v = v * 10 + u32::from(b - b'0');
     }
-    v
+    Some(v)
 }
 
 // 1 to 3 digits with no leading zero but a single 0, a point, six digits.
 fn degrees_at(s: &[u8], from: usize) -> Option<(u32, usize)>
     ensures { DegreesStand s.now from result }
 {
-    let Some((whole, p)) = integer_at(s, from) else {
-        return None;
-    };
-    if 999 < whole {
+    let (whole, p) = integer_at(s, from)?;
+    if 999 < whole || !dot_at(s, p) {
         return None;
     }
-    if dot_at(s, p) {
-        let part = six_at(s, p + 1);
-        if part < NO_SIX {
-            return Some((whole * 1000000 + part, p + 7));
-        }
-    }
-    None
+    let part = six_at(s, p + 1)?;
+    Some((whole * 1000000 + part, p + 7))
 }
 
 // Behind a minus, where one stands there.
 fn behind_minus(s: &[u8], from: usize) -> usize
     ensures { result ≡ behind_minus_of s.now from }
 {
-    if from < s.len() {
-        if s[from] == b'-' { from + 1 } else { from }
+    if from < s.len() && s[from] == b'-' {
+        from + 1
     } else {
         from
     }
@@ -177,17 +147,14 @@ fn with_sign(minus: bool, m: u32) -> i32
     ensures { result ≡ signed minus m }
 {
     let above = m as i32;
-    let below = 0 - above;
-    if minus { below } else { above }
+    if minus { -above } else { above }
 }
 
 pub fn coordinate_at(s: &[u8], from: usize) -> Option<(i32, usize)>
     ensures { CoordinateStands s.now from result }
 {
     let a = behind_minus(s, from);
-    let Some((m, e)) = degrees_at(s, a) else {
-        return None;
-    };
+    let (m, e) = degrees_at(s, a)?;
     Some((with_sign(from < a, m), e))
 }
 
@@ -203,12 +170,7 @@ pub fn gap_at(s: &[u8], from: usize) -> Option<usize>
 fn opening_at(s: &[u8], at: usize) -> bool
     ensures { OpeningStands s.now at result }
 {
-    if 2 <= s.len() {
-        if at <= s.len() - 2 {
-            return (s[at] == b'/') & (s[at + 1] == b'*');
-        }
-    }
-    false
+    at < s.len() && s[at..].starts_with(b"/*")
 }
 
 // Behind a comment that opens there, and the separators behind it. A separator may stand inside a comment too, so that one scan for what may not tells of all up to that place. An
@@ -216,17 +178,20 @@ fn opening_at(s: &[u8], at: usize) -> bool
 fn comment_at(s: &[u8], from: usize) -> Option<usize>
     ensures { CommentStands s.now from result }
 {
-    if opening_at(s, from) {
-        let a = from + 2;
-        let close = two_from(s, a, b'*', b'/');
-        if close < s.len() {
-            let e = not_separator_from(s, close + 2);
-            if e <= not_inside_from(s, a) {
-                return Some(e);
-            }
-        }
+    if !opening_at(s, from) {
+        return None;
     }
-    None
+    let a = from + 2;
+    let close = two_from(s, a, b'*', b'/');
+    if s.len() <= close {
+        return None;
+    }
+    let e = not_separator_from(s, close + 2);
+    if e <= not_inside_from(s, a) {
+        Some(e)
+    } else {
+        None
+    }
 }
 
 // The end of a line with one CR there.
@@ -235,8 +200,8 @@ fn return_end(s: &[u8], from: usize) -> Option<usize>
     ensures { BareStands s.now from result }
 {
     let e = from + 1;
-    if e < s.len() {
-        if s[e] == LF { Some(e) } else { None }
+    if e < s.len() && s[e] != LF {
+        None
     } else {
         Some(e)
     }
@@ -247,13 +212,10 @@ fn bare_end(s: &[u8], at: usize) -> Option<usize>
     ensures { BareStands s.now at result }
 {
     if at < s.len() {
-        let b = s[at];
-        if b == LF {
-            Some(at)
-        } else if b == CR {
-            return_end(s, at)
-        } else {
-            None
+        match s[at] {
+            LF => Some(at),
+            CR => return_end(s, at),
+            _ => None,
         }
     } else if at == s.len() {
         Some(at)
@@ -266,9 +228,7 @@ fn bare_end(s: &[u8], at: usize) -> Option<usize>
 fn comment_end(s: &[u8], from: usize) -> Option<usize>
     ensures { NoteStands s.now from result }
 {
-    let Some(e) = comment_at(s, from) else {
-        return None;
-    };
+    let e = comment_at(s, from)?;
     bare_end(s, e)
 }
 
@@ -277,12 +237,11 @@ pub fn end_at(s: &[u8], from: usize) -> Option<usize>
     ensures { EndStands s.now from result }
 {
     let at = not_separator_from(s, from);
-    if at < s.len() {
-        if s[at] == b'/' {
-            return comment_end(s, at);
-        }
+    if at < s.len() && s[at] == b'/' {
+        comment_end(s, at)
+    } else {
+        bare_end(s, at)
     }
-    bare_end(s, at)
 }
 
 // A byte of a field, with which no comment opens.

@@ -47,16 +47,11 @@ pub enum Line {
 fn last_start(f: Fields) -> usize
     ensures { result ≡ last_in f }
 {
-    let first = f.a;
-    let second = f.b;
-    let third = f.c;
-    if f.count == 1 {
-        return first.start;
+    match f.count {
+        1 => f.a.start,
+        2 => f.b.start,
+        _ => f.c.start,
     }
-    if f.count == 2 {
-        return second.start;
-    }
-    third.start
 }
 
 // 8, or the statement of a kind.

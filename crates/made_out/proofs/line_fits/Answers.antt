@@ -1,5 +1,5 @@
 -- `made_out::line_fits` meets its contract. Assumes nothing.
-use mathlib.Core.Path.{sym}
+use mathlib.Core.Path.{sym, ◌∙◌}
 use Prim.Native.Nat.{◌+◌}
 use native.Mathlib.Omega.{arith}
 use borrow.Author.Tests.{le-ltb}
@@ -14,4 +14,4 @@ returns-then-length-lt4294967296 c =
 pub returns-else-length-lt4294967296 : goal.returns-else-length-lt4294967296
 returns-else-length-lt4294967296 c =
     let a = c.args in
-    sym (le-ltb (a.base + a.length) 4294967296 (omega (arith, c.if-length-lt4294967296.false)))
+    le-ltb a.length 4294967296 c.if-length-lt4294967296.false ∙ sym (le-ltb (a.base + a.length) 4294967296 (omega (arith, c.if-length-lt4294967296.false)))

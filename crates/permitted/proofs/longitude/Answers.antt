@@ -1,4 +1,5 @@
 -- `permitted::longitude` meets its contract. Assumes nothing.
+use mathlib.Core.Path.{◌∙◌}
 use Rattle.permitted.proofs.Signs.{not-below, below}
 use Rattle.permitted.specs.Tests.{is_longitude}
 use Rattle.permitted.proofs.longitude.Goals as goal
@@ -9,4 +10,4 @@ returns-then-z-ge-LEAST_LONGITUDE c = not-below 179999999 _ c.ranges.z c.if-z-ge
 
 pub returns-else-z-ge-LEAST_LONGITUDE : goal.returns-else-z-ge-LEAST_LONGITUDE
 unfolding is_longitude
-returns-else-z-ge-LEAST_LONGITUDE c = below 179999999 _ c.ranges.z c.if-z-ge-LEAST_LONGITUDE.false
+returns-else-z-ge-LEAST_LONGITUDE c = c.if-z-ge-LEAST_LONGITUDE.false ∙ below 179999999 _ c.ranges.z c.if-z-ge-LEAST_LONGITUDE.false

@@ -12,14 +12,12 @@ short : (s : Bytes) (from stop end : ℕ) (r : Option ℕ) → LineEnds s stop e
 short s from stop end (Some e) h k = subst (EndsShort s from stop) (sym k.0) (record { ends = h; order = k.1; short = k.2 })
 short s from stop end None h k = tt
 
--- src/lib.rt:300:13
 pub returns-then-text-stop-eq10 : goal.returns-then-text-stop-eq10
 returns-then-text-stop-eq10 c =
     let a = c.args in
     short a.text.now a.from a.stop a.stop c.short_end.result (line-ends-here a.text.now a.stop c.if-stop-text.true c.if-text-stop-eq10.true) c.short_end.ensures
 
--- src/lib.rt:295:1
 pub returns : goal.returns
 returns c =
     let a = c.args in
-    short a.text.now a.from a.stop c.in-Some.end c.short_end-2.result (rw c.in-Some.is at c.end_at.ensures) c.short_end-2.ensures
+    short a.text.now a.from a.stop c.in_ok-end.end c.short_end-2.result c.in_ok-end.ensures c.short_end-2.ensures

@@ -2,7 +2,5 @@
 use Rattle.plain_line.proofs.Shapes.{pair_made}
 use Rattle.plain_line.proofs.pair_behind.Goals as goal
 
--- src/lib.rt:97:1
 pub returns : goal.returns
-returns c =
-    rw c.paired.ensures (pair_made c.args.s.now c.args.from c.in-Some.e c.args.kind c.in-Some.m c.in-Some.n c.requires (rw c.in-Some.is at c.pair_at.ensures))
+returns c = rw c.paired.ensures (pair_made c.args.s.now c.args.from c.in_ok-m.e c.args.kind c.in_ok-m.m c.in_ok-m.n c.requires c.in_ok-m.ensures)

@@ -2,7 +2,7 @@
 use Rattle.plain_line.proofs.Shapes.{stop-made}
 use Rattle.plain_line.proofs.stop_behind.Goals as goal
 
--- src/lib.rt:137:1
 pub returns : goal.returns
 returns c =
-    stop-made c.args.s.now c.args.from c.in-Some.e c.in-Some.x c.in-Some.y c.in-Some.z (rw c.in-Some.is at c.triple_at.ensures)
+    let point = c.in_ok-x in
+    stop-made c.args.s.now c.args.from point.e point.x point.y point.z point.ensures

@@ -4,7 +4,6 @@ use Rattle.plain_order.proofs.goal_at.Goals as goal
 
 pub returns : goal.returns
 returns c =
-    let a = c.args in
-    let first = rw c.in-Some.is at c.integer_at.ensures in
-    let ends = rw c.in-Some-end_at.is at c.end_at.ensures in
-    goal-stands a.text.now a.from c.in-Some.a c.in-Some.n c.in-Some-end_at.stop first ends
+    let number = c.in_ok-n in
+    let end = c.in_ok-stop in
+    goal-stands c.args.text.now c.args.from number.a number.n end.stop number.ensures end.ensures

@@ -4,14 +4,8 @@ use native.Mathlib.Omega.{arith}
 use Rattle.plain_parts.proofs.Ended.{ends-here}
 use Rattle.plain_parts.proofs.bare_end.Goals as goal
 
--- src/lib.rt:294:1
-pub returns-then-b-eq-LF : goal.returns-then-b-eq-LF
-returns-then-b-eq-LF c =
-    let a = c.args in
-    ends-here a.s.now a.at (omega arith) (inr c.if-b-eq-LF.true)
+pub returns-in-10 : goal.returns-in-10
+returns-in-10 c = ends-here c.args.s.now c.args.at (omega arith) (inr c.in-10.is)
 
--- src/lib.rt:294:1
 pub returns-then-at-s-2 : goal.returns-then-at-s-2
-returns-then-at-s-2 c =
-    let a = c.args in
-    ends-here a.s.now a.at (omega arith) (inl c.if-at-s-2.true)
+returns-then-at-s-2 c = ends-here c.args.s.now c.args.at (omega arith) (inl c.if-at-s-2.true)

@@ -2,8 +2,5 @@
 use Rattle.plain_parts.proofs.Ended.{behind-note}
 use Rattle.plain_parts.proofs.comment_end.Goals as goal
 
--- src/lib.rt:314:1
 pub returns : goal.returns
-returns c =
-    let a = c.args in
-    behind-note a.s.now a.from c.in-Some.e c.bare_end.result (rw c.in-Some.is at c.comment_at.ensures) c.bare_end.ensures
+returns c = behind-note c.args.s.now c.args.from c.in_ok-e.e c.bare_end.result c.in_ok-e.ensures c.bare_end.ensures

@@ -10,6 +10,6 @@ pub loop-i-preserved : goal.loop-i-preserved
 loop-i-preserved c =
     let a = c.args in
     let l = c.loop-i in
-    let digit = sym c.is_digit.ensures ∙ c.if-is_digit.true in
+    let digit = sym c.is_digit.ensures ∙ c.if-not-is_digit.false in
     let range = digit-range (get_or a.s.now l.i 0) digit in
-    (next-digit a.s.now a.from l.i l.v (omega arith) digit l.invariant.1 (omega arith) l.invariant.0, omega (arith, l.invariant.1))
+    rw c.from.ensures (next-digit a.s.now a.from l.i l.v (omega arith) digit l.invariant.1 (omega arith) l.invariant.0, omega (arith, l.invariant.1))

@@ -3,13 +3,9 @@ use mathlib.Core.Logic.{inl, inr}
 use native.Mathlib.Omega.{arith}
 use Rattle.plain_parts.proofs.Ended.{ends-behind}
 use Rattle.plain_parts.proofs.return_end.Goals as goal
+use Rattle.plain_parts.proofs.return_end.Goals.{else-e-s-via-then-e-s+else-s-e-ne-LF, else-e-s-via-else-e-s}
 
--- src/lib.rt:234:1
-pub returns-then-s-e-eq-LF : goal.returns-then-s-e-eq-LF
-returns-then-s-e-eq-LF c =
-    ends-behind c.args.s.now c.args.from c.requires.0 c.requires.1 (inr c.if-s-e-eq-LF.true)
-
--- src/lib.rt:234:1
 pub returns-else-e-s : goal.returns-else-e-s
 returns-else-e-s c =
-    ends-behind c.args.s.now c.args.from c.requires.0 c.requires.1 (inl (omega (arith, c.requires.0)))
+    let a = c.args in
+    ends-behind a.s.now a.from c.requires.0 c.requires.1 (elim c.else-e-s.branch [ else-e-s-via-then-e-s+else-s-e-ne-LF w ↦ inr w.if-s-e-ne-LF.false | else-e-s-via-else-e-s w ↦ inl (omega (arith, w.if-e-s.false, c.requires.0)) ])

@@ -15,6 +15,6 @@ loop-k-preserved c =
     let a = c.args in
     let l = c.loop-k in
     let byte = get_or a.s.now (a.from + l.k) 0 in
-    let digit = sym c.is_digit.ensures ∙ c.if-is_digit.true in
+    let digit = sym c.is_digit.ensures ∙ c.if-not-is_digit.false in
     let range = digit-range byte digit in
-    (pow_more l.v (byte - 48) l.k l.invariant.0 (omega arith), padded-digit a.s.now a.from l.k l.v (omega arith) digit l.invariant.1)
+    rw c.from.ensures (pow_more l.v (byte - 48) l.k l.invariant.0 (omega arith), padded-digit a.s.now a.from l.k l.v (omega arith) digit l.invariant.1)

@@ -1,12 +1,12 @@
 -- `said_line::last_start` meets its contract. Assumes nothing.
-use borrow.Author.Tests.{eq-eqb, ne_eqb}
+use borrow.Author.Tests.{ne_eqb}
 use Rattle.said_line.proofs.last_start.Goals as goal
 
-pub returns-then-f-eq1 : goal.returns-then-f-eq1
-returns-then-f-eq1 c = rw (eq-eqb _ 1 c.if-f-eq1.true)
+pub returns-in-1 : goal.returns-in-1
+returns-in-1 c = rw c.in-1.is
 
-pub returns-then-f-eq2 : goal.returns-then-f-eq2
-returns-then-f-eq2 c = rw (ne_eqb _ 1 c.if-f-eq1.false, eq-eqb _ 2 c.if-f-eq2.true)
+pub returns-in-2 : goal.returns-in-2
+returns-in-2 c = rw c.in-2.is
 
-pub returns : goal.returns
-returns c = rw (ne_eqb _ 1 c.if-f-eq1.false, ne_eqb _ 2 c.if-f-eq2.false)
+pub returns-in_default : goal.returns-in_default
+returns-in_default c = rw (ne_eqb _ 1 c.in_default.in_default-own.rest.0.1, ne_eqb _ 2 c.in_default.in_default-own.rest.1)
