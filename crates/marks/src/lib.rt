@@ -33,12 +33,10 @@ pub enum BadLimit {
 pub fn is_marked(marks: &[u8; 4096], number: u16) -> bool
     ensures { result ≡ is_marked_of marks.now number }
 {
-    if 1 <= number {
-        if number <= CheckpointNumber::LARGEST {
-            let at = (number - 1) as usize;
-            let eight = marks[at / 8];
-            return (eight >> (at % 8)) % 2 == 1;
-        }
+    if 1 <= number && number <= CheckpointNumber::LARGEST {
+        let at = (number - 1) as usize;
+        let eight = marks[at / 8];
+        return (eight >> (at % 8)) % 2 == 1;
     }
     false
 }
@@ -46,14 +44,12 @@ pub fn is_marked(marks: &[u8; 4096], number: u16) -> bool
 pub fn mark(marks: &mut [u8; 4096], number: u16)
     ensures { marks.new ≡ with_mark marks.old number }
 {
-    if 1 <= number {
-        if number <= CheckpointNumber::LARGEST {
-            let at = (number - 1) as usize;
-            let byte = at / 8;
-            let eight = marks[byte];
-            let bit: u8 = 1 << (at % 8);
-            marks[byte] = eight | bit;
-        }
+    if 1 <= number && number <= CheckpointNumber::LARGEST {
+        let at = (number - 1) as usize;
+        let byte = at / 8;
+        let eight = marks[byte];
+        let bit: u8 = 1 << (at % 8);
+        marks[byte] = eight | bit;
     }
 }
 

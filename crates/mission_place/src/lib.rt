@@ -44,8 +44,8 @@ impl MissionPlace {
         ensures { result ≡ placed row owed }
     {
         MissionPlace {
-            row: row,
-            owed: owed,
+            row,
+            owed,
             version: false,
             date: false,
         }
@@ -114,17 +114,10 @@ impl MissionPlace {
     {
         match slot {
             1 => MissionPlace {
-                row: self.row,
-                owed: self.owed,
                 version: true,
-                date: self.date,
+                ..self
             },
-            2 => MissionPlace {
-                row: self.row,
-                owed: self.owed,
-                version: self.version,
-                date: true,
-            },
+            2 => MissionPlace { date: true, ..self },
             _ => self,
         }
     }
@@ -175,16 +168,13 @@ impl MissionPlace {
         ensures { result ≡ verdict_of (refuses_by self cell) }
     {
         if cell < place_table::OFTEN {
-            return Ok(());
-        }
-        if cell < place_table::REFUSED {
-            if self.has(cell - place_table::OFTEN) {
-                Err(6)
-            } else {
-                Ok(())
-            }
-        } else {
+            Ok(())
+        } else if place_table::REFUSED <= cell {
             Err(5)
+        } else if self.has(cell - place_table::OFTEN) {
+            Err(6)
+        } else {
+            Ok(())
         }
     }
 
@@ -193,9 +183,8 @@ impl MissionPlace {
         ensures { result ≡ by_cell self s cell }
     {
         if cell < place_table::OFTEN {
-            return self.due_step(s, cell);
-        }
-        if cell < place_table::REFUSED {
+            self.due_step(s, cell)
+        } else if cell < place_table::REFUSED {
             self.option_step(s, cell - place_table::OFTEN)
         } else {
             Err(5)

@@ -66,44 +66,29 @@ fn limit_row(id: u32, minimum: u32, maximum: u32) -> MissionRow
 fn name_at(start: u32, length: u32) -> Stretch
     ensures { result ≡ the_stretch_of start length }
 {
-    Stretch {
-        start: start,
-        length: length,
-    }
+    Stretch { start, length }
 }
 
 // The file's own row behind a statement.
 fn file_after(file: MissionFileRow, o: Order) -> MissionFileRow
     ensures { result ≡ file_after_of o file }
 {
-    let name = file.name;
-    let rndf = file.rndf;
-    let version = file.version;
-    let date = file.date;
     match o {
         Order::MdfName(start, length) => MissionFileRow {
             name: name_at(start, length),
-            rndf: rndf,
-            version: version,
-            date: date,
+            ..file
         },
         Order::Rndf(start, length) => MissionFileRow {
-            name: name,
             rndf: name_at(start, length),
-            version: version,
-            date: date,
+            ..file
         },
         Order::FormatVersion(start, length) => MissionFileRow {
-            name: name,
-            rndf: rndf,
             version: name_at(start, length),
-            date: date,
+            ..file
         },
         Order::CreationDate(start, length) => MissionFileRow {
-            name: name,
-            rndf: rndf,
-            version: version,
             date: name_at(start, length),
+            ..file
         },
         _ => file,
     }
@@ -115,14 +100,13 @@ impl MissionProgress {
         ensures { result ≡ none_read_of }
     {
         let missing = name_at(0, 0);
-        let file = MissionFileRow {
-            name: missing,
-            rndf: missing,
-            version: missing,
-            date: missing,
-        };
         MissionProgress {
-            file: file,
+            file: MissionFileRow {
+                name: missing,
+                rndf: missing,
+                version: missing,
+                date: missing,
+            },
             goals: 0,
             limits: 0,
         }
@@ -146,24 +130,19 @@ impl MissionProgress {
         requires { total self < 4294967295 }
         ensures { result ≡ mission_after_of o self }
     {
-        let before = self.file;
-        let file = file_after(before, o);
+        let file = file_after(self.file, o);
         match o {
             Order::Goal(_) => MissionProgress {
-                file: file,
+                file,
                 goals: self.goals + 1,
-                limits: self.limits,
+                ..self
             },
             Order::Limit(_, _, _) => MissionProgress {
-                file: file,
-                goals: self.goals,
+                file,
                 limits: self.limits + 1,
+                ..self
             },
-            _ => MissionProgress {
-                file: file,
-                goals: self.goals,
-                limits: self.limits,
-            },
+            _ => MissionProgress { file, ..self },
         }
     }
 }

@@ -89,14 +89,8 @@ fn store(
 fn verdict(edition: Edition, p: Place, cell: u8, s: Statement) -> Result<(), u8>
     ensures { result ≡ verdict_of (the_refusal_of (inner edition) p cell s) }
 {
-    let by_kind = p.refuses(cell);
-    let Ok(()) = by_kind else {
-        return by_kind;
-    };
-    let by_value = p.tested(cell, s);
-    let Ok(()) = by_value else {
-        return by_value;
-    };
+    p.refuses(cell)?;
+    p.tested(cell, s)?;
     barred(edition, s)
 }
 
@@ -211,15 +205,11 @@ pub fn walk_lines(
 fn at_end(walked: Result<(Place, Progress, u32), Fault>) -> Result<Progress, Fault>
     ensures { result ≡ ended_of walked }
 {
-    match walked {
-        Err(fault) => Err(fault),
-        Ok((place, gained, line)) => {
-            if place.is_over() {
-                Ok(gained)
-            } else {
-                Err(Fault { line, number: 10 })
-            }
-        }
+    let (place, gained, line) = walked?;
+    if place.is_over() {
+        Ok(gained)
+    } else {
+        Err(Fault { line, number: 10 })
     }
 }
 

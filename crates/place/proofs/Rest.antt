@@ -2,6 +2,7 @@
 use mathlib.Core.Path.{◌≡◌, refl}
 use mathlib.Core.List.{List, [], ◌∷◌}
 use mathlib.Core.Bool.{true}
+use mathlib.Core.Logic.{◌⊎◌, inl, inr}
 use Prim.Native.Nat.{ℕ}
 use types.Run.{OneOf, miss}
 use denote.Enum.Declared.{tag_of}
@@ -9,7 +10,7 @@ use Rattle.statement.specs.declared.Statement.{Statement}
 use Rattle.statement.specs.declared.Statement.TheVariants as st
 use Rattle.statement.specs.contracts.Statement.{the_type}
 use Rattle.place.specs.declared.Place.{Place}
-use Rattle.place.specs.Step.{permits_of, after_of, placed}
+use Rattle.place.specs.Step.{permits_of, after_of, left_of, placed}
 
 -- any value is permitted of the kinds that `permits` leaves to its last arm
 abbrev any-value_keys : List ℕ
@@ -82,3 +83,16 @@ stays p (st.SpotWidth n) row h = refl
 stays p st.EndSpot row h = absurd (miss stays_keys 27 tt h)
 stays p st.EndFile row h = absurd (miss stays_keys 28 tt h)
 stays p (st.Point i a o) row h = absurd (miss stays_keys 29 tt h)
+
+-- every end word closes its part
+pub ends : (p : Place) (s : Statement) (row : ℕ) → ((s ≡ st.EndSegment) ⊎ ((s ≡ st.EndLane) ⊎ ((s ≡ st.EndZone) ⊎ ((s ≡ st.EndPerimeter) ⊎ (s ≡ st.EndSpot))))) → after_of p s row ≡ left_of p row
+ends p s row (inl e) = rw e
+ends p s row (inr (inl e)) = rw e
+ends p s row (inr (inr (inl e))) = rw e
+ends p s row (inr (inr (inr (inl e)))) = rw e
+ends p s row (inr (inr (inr (inr e)))) = rw e
+
+-- a lane and a perimeter count their points
+pub counts_points : (p : Place) (s : Statement) (row k : ℕ) → ((s ≡ st.NumWaypoints k) ⊎ (s ≡ st.NumPerimeterpoints k)) → after_of p s row ≡ placed p.part row 1 p.segments p.zones p.parts k
+counts_points p s row k (inl e) = rw e
+counts_points p s row k (inr e) = rw e

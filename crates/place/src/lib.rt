@@ -41,6 +41,13 @@ pub struct Given {
     pub third: bool,
 }
 
+// No option is given yet.
+const NO_OPTION: Given = Given {
+    first: false,
+    second: false,
+    third: false,
+};
+
 // The place: the open part; the row of what is due; its number there; how many segments, zones, parts (lanes or spots) and points are still owed;
 // the options given. Before the first point all points of the part are owed, so that `points` tells how many there are.
 #[derive(Clone, Copy)]
@@ -68,11 +75,11 @@ impl Open {
     {
         match self {
             Open::File => 0,
-            Open::Segment(m) => m,
-            Open::Lane(m, _) => m,
-            Open::Zone(m) => m,
-            Open::Perimeter(m) => m,
-            Open::Spot(m, _) => m,
+            Open::Segment(m)
+            | Open::Lane(m, _)
+            | Open::Zone(m)
+            | Open::Perimeter(m)
+            | Open::Spot(m, _) => m,
         }
     }
 
@@ -80,12 +87,8 @@ impl Open {
         ensures { result ≡ minor_of self }
     {
         match self {
-            Open::File => 0,
-            Open::Segment(_) => 0,
-            Open::Lane(_, n) => n,
-            Open::Zone(_) => 0,
-            Open::Perimeter(_) => 0,
-            Open::Spot(_, n) => n,
+            Open::Lane(_, n) | Open::Spot(_, n) => n,
+            _ => 0,
         }
     }
 
@@ -94,12 +97,8 @@ impl Open {
         ensures { result ≡ first_marked_of self }
     {
         match self {
-            Open::File => 1,
-            Open::Segment(_) => 1,
-            Open::Lane(_, _) => 1,
-            Open::Zone(_) => 1,
-            Open::Perimeter(_) => 1,
             Open::Spot(_, _) => 2,
+            _ => 1,
         }
     }
 
@@ -140,12 +139,9 @@ impl Open {
         ensures { result ≡ the_exits_of self w i e }
     {
         match self {
-            Open::File => false,
-            Open::Segment(_) => false,
             Open::Lane(m, n) => permitted::own_exit(m, n, w, i, e),
-            Open::Zone(_) => false,
             Open::Perimeter(m) => permitted::perimeter_exit(m, w, i, e),
-            Open::Spot(_, _) => false,
+            _ => false,
         }
     }
 }
@@ -157,18 +153,15 @@ impl Given {
         match slot {
             1 => Given {
                 first: true,
-                second: self.second,
-                third: self.third,
+                ..self
             },
             2 => Given {
-                first: self.first,
                 second: true,
-                third: self.third,
+                ..self
             },
             3 => Given {
-                first: self.first,
-                second: self.second,
                 third: true,
+                ..self
             },
             _ => self,
         }
@@ -187,31 +180,20 @@ fn part_row(segments: u32, zones: u32) -> u8
 }
 
 impl Place {
-    // A place with no option given.
-    fn at(part: Open, row: u8, due: u64, o: u32, z: u32, l: u32, w: u32) -> Place
-        ensures { result ≡ placed part row due o z l w }
-    {
-        Place {
-            part: part,
-            row: row,
-            due: due,
-            segments: o,
-            zones: z,
-            parts: l,
-            points: w,
-            given: Given {
-                first: false,
-                second: false,
-                third: false,
-            },
-        }
-    }
-
     // Before the first statement.
     pub fn start() -> Place
         ensures { result ≡ first_place }
     {
-        Place::at(Open::File, rndf::NAME_DUE, 0, 0, 0, 0, 0)
+        Place {
+            part: Open::File,
+            row: rndf::NAME_DUE,
+            due: 0,
+            segments: 0,
+            zones: 0,
+            parts: 0,
+            points: 0,
+            given: NO_OPTION,
+        }
     }
 
     // `end_file` was taken.
@@ -259,21 +241,48 @@ impl Place {
         }
     }
 
+    // The same place in another row of the table, with no option given.
+    fn in_row(self, row: u8) -> Place
+        ensures { result ≡ placed self.part row self.due self.segments self.zones self.parts self.points }
+    {
+        Place {
+            row,
+            given: NO_OPTION,
+            ..self
+        }
+    }
+
     // The place after a part is opened: one less of its sort is owed. A spot has two points, and no line that counts them.
     fn opened(self, part: Open, row: u8) -> Place
         ensures { result ≡ opened_of self part row }
     {
-        let o = self.segments;
-        let z = self.zones;
-        let l = self.parts;
-        let w = self.points;
+        let p = Place {
+            part,
+            row,
+            due: 0,
+            given: NO_OPTION,
+            ..self
+        };
         match part {
-            Open::File => Place::at(part, row, 0, o, z, l, w),
-            Open::Segment(_) => Place::at(part, row, 0, permitted::less(o), z, l, w),
-            Open::Lane(_, _) => Place::at(part, row, 0, o, z, permitted::less(l), w),
-            Open::Zone(_) => Place::at(part, row, 0, o, permitted::less(z), l, w),
-            Open::Perimeter(_) => Place::at(part, row, 0, o, z, l, w),
-            Open::Spot(_, _) => Place::at(part, row, 1, o, z, permitted::less(l), 2),
+            Open::Segment(_) => Place {
+                segments: permitted::less(self.segments),
+                ..p
+            },
+            Open::Lane(_, _) => Place {
+                parts: permitted::less(self.parts),
+                ..p
+            },
+            Open::Zone(_) => Place {
+                zones: permitted::less(self.zones),
+                ..p
+            },
+            Open::Spot(_, _) => Place {
+                due: 1,
+                parts: permitted::less(self.parts),
+                points: 2,
+                ..p
+            },
+            _ => p,
         }
     }
 
@@ -281,60 +290,61 @@ impl Place {
     fn left(self, row: u8) -> Place
         ensures { result ≡ left_of self row }
     {
-        let part = self.part;
-        let a = part.around();
-        let around = a.part;
-        Place::at(
-            around,
-            row,
-            a.due,
-            self.segments,
-            self.zones,
-            self.parts,
-            self.points,
-        )
+        let around = self.part.around();
+        Place {
+            part: around.part,
+            due: around.due,
+            ..self.in_row(row)
+        }
     }
 
     // The place after a point, the z-th of its part.
     fn passed(self, z: u32, row: u8) -> Place
         ensures { result ≡ passed_of self z row }
     {
-        let part = self.part;
-        let due = z as u64 + 1;
-        let left = permitted::less(self.points);
-        Place::at(part, row, due, self.segments, self.zones, self.parts, left)
+        Place {
+            due: z as u64 + 1,
+            points: permitted::less(self.points),
+            ..self.in_row(row)
+        }
     }
 
     // The place after the due statement, in the row that the table gives.
     fn after(self, s: Statement, row: u8) -> Place
         ensures { result ≡ after_of self s row }
     {
-        let part = self.part;
-        let due = self.due;
-        let o = self.segments;
-        let z = self.zones;
-        let l = self.parts;
-        let w = self.points;
+        let p = self.in_row(row);
         match s {
-            Statement::NumSegments(k) => Place::at(part, row, due, k, z, l, w),
-            Statement::NumZones(k) => Place::at(part, row, 1, o, k, l, w),
+            Statement::NumSegments(k) => Place { segments: k, ..p },
+            Statement::NumZones(k) => Place {
+                due: 1,
+                zones: k,
+                ..p
+            },
             Statement::Segment(m) => self.opened(Open::Segment(m), row),
-            Statement::NumLanes(k) => Place::at(part, row, 1, o, z, k, w),
-            Statement::EndSegment => self.left(row),
+            Statement::NumLanes(k) => Place {
+                due: 1,
+                parts: k,
+                ..p
+            },
             Statement::Lane(m, n) => self.opened(Open::Lane(m, n), row),
-            Statement::NumWaypoints(k) => Place::at(part, row, 1, o, z, l, k),
-            Statement::EndLane => self.left(row),
+            Statement::NumWaypoints(k) | Statement::NumPerimeterpoints(k) => Place {
+                due: 1,
+                points: k,
+                ..p
+            },
             Statement::Zone(m) => self.opened(Open::Zone(m), row),
-            Statement::NumSpots(k) => Place::at(part, row, due, o, z, k, w),
-            Statement::EndZone => self.left(row),
+            Statement::NumSpots(k) => Place { parts: k, ..p },
             Statement::Perimeter(m, _) => self.opened(Open::Perimeter(m), row),
-            Statement::NumPerimeterpoints(k) => Place::at(part, row, 1, o, z, l, k),
-            Statement::EndPerimeter => self.left(row),
             Statement::Spot(m, n) => self.opened(Open::Spot(m, n), row),
-            Statement::EndSpot => self.left(row),
-            Statement::EndFile => Place::at(part, row, 0, o, z, l, w),
+            Statement::EndSegment
+            | Statement::EndLane
+            | Statement::EndZone
+            | Statement::EndPerimeter
+            | Statement::EndSpot => self.left(row),
+            Statement::EndFile => Place { due: 0, ..p },
             Statement::Point(i, _, _) => self.passed(i.z, row),
-            _ => Place::at(part, row, due, o, z, l, w),
+            _ => p,
         }
     }
 
@@ -377,17 +387,9 @@ impl Place {
     fn opted(self, slot: u8) -> Place
         ensures { result ≡ opted_of self slot }
     {
-        let part = self.part;
-        let given = self.given.marked(slot);
         Place {
-            part: part,
-            row: self.row,
-            due: self.due,
-            segments: self.segments,
-            zones: self.zones,
-            parts: self.parts,
-            points: self.points,
-            given: given,
+            given: self.given.marked(slot),
+            ..self
         }
     }
 
@@ -395,11 +397,7 @@ impl Place {
     fn ready(self) -> bool
         ensures { result ≡ ready_of self }
     {
-        if self.row == rndf::FIRST_OF_SPOT_DUE {
-            self.given.second
-        } else {
-            true
-        }
+        self.row != rndf::FIRST_OF_SPOT_DUE || self.given.second
     }
 
     // The cell of a kind in the table that is lent; refused where there is no such kind.
@@ -414,16 +412,13 @@ impl Place {
         ensures { result ≡ verdict_of (refuses_by self.given cell) }
     {
         if cell < place_table::OFTEN {
-            return Ok(());
-        }
-        if cell < place_table::REFUSED {
-            if self.has(cell - place_table::OFTEN) {
-                Err(6)
-            } else {
-                Ok(())
-            }
-        } else {
+            Ok(())
+        } else if place_table::REFUSED <= cell {
             Err(5)
+        } else if self.has(cell - place_table::OFTEN) {
+            Err(6)
+        } else {
+            Ok(())
         }
     }
 
@@ -431,14 +426,12 @@ impl Place {
     pub fn tested(self, cell: u8, s: Statement) -> Result<(), u8>
         ensures { result ≡ verdict_of (tested_of self s cell) }
     {
-        if self.permits(s) {
-            if cell < place_table::OFTEN {
-                if self.ready() { Ok(()) } else { Err(25) }
-            } else {
-                Ok(())
-            }
-        } else {
+        if !self.permits(s) {
             Err(9)
+        } else if cell < place_table::OFTEN && !self.ready() {
+            Err(25)
+        } else {
+            Ok(())
         }
     }
 

@@ -11,7 +11,7 @@ ghost use Rattle.std.specs.Prelude.{◌≡◌, suc, pred, ◌+◌};
 ghost use Rattle.grammar.specs.Tables.{first_spot_of};
 ghost use Rattle.units.specs.Made.{missing_feet};
 ghost use Rattle.room.specs.Room.{fitted};
-ghost use Rattle.progress.specs.After.{named, no_name_of, file_row_of, segment_row_of, lane_row, zone_row_of, spot_row_of, no_segment_of, no_lane_of, no_zone_of, no_spot_of, no_progress, width_of, side_of, next_point_of, with_segment, with_lane, with_zone, with_spot, one_checkpoint_of, one_stop_of, one_exit_of, points_at, begun, after_within};
+ghost use Rattle.progress.specs.After.{named, no_name_of, segment_row_of, lane_row, zone_row_of, spot_row_of, no_progress, width_of, side_of, next_point_of, with_segment, with_lane, with_zone, with_spot, one_checkpoint_of, one_stop_of, one_exit_of, points_at, begun, after_within};
 ghost use Rattle.progress.specs.Given.{point_of, row_of};
 ghost use Rattle.statement.specs.declared.Statement.TheVariants as st;
 
@@ -56,6 +56,39 @@ pub enum Row {
     Stop(StopRow),
     Exit(ExitRow),
 }
+
+// A name that is missing, and what stands where no such part is open.
+const NO_NAME: Stretch = Stretch {
+    start: 0,
+    length: 0,
+};
+
+const NO_SEGMENT: SegmentRow = SegmentRow {
+    first_lane: 0,
+    lanes: 0,
+    name: NO_NAME,
+};
+
+const NO_LANE: LaneRow = LaneRow {
+    first_point: 0,
+    points: 0,
+    width: Feet(0),
+    left: 0,
+    right: 0,
+};
+
+const NO_ZONE: ZoneRow = ZoneRow {
+    first_point: 0,
+    points: 0,
+    first_spot: 0,
+    spots: 0,
+    name: NO_NAME,
+};
+
+const NO_SPOT: SpotRow = SpotRow {
+    first_point: 0,
+    width: Feet(0),
+};
 
 // The width that a number is; a number that is none, as no place lets through, is the width that is missing.
 fn feet(n: u32) -> Feet
@@ -113,94 +146,7 @@ fn next_point(first: u32, within: u32) -> u32
 fn named(start: u32, length: u32) -> Stretch
     ensures { result ≡ named start length }
 {
-    Stretch {
-        start: start,
-        length: length,
-    }
-}
-
-fn no_name() -> Stretch
-    ensures { result ≡ no_name_of }
-{
-    named(0, 0)
-}
-
-fn file_row(name: Stretch, version: Stretch, date: Stretch) -> FileRow
-    ensures { result ≡ file_row_of name version date }
-{
-    FileRow {
-        name: name,
-        version: version,
-        date: date,
-    }
-}
-
-fn segment_row(first: u32, lanes: u32, name: Stretch) -> SegmentRow
-    ensures { result ≡ segment_row_of first lanes name }
-{
-    SegmentRow {
-        first_lane: first,
-        lanes: lanes,
-        name: name,
-    }
-}
-
-fn lane_row(first: u32, points: u32, width: Feet, left: u8, right: u8) -> LaneRow
-    ensures { result ≡ lane_row first points width left right }
-{
-    LaneRow {
-        first_point: first,
-        points: points,
-        width: width,
-        left: left,
-        right: right,
-    }
-}
-
-fn zone_row(first: u32, points: u32, first_spot: u32, spots: u32, name: Stretch) -> ZoneRow
-    ensures { result ≡ zone_row_of first points first_spot spots name }
-{
-    ZoneRow {
-        first_point: first,
-        points: points,
-        first_spot: first_spot,
-        spots: spots,
-        name: name,
-    }
-}
-
-fn spot_row(first: u32, width: Feet) -> SpotRow
-    ensures { result ≡ spot_row_of first width }
-{
-    SpotRow {
-        first_point: first,
-        width: width,
-    }
-}
-
-// What stands where no such part is open.
-fn no_segment() -> SegmentRow
-    ensures { result ≡ no_segment_of }
-{
-    segment_row(0, 0, no_name())
-}
-
-fn no_lane() -> LaneRow
-    ensures { result ≡ no_lane_of }
-{
-    lane_row(0, 0, Feet(0), 0, 0)
-}
-
-fn no_zone() -> ZoneRow
-    ensures { result ≡ no_zone_of }
-{
-    zone_row(0, 0, 0, 0, no_name())
-}
-
-fn no_spot() -> SpotRow
-    ensures { result ≡ no_spot_of }
-{
-    spot_row(0, Feet(0))
+    Stretch { start, length }
 }
 
 impl Progress {
@@ -218,14 +164,14 @@ impl Progress {
             first: 0,
             within: 0,
             file: FileRow {
-                name: no_name(),
-                version: no_name(),
-                date: no_name(),
+                name: NO_NAME,
+                version: NO_NAME,
+                date: NO_NAME,
             },
-            segment: no_segment(),
-            lane: no_lane(),
-            zone: no_zone(),
-            spot: no_spot(),
+            segment: NO_SEGMENT,
+            lane: NO_LANE,
+            zone: NO_ZONE,
+            spot: NO_SPOT,
         }
     }
 
@@ -267,33 +213,21 @@ impl Progress {
     fn file_named(mut self, start: u32, length: u32) -> Progress
         ensures { result ≡ after_within (st.RndfName start length) self }
     {
-        let file = self.file;
-        let version = file.version;
-        let date = file.date;
-        let named = file_row(named(start, length), version, date);
-        self.file = named;
+        self.file.name = named(start, length);
         self
     }
 
     fn version_told(mut self, start: u32, length: u32) -> Progress
         ensures { result ≡ after_within (st.FormatVersion start length) self }
     {
-        let file = self.file;
-        let name = file.name;
-        let date = file.date;
-        let told = file_row(name, named(start, length), date);
-        self.file = told;
+        self.file.version = named(start, length);
         self
     }
 
     fn date_told(mut self, start: u32, length: u32) -> Progress
         ensures { result ≡ after_within (st.CreationDate start length) self }
     {
-        let file = self.file;
-        let name = file.name;
-        let version = file.version;
-        let told = file_row(name, version, named(start, length));
-        self.file = told;
+        self.file.date = named(start, length);
         self
     }
 
@@ -301,8 +235,10 @@ impl Progress {
     fn segment_begun(mut self) -> Progress
         ensures { result ≡ with_segment (segment_row_of self.lanes 0 no_name_of) self }
     {
-        let segment = segment_row(self.lanes, 0, no_name());
-        self.segment = segment;
+        self.segment = SegmentRow {
+            first_lane: self.lanes,
+            ..NO_SEGMENT
+        };
         self
     }
 
@@ -316,21 +252,15 @@ impl Progress {
     fn segment_named(mut self, start: u32, length: u32) -> Progress
         ensures { result ≡ after_within (st.SegmentName start length) self }
     {
-        let segment = segment_row(
-            self.segment.first_lane,
-            self.segment.lanes,
-            named(start, length),
-        );
-        self.segment = segment;
+        self.segment.name = named(start, length);
         self
     }
 
     fn segment_ended(mut self) -> Progress
         ensures { result ≡ after_within st.EndSegment self }
     {
-        let segment = no_segment();
         self.segments = one_more(self.segments);
-        self.segment = segment;
+        self.segment = NO_SEGMENT;
         self
     }
 
@@ -347,10 +277,13 @@ impl Progress {
         ensures { result ≡ with_lane (lane_row (fitted (next_point_of self)) 0 missing_feet 0 0) (begun fitted self) }
     {
         let first = next_point(self.first, self.within);
-        let lane = lane_row(first, 0, Feet::missing(), 0, 0);
         self.first = first;
         self.within = 0;
-        self.lane = lane;
+        self.lane = LaneRow {
+            first_point: first,
+            width: Feet::missing(),
+            ..NO_LANE
+        };
         self
     }
 
@@ -364,31 +297,21 @@ impl Progress {
     fn lane_wide(mut self, n: u32) -> Progress
         ensures { result ≡ after_within (st.LaneWidth n) self }
     {
-        let lane = self.lane;
-        let wide = lane_row(
-            lane.first_point,
-            lane.points,
-            feet(n),
-            lane.left,
-            lane.right,
-        );
-        self.lane = wide;
+        self.lane.width = feet(n);
         self
     }
 
     fn left_told(mut self, b: u8) -> Progress
         ensures { result ≡ after_within (st.LeftBoundary b) self }
     {
-        let left = side(b);
-        self.lane.left = left;
+        self.lane.left = side(b);
         self
     }
 
     fn right_told(mut self, b: u8) -> Progress
         ensures { result ≡ after_within (st.RightBoundary b) self }
     {
-        let right = side(b);
-        self.lane.right = right;
+        self.lane.right = side(b);
         self
     }
 
@@ -416,26 +339,25 @@ impl Progress {
     fn lane_ended(mut self) -> Progress
         ensures { result ≡ after_within st.EndLane self }
     {
-        let lane = no_lane();
         self.lanes = one_more(self.lanes);
-        self.lane = lane;
+        self.lane = NO_LANE;
         self
     }
 
     fn zone_begun(mut self) -> Progress
         ensures { result ≡ with_zone (zone_row_of (fitted (next_point_of self)) 0 0 0 no_name_of) self }
     {
-        let first = next_point(self.first, self.within);
-        let zone = zone_row(first, 0, 0, 0, no_name());
-        self.zone = zone;
+        self.zone = ZoneRow {
+            first_point: next_point(self.first, self.within),
+            ..NO_ZONE
+        };
         self
     }
 
     fn spots_told(mut self, n: u32) -> Progress
         ensures { result ≡ after_within (st.NumSpots n) self }
     {
-        let first = spots_from(self.spots, n);
-        self.zone.first_spot = first;
+        self.zone.first_spot = spots_from(self.spots, n);
         self.zone.spots = n;
         self
     }
@@ -443,24 +365,15 @@ impl Progress {
     fn zone_named(mut self, start: u32, length: u32) -> Progress
         ensures { result ≡ after_within (st.ZoneName start length) self }
     {
-        let zone = self.zone;
-        let named = zone_row(
-            zone.first_point,
-            zone.points,
-            zone.first_spot,
-            zone.spots,
-            named(start, length),
-        );
-        self.zone = named;
+        self.zone.name = named(start, length);
         self
     }
 
     fn zone_ended(mut self) -> Progress
         ensures { result ≡ after_within st.EndZone self }
     {
-        let zone = no_zone();
         self.zones = one_more(self.zones);
-        self.zone = zone;
+        self.zone = NO_ZONE;
         self
     }
 
@@ -475,27 +388,27 @@ impl Progress {
         ensures { result ≡ with_spot (spot_row_of (fitted (next_point_of self)) missing_feet) (begun fitted self) }
     {
         let first = next_point(self.first, self.within);
-        let spot = spot_row(first, Feet::missing());
         self.first = first;
         self.within = 0;
-        self.spot = spot;
+        self.spot = SpotRow {
+            first_point: first,
+            width: Feet::missing(),
+        };
         self
     }
 
     fn spot_wide(mut self, n: u32) -> Progress
         ensures { result ≡ after_within (st.SpotWidth n) self }
     {
-        let spot = spot_row(self.spot.first_point, feet(n));
-        self.spot = spot;
+        self.spot.width = feet(n);
         self
     }
 
     fn spot_ended(mut self) -> Progress
         ensures { result ≡ after_within st.EndSpot self }
     {
-        let spot = no_spot();
         self.spots = one_more(self.spots);
-        self.spot = spot;
+        self.spot = NO_SPOT;
         self
     }
 
@@ -510,18 +423,14 @@ impl Progress {
     pub fn row(self, s: Statement, start: u32) -> Row
         ensures { result ≡ row_of s start self }
     {
-        let segment = self.segment;
-        let lane = self.lane;
-        let zone = self.zone;
-        let spot = self.spot;
         match s {
-            Statement::EndSegment => Row::Segment(segment),
-            Statement::EndLane => Row::Lane(lane),
-            Statement::EndZone => Row::Zone(zone),
-            Statement::EndSpot => Row::Spot(spot),
+            Statement::EndSegment => Row::Segment(self.segment),
+            Statement::EndLane => Row::Lane(self.lane),
+            Statement::EndZone => Row::Zone(self.zone),
+            Statement::EndSpot => Row::Spot(self.spot),
             Statement::Point(_, latitude, longitude) => Row::Point(PointRow {
-                latitude: latitude,
-                longitude: longitude,
+                latitude,
+                longitude,
             }),
             Statement::Checkpoint(i, n) => {
                 Row::Checkpoint(CheckpointNumber::new(n), self.point_row(i.z))

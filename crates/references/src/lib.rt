@@ -35,10 +35,7 @@ use scan::is_digit;
 pub fn id_from(t: Option<Id>) -> Id
     ensures { result ≡ id_from_of t }
 {
-    match t {
-        Some(i) => i,
-        None => Id { x: 0, y: 0, z: 0 },
-    }
+    t.unwrap_or(Id { x: 0, y: 0, z: 0 })
 }
 
 // A byte of a number or an identifier.
@@ -52,15 +49,12 @@ fn is_number_byte(b: u8) -> bool
 fn number_end(s: &[u8], from: usize) -> usize
     ensures { result ≡ reach (fails number_byte) s.now from }
 {
-    let mut i = from;
-    while i < s.len() {
-        if is_number_byte(s[i]) {
-            i += 1;
-        } else {
+    for i in from..s.len() {
+        if !is_number_byte(s[i]) {
             return i;
         }
     }
-    i
+    from.max(s.len())
 }
 
 // The entry at a place of any text, cut out.
@@ -94,19 +88,15 @@ fn entry_at(text: &[u8], at: usize) -> Id
 fn before(n: u32) -> usize
     ensures { result ≡ pred n }
 {
-    if 0 < n { (n - 1) as usize } else { 0 }
+    n.saturating_sub(1) as usize
 }
 
 // The z-th of so many points, the first of which has this row.
 fn in_part(first: u32, count: u32, z: u32) -> Option<usize>
     ensures { found result ≡ Resolve.in_part_of first count z }
 {
-    if 0 < z {
-        if z <= count {
-            Some(first as usize + before(z))
-        } else {
-            None
-        }
+    if 0 < z && z <= count {
+        Some(first as usize + before(z))
     } else {
         None
     }
@@ -224,11 +214,8 @@ pub fn resolve_exits(
     ensures exits_after { told result exits.new ≡ resolved_from text.now (look_in segments.now lanes.now zones.now) segment_count exits.old 0 exit_count }
     ensures exits_after_2 { exits.new ≡ left_from text.now (look_in segments.now lanes.now zones.now) segment_count exits.old 0 exit_count }
 {
-    let mut row: u32 = 0;
-    while row < exit_count {
-        if resolve_exit(text, segments, lanes, zones, exits, segment_count, row) {
-            row += 1;
-        } else {
+    for row in 0..exit_count {
+        if !resolve_exit(text, segments, lanes, zones, exits, segment_count, row) {
             return Some(row);
         }
     }

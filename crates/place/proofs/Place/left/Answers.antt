@@ -2,4 +2,4 @@
 use Rattle.place.proofs.Place.left.Goals as goal
 
 pub returns : goal.returns
-returns c = rw (← c.around-a.ensures) c.at.ensures
+returns c = rw (← c.around-around.ensures, c.in_row.ensures)

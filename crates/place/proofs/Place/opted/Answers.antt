@@ -2,4 +2,4 @@
 use Rattle.place.proofs.Place.opted.Goals as goal
 
 pub returns : goal.returns
-returns c = rw (← c.marked-given.ensures)
+returns c = rw (← c.marked.ensures)

@@ -3,4 +3,4 @@ use native.Mathlib.Numerals.{add-one}
 use Rattle.place.proofs.Place.passed.Goals as goal
 
 pub returns : goal.returns
-returns c = rw (← c.less-left.ensures, ← add-one) c.at.ensures
+returns c = rw (c.in_row.ensures, ← c.less.ensures, add-one)

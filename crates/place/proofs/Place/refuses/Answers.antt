@@ -8,14 +8,14 @@ pub returns-then-cell-lt-OFTEN : goal.returns-then-cell-lt-OFTEN
 unfolding refuses_by verdict_of
 returns-then-cell-lt-OFTEN c = rw (lt-ltb _ _ c.if-cell-lt-OFTEN.true)
 
+pub returns-then-cell-ge-REFUSED : goal.returns-then-cell-ge-REFUSED
+unfolding refuses_by verdict_of
+returns-then-cell-ge-REFUSED c = rw (le-ltb _ _ c.if-cell-lt-OFTEN.false, le-ltb _ _ c.if-cell-ge-REFUSED.true)
+
 pub returns-then-has : goal.returns-then-has
 unfolding refuses_by verdict_of
-returns-then-has c = rw (le-ltb _ _ c.if-cell-lt-OFTEN.false, lt-ltb _ _ c.if-cell-lt-REFUSED.true, ← c.has.ensures, c.if-has.true)
+returns-then-has c = rw (le-ltb _ _ c.if-cell-lt-OFTEN.false, lt-ltb _ _ c.if-cell-ge-REFUSED.false, ← c.has.ensures, c.if-has.true)
 
 pub returns-else-has : goal.returns-else-has
 unfolding refuses_by verdict_of
-returns-else-has c = rw (le-ltb _ _ c.if-cell-lt-OFTEN.false, lt-ltb _ _ c.if-cell-lt-REFUSED.true, ← c.has.ensures, c.if-has.false)
-
-pub returns-else-cell-lt-REFUSED : goal.returns-else-cell-lt-REFUSED
-unfolding refuses_by verdict_of
-returns-else-cell-lt-REFUSED c = rw (le-ltb _ _ c.if-cell-lt-OFTEN.false, le-ltb _ _ c.if-cell-lt-REFUSED.false)
+returns-else-has c = rw (le-ltb _ _ c.if-cell-lt-OFTEN.false, lt-ltb _ _ c.if-cell-ge-REFUSED.false, ← c.has.ensures, c.if-has.false)

@@ -5,4 +5,4 @@ use Rattle.progress.proofs.Progress.lane_wide.Goals as goal
 
 pub returns : goal.returns
 unfolding after_within
-returns c = rw (c.lane_row-wide.ensures, c.feet.ensures) refl
+returns c = rw c.feet-self.ensures refl

@@ -5,4 +5,4 @@ use Rattle.progress.proofs.Progress.left_told.Goals as goal
 
 pub returns : goal.returns
 unfolding after_within
-returns c = rw c.side-left.ensures refl
+returns c = rw c.side-self.ensures refl

@@ -5,4 +5,4 @@ use Rattle.progress.proofs.Progress.right_told.Goals as goal
 
 pub returns : goal.returns
 unfolding after_within
-returns c = rw c.side-right.ensures refl
+returns c = rw c.side-self.ensures refl

@@ -3,4 +3,4 @@ use mathlib.Core.Path.{refl}
 use Rattle.progress.proofs.Progress.segment_begun.Goals as goal
 
 pub returns : goal.returns
-returns c = rw (c.segment_row-segment.ensures, c.no_name.ensures) refl
+returns c = refl

@@ -5,4 +5,4 @@ use Rattle.progress.proofs.Progress.segment_named.Goals as goal
 
 pub returns : goal.returns
 unfolding after_within
-returns c = rw (c.segment_row-segment.ensures, c.named.ensures) refl
+returns c = rw c.named-self.ensures refl

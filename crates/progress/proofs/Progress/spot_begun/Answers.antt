@@ -3,4 +3,4 @@ use mathlib.Core.Path.{refl}
 use Rattle.progress.proofs.Progress.spot_begun.Goals as goal
 
 pub returns : goal.returns
-returns c = rw (c.spot_row-spot.ensures, c.missing.ensures, c.next_point-first.ensures) refl
+returns c = rw (c.missing.ensures, c.next_point-first.ensures) refl

@@ -5,4 +5,4 @@ use Rattle.progress.proofs.Progress.spot_wide.Goals as goal
 
 pub returns : goal.returns
 unfolding after_within
-returns c = rw (c.spot_row-spot.ensures, c.feet.ensures) refl
+returns c = rw c.feet-self.ensures refl

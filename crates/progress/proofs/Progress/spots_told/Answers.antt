@@ -5,4 +5,4 @@ use Rattle.progress.proofs.Progress.spots_told.Goals as goal
 
 pub returns : goal.returns
 unfolding after_within
-returns c = rw c.spots_from-first.ensures refl
+returns c = rw c.spots_from-self.ensures refl

@@ -5,4 +5,4 @@ use Rattle.progress.proofs.Progress.version_told.Goals as goal
 
 pub returns : goal.returns
 unfolding after_within
-returns c = rw (c.file_row-told.ensures, c.named.ensures) refl
+returns c = rw c.named-self.ensures refl

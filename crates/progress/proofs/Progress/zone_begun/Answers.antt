@@ -3,4 +3,4 @@ use mathlib.Core.Path.{refl}
 use Rattle.progress.proofs.Progress.zone_begun.Goals as goal
 
 pub returns : goal.returns
-returns c = rw (c.zone_row-zone.ensures, c.no_name.ensures, c.next_point-first.ensures) refl
+returns c = rw c.next_point.ensures refl

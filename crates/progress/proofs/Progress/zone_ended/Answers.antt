@@ -5,4 +5,4 @@ use Rattle.progress.proofs.Progress.zone_ended.Goals as goal
 
 pub returns : goal.returns
 unfolding after_within
-returns c = rw (c.no_zone-zone.ensures, c.one_more.ensures) refl
+returns c = rw c.one_more.ensures refl
