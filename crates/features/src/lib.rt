@@ -244,14 +244,12 @@ struct Walked {
 fn part_end(checkpoints: &[u32], count: usize, next: usize, behind: usize) -> usize
     ensures { result ≡ part_end checkpoints.now behind next (count - next) }
 {
-    let mut row = next;
-    while row < count {
+    for row in next..count {
         if behind <= checkpoint_at(checkpoints, row).point as usize {
             return row;
         }
-        row = row + 1;
     }
-    row
+    next.max(count)
 }
 
 // The checkpoint rows from `next` to before `end`, all in part m.n.

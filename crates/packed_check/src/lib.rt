@@ -7,7 +7,7 @@
 #![tactic(auto)]
 
 ghost use Rattle.std.specs.Prelude.{◌≡◌};
-ghost use Rattle.packed_check.specs.Judgement.{behind, places_of, table_at, few, tables_right, linked, with_places_of, by_zones_of, with_lanes_of, by_segments_of, by_file_of, judgement};
+ghost use Rattle.packed_check.specs.Judgement.{behind, places_of, table_at, few, tables_right, linked, with_places_of, with_lanes_of, judgement};
 
 use counts::Counts;
 use packed_frame::{are_spots, file_at, segments_at, zones_at};
@@ -68,14 +68,10 @@ fn are_few(c: Counts) -> bool
 fn are_tables(bytes: &[u8], c: Counts, places: Places) -> bool
     ensures { result ≡ tables_right bytes.now c places }
 {
-    if are_spots(bytes, places.zones, c.zones, places.spots) {
-        if are_points(bytes, places.points, c.points) {
-            if are_checkpoints(bytes, places.checkpoints, c.checkpoints) {
-                return are_records_of(bytes, places.stops, 4, c.stops);
-            }
-        }
-    }
-    false
+    are_spots(bytes, places.zones, c.zones, places.spots)
+        && are_points(bytes, places.points, c.points)
+        && are_checkpoints(bytes, places.checkpoints, c.checkpoints)
+        && are_records_of(bytes, places.stops, 4, c.stops)
 }
 
 // Exits lead to entries, and every checkpoint, stop and exit is its part's. point: the first zone point.
@@ -83,16 +79,16 @@ fn are_linked(bytes: &[u8], c: Counts, places: Places, point: u64) -> bool
     ensures { result ≡ linked bytes.now c places point }
 {
     let spots = table_at(places.spots, c.spots);
-    if are_exits(bytes, places.exits, c.exits, spots, c.points, point) {
-        let lanes = table_at(places.lanes, c.lanes);
-        let zones = table_at(places.zones, c.zones);
-        let checkpoints = table_at(places.checkpoints, c.checkpoints);
-        let stops = table_at(places.stops, c.stops);
-        let exits = table_at(places.exits, c.exits);
-        are_parts(bytes, lanes, zones, checkpoints, stops, exits, point)
-    } else {
-        false
-    }
+    are_exits(bytes, places.exits, c.exits, spots, c.points, point)
+        && are_parts(
+            bytes,
+            table_at(places.lanes, c.lanes),
+            table_at(places.zones, c.zones),
+            table_at(places.checkpoints, c.checkpoints),
+            table_at(places.stops, c.stops),
+            table_at(places.exits, c.exits),
+            point,
+        )
 }
 
 // ## One pass behind the other
@@ -106,39 +102,10 @@ fn with_places(
 ) -> Option<(Counts, FileRow, Places)>
     ensures { result ≡ with_places_of bytes.now c row places point }
 {
-    if behind(places.exits, 10, c.exits) == bytes.len() {
-        if are_tables(bytes, c, places) {
-            if are_linked(bytes, c, places, point) {
-                return Some((c, row, places));
-            }
-        }
-    }
-    None
-}
-
-fn by_zones(
-    bytes: &[u8],
-    c: Counts,
-    row: FileRow,
-    segments: usize,
-    lanes: usize,
-    point: u64,
-    told: Option<(usize, u64, u64)>,
-) -> Option<(Counts, FileRow, Places)>
-    ensures { result ≡ by_zones_of bytes.now c row segments lanes point told }
-{
-    match told {
-        None => None,
-        Some((spots, points, count)) => {
-            if points == c.points as u64 {
-                if count == c.spots as u64 {
-                    let places = places_of(c, segments, lanes, spots);
-                    return with_places(bytes, c, row, places, point);
-                }
-            }
-            None
-        }
-    }
+    let passes = behind(places.exits, 10, c.exits) == bytes.len()
+        && are_tables(bytes, c, places)
+        && are_linked(bytes, c, places, point);
+    passes.then_some((c, row, places))
 }
 
 fn with_lanes(
@@ -150,56 +117,29 @@ fn with_lanes(
 ) -> Option<(Counts, FileRow, Places)>
     ensures { result ≡ with_lanes_of bytes.now c row segments lanes }
 {
-    if are_lanes(bytes, lanes, c.lanes) {
-        let point = lanes_end(bytes, table_at(lanes, c.lanes));
-        let zones = behind(lanes, 12, c.lanes);
-        let told = zones_at(bytes, zones, c.zones, point);
-        by_zones(bytes, c, row, segments, lanes, point, told)
-    } else {
-        None
+    if !are_lanes(bytes, lanes, c.lanes) {
+        return None;
     }
-}
-
-fn by_segments(
-    bytes: &[u8],
-    c: Counts,
-    row: FileRow,
-    place: usize,
-    told: Option<(usize, u64)>,
-) -> Option<(Counts, FileRow, Places)>
-    ensures { result ≡ by_segments_of bytes.now c row place told }
-{
-    match told {
-        None => None,
-        Some((lanes, count)) => {
-            if count == c.lanes as u64 {
-                return with_lanes(bytes, c, row, place, lanes);
-            }
-            None
-        }
+    let point = lanes_end(bytes, table_at(lanes, c.lanes));
+    let zones = behind(lanes, 12, c.lanes);
+    let (spots, points, count) = zones_at(bytes, zones, c.zones, point)?;
+    if points != c.points as u64 || count != c.spots as u64 {
+        return None;
     }
-}
-
-fn by_file(
-    bytes: &[u8],
-    told: Option<(Counts, FileRow, usize)>,
-) -> Option<(Counts, FileRow, Places)>
-    ensures { result ≡ by_file_of bytes.now told }
-{
-    match told {
-        None => None,
-        Some((c, row, place)) => {
-            if are_few(c) {
-                let told = segments_at(bytes, place, c.segments);
-                return by_segments(bytes, c, row, place, told);
-            }
-            None
-        }
-    }
+    let places = places_of(c, segments, lanes, spots);
+    with_places(bytes, c, row, places, point)
 }
 
 pub fn judged(bytes: &[u8]) -> Option<(Counts, FileRow, Places)>
     ensures { result ≡ judgement bytes.now }
 {
-    by_file(bytes, file_at(bytes))
+    let (c, row, segments) = file_at(bytes)?;
+    if !are_few(c) {
+        return None;
+    }
+    let (lanes, count) = segments_at(bytes, segments, c.segments)?;
+    if count != c.lanes as u64 {
+        return None;
+    }
+    with_lanes(bytes, c, row, segments, lanes)
 }

@@ -1,6 +1,6 @@
 -- Executable: numbers of two bytes, names, and records that end with a name. Assumes nothing.
 use Rattle.terms.specs.Words.{ℕ, leb, eqb, length, take, drop, Bytes, pick}
-use Rattle.std.specs.Prelude.{get_or, ◌+◌}
+use Rattle.std.specs.Prelude.{get_or, ◌+◌, Option, Some, None}
 use Rattle.scan.specs.Allowed.{field_byte, all}
 use Rattle.packed_rows.specs.Walk.{two}
 
@@ -22,3 +22,11 @@ with_name_of size b at name = pick (eqb name no_name) 0 (pick (eqb (two_at b at)
 
 unfoldable pub named_end : ℕ → Bytes → ℕ → ℕ
 named_end size b at = pick (leb (at + (size + 2)) (length b)) (with_name_of size b at (name_size_of b (at + (size + 2)))) 0
+
+-- what code answers: none where no name stands
+abbrev pub size_or_none : ℕ → Option ℕ
+size_or_none n = pick (eqb n no_name) None (Some n)
+
+-- none where no record stands
+abbrev pub place_or_none : ℕ → Option ℕ
+place_or_none n = pick (eqb n 0) None (Some n)

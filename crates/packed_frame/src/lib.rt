@@ -8,7 +8,7 @@
 
 ghost use Rattle.std.specs.Prelude.{◌≡◌, ℕ, ◌<◌, ◌+◌, ◌≤◌, take, drop, length};
 ghost use Rattle.scan.specs.Allowed.{field_byte, all};
-ghost use Rattle.packed_frame.specs.Names.{two_at, name_size_of, named_end};
+ghost use Rattle.packed_frame.specs.Names.{two_at, name_size_of, named_end, size_or_none, place_or_none};
 ghost use Rattle.packed_frame.specs.Named.{run_fits};
 ghost use Rattle.packed_frame.specs.Segments.{segment_end_of, segments_told, segments};
 ghost use Rattle.packed_frame.specs.Zones.{spots_fit_of, zone_end_of, zones_told, zones};
@@ -21,20 +21,14 @@ use rows::{FileRow, Stretch};
 use units::{Feet, LARGEST_INTEGER};
 
 // ## Names
-// What is answered where no name stands: one byte more than a name can have.
-pub const NO_NAME: usize = 129;
-
 // A number of two bytes, the high one first; 0 where they are not there.
 pub fn two_at(bytes: &[u8], at: usize) -> u16
     ensures { result ≡ two_at bytes.now at }
 {
-    if bytes.len() < 2 {
+    let Some([high, low, ..]) = bytes.get(at..) else {
         return 0;
-    }
-    if bytes.len() - 2 < at {
-        return 0;
-    }
-    pair(bytes[at], bytes[at + 1]) as u16
+    };
+    pair(*high, *low) as u16
 }
 
 // A byte that may stand in a field.
@@ -51,50 +45,27 @@ fn are_field_bytes(bytes: &[u8]) -> bool
     bytes.iter().all(|b| is_field_byte(*b))
 }
 
-// The length of the name at this place, behind its two bytes of length; 0 where it is missing, `NO_NAME` where none stands here.
-pub fn name_size(bytes: &[u8], at: usize) -> usize
-    ensures { result ≡ name_size_of bytes.now at }
+// The length of the name at this place, behind its two bytes of length; 0 where it is missing.
+pub fn name_size(bytes: &[u8], at: usize) -> Option<usize>
+    ensures { result ≡ size_or_none (name_size_of bytes.now at) }
 {
-    if bytes.len() < 2 {
-        return NO_NAME;
-    }
-    if bytes.len() - 2 < at {
-        return NO_NAME;
-    }
-    let size = two_at(bytes, at) as usize;
-    if 128 < size {
-        return NO_NAME;
-    }
-    if bytes.len() - 2 - at < size {
-        return NO_NAME;
-    }
-    if are_field_bytes(&bytes[at + 2..at + 2 + size]) {
-        size
-    } else {
-        NO_NAME
-    }
+    let [high, low, behind @ ..] = bytes.get(at..)? else {
+        return None;
+    };
+    let name = behind.get(..pair(*high, *low))?;
+    (name.len() <= 128 && are_field_bytes(name)).then_some(name.len())
 }
 
-// The place behind a record of so many bytes and then a name; 0 where none stands here.
-fn named_end(bytes: &[u8], at: usize, size: u16) -> usize
-    ensures { result ≡ named_end size bytes.now at }
+// The place behind a record of so many bytes and then a name.
+fn named_end(bytes: &[u8], at: usize, size: u16) -> Option<usize>
+    ensures { result ≡ place_or_none (named_end size bytes.now at) }
 {
     let long = size as usize + 2;
-    if bytes.len() < long {
-        return 0;
+    if bytes.len() < long || bytes.len() - long < at {
+        return None;
     }
-    if bytes.len() - long < at {
-        return 0;
-    }
-    let name = name_size(bytes, at + long);
-    if name == NO_NAME {
-        return 0;
-    }
-    if two_at(bytes, at) as usize == long + name {
-        at + long + 2 + name
-    } else {
-        0
-    }
+    let name = name_size(bytes, at + long)?;
+    (two_at(bytes, at) as usize == long + name).then_some(at + long + 2 + name)
 }
 
 // A segment's lanes, or a zone's points, begin at the sum so far, and there are not too many of them.
@@ -104,19 +75,12 @@ fn run_fits(sum: u64, begin: u32, size: u16) -> bool
     (begin as u64 == sum) & ((1 <= size) & (size as u32 <= LARGEST_INTEGER))
 }
 
-// The place behind the segment here; 0 where it is none.
-fn segment_end(bytes: &[u8], at: usize, sum: u64) -> usize
-    ensures { result ≡ segment_end_of bytes.now at sum }
+// The place behind the segment here.
+fn segment_end(bytes: &[u8], at: usize, sum: u64) -> Option<usize>
+    ensures { result ≡ place_or_none (segment_end_of bytes.now at sum) }
 {
-    let end = named_end(bytes, at, 6);
-    if end == 0 {
-        return 0;
-    }
-    if run_fits(sum, four_at(bytes, at + 2), two_at(bytes, at + 6)) {
-        end
-    } else {
-        0
-    }
+    let end = named_end(bytes, at, 6)?;
+    run_fits(sum, four_at(bytes, at + 2), two_at(bytes, at + 6)).then_some(end)
 }
 
 // So many segments from this place on.
@@ -126,10 +90,7 @@ pub fn segments_at(bytes: &[u8], from: usize, count: u32) -> Option<(usize, u64)
     let mut at = from;
     let mut lanes: u64 = 0;
     for _ in 0..count {
-        let end = segment_end(bytes, at, lanes);
-        if end == 0 {
-            return None;
-        }
+        let end = segment_end(bytes, at, lanes)?;
         lanes = lanes + two_at(bytes, at + 6) as u64;
         at = end;
     }
@@ -144,20 +105,15 @@ fn spots_fit(spot: u64, begin: u32, spots: u16) -> bool
         & (((spots == 0) & (begin == 0)) | ((spots != 0) & (begin as u64 == spot)))
 }
 
-// The place behind the zone here; 0 where it is none.
-fn zone_end(bytes: &[u8], at: usize, point: u64, spot: u64) -> usize
-    ensures { (result ≡ zone_end_of bytes.now at (point, spot)) × ((result ≡ 0 → ⊥) → point < 4294967296) }
+// The place behind the zone here.
+fn zone_end(bytes: &[u8], at: usize, point: u64, spot: u64) -> Option<usize>
+    ensures { (result ≡ place_or_none (zone_end_of bytes.now at (point, spot)))
+        × ((zone_end_of bytes.now at (point, spot) ≡ 0 → ⊥) → point < 4294967296) }
 {
-    let end = named_end(bytes, at, 12);
-    if end == 0 {
-        return 0;
-    }
-    if run_fits(point, four_at(bytes, at + 2), two_at(bytes, at + 6)) {
-        if spots_fit(spot, four_at(bytes, at + 8), two_at(bytes, at + 12)) {
-            return end;
-        }
-    }
-    0
+    let end = named_end(bytes, at, 12)?;
+    let fits = run_fits(point, four_at(bytes, at + 2), two_at(bytes, at + 6))
+        && spots_fit(spot, four_at(bytes, at + 8), two_at(bytes, at + 12));
+    fits.then_some(end)
 }
 
 // So many zones from this place on. first: the first point that they have.
@@ -168,10 +124,7 @@ pub fn zones_at(bytes: &[u8], from: usize, count: u32, first: u64) -> Option<(us
     let mut point = first;
     let mut spot: u64 = 0;
     for _ in 0..count {
-        let end = zone_end(bytes, at, point, spot);
-        if end == 0 {
-            return None;
-        }
+        let end = zone_end(bytes, at, point, spot)?;
         let spots = two_at(bytes, at + 12) as u64;
         point = point + (two_at(bytes, at + 6) as u64 + (spots + spots));
         spot = spot + spots;
@@ -193,11 +146,7 @@ fn spot_fits(point: u64, begin: u32, width: u16) -> bool
 fn is_spot(bytes: &[u8], at: usize, point: u64) -> bool
     ensures { result ≡ spot-at bytes.now at point }
 {
-    if is_record(bytes, at, 6) {
-        spot_fits(point, four_at(bytes, at + 2), two_at(bytes, at + 6))
-    } else {
-        false
-    }
+    is_record(bytes, at, 6) && spot_fits(point, four_at(bytes, at + 2), two_at(bytes, at + 6))
 }
 
 // So many spots from this place on, whose points stand one behind the other: behind so many of a perimeter that begins there.
@@ -220,12 +169,14 @@ fn are_spots_behind(bytes: &[u8], from: usize, begin: u32, points: u16, count: u
 fn are_spots_of(bytes: &[u8], zone: usize, at: usize) -> bool
     ensures { result ≡ zone_spots bytes.now zone at }
 {
-    if named_end(bytes, zone, 12) == 0 {
-        return false;
-    }
-    let begin = four_at(bytes, zone + 2);
-    let points = two_at(bytes, zone + 6);
-    are_spots_behind(bytes, at, begin, points, two_at(bytes, zone + 12))
+    named_end(bytes, zone, 12).is_some()
+        && are_spots_behind(
+            bytes,
+            at,
+            four_at(bytes, zone + 2),
+            two_at(bytes, zone + 6),
+            two_at(bytes, zone + 12),
+        )
 }
 
 // The spots of so many zones. from: where the zones stand; spots: where the spots stand.
@@ -239,7 +190,7 @@ pub fn are_spots(bytes: &[u8], from: usize, count: u32, spots: usize) -> bool
             return false;
         }
         at = at + 8 * two_at(bytes, zone + 12) as usize;
-        zone = named_end(bytes, zone, 12);
+        zone = named_end(bytes, zone, 12).unwrap_or(0);
     }
     true
 }
@@ -264,16 +215,9 @@ fn counts_told(bytes: &[u8]) -> Counts
 fn stretch_of(start: u32, size: u32) -> Stretch
     ensures { result ≡ the_the_stretch_of start size }
 {
-    if size == 0 {
-        Stretch {
-            start: 0,
-            length: 0,
-        }
-    } else {
-        Stretch {
-            start: start,
-            length: size,
-        }
+    Stretch {
+        start: if size == 0 { 0 } else { start },
+        length: size,
     }
 }
 
@@ -281,30 +225,20 @@ fn stretch_of(start: u32, size: u32) -> Stretch
 pub fn file_at(bytes: &[u8]) -> Option<(Counts, FileRow, usize)>
     ensures { result ≡ file_at_of bytes.now }
 {
-    let first = name_size(bytes, 39);
+    let first = name_size(bytes, 39)?;
     if first == 0 {
         return None;
     }
-    if first == NO_NAME {
-        return None;
-    }
     let second_at = 39 + 2 + first;
-    let second = name_size(bytes, second_at);
-    if second == NO_NAME {
+    let second = name_size(bytes, second_at)?;
+    let end = second_at + 2 + second;
+    if two_at(bytes, 5) as usize + 7 != end {
         return None;
     }
-    let end = second_at + 2 + second;
-    if two_at(bytes, 5) as usize + 7 == end {
-        let row = FileRow {
-            name: stretch_of(41, first as u32),
-            version: stretch_of((second_at + 2) as u32, second as u32),
-            date: Stretch {
-                start: 0,
-                length: 0,
-            },
-        };
-        Some((counts_told(bytes), row, end))
-    } else {
-        None
-    }
+    let row = FileRow {
+        name: stretch_of(41, first as u32),
+        version: stretch_of((second_at + 2) as u32, second as u32),
+        date: stretch_of(0, 0),
+    };
+    Some((counts_told(bytes), row, end))
 }

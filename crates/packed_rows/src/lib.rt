@@ -20,7 +20,7 @@ use units::{Feet, LARGEST_INTEGER, LARGEST_LATITUDE, LARGEST_LONGITUDE};
 pub fn pair(a: u8, b: u8) -> usize
     ensures { (result ≡ two a b) × (result < 65536) }
 {
-    a as usize * 256 + b as usize
+    u16::from_be_bytes([a, b]) as usize
 }
 
 // The bytes from this place on are records, each with its length first; none runs past the end.
@@ -41,16 +41,10 @@ pub fn are_records(bytes: &[u8], from: usize) -> bool
 pub fn is_record(bytes: &[u8], at: usize, size: u16) -> bool
     ensures { result ≡ record_here size (drop at bytes.now) }
 {
-    if bytes.len() <= at {
+    let Some([high, low, behind @ ..]) = bytes.get(at..) else {
         return false;
-    }
-    if bytes.len() - at < 2 {
-        return false;
-    }
-    if bytes.len() - at - 2 < size as usize {
-        return false;
-    }
-    pair(bytes[at], bytes[at + 1]) == size as usize
+    };
+    size as usize <= behind.len() && pair(*high, *low) == size as usize
 }
 
 // So many records of this size stand one behind the other from this place on.
@@ -71,43 +65,26 @@ pub fn are_records_of(bytes: &[u8], from: usize, size: u16, count: u32) -> bool
 pub fn four_at(bytes: &[u8], at: usize) -> u32
     ensures { result ≡ four_at_of bytes.now at }
 {
-    if bytes.len() < 4 {
+    let Some([a, b, c, d, ..]) = bytes.get(at..) else {
         return 0;
-    }
-    if bytes.len() - 4 < at {
-        return 0;
-    }
-    let high = pair(bytes[at], bytes[at + 1]) as u32;
-    let low = pair(bytes[at + 2], bytes[at + 3]) as u32;
-    high * 65536 + low
+    };
+    u32::from_be_bytes([*a, *b, *c, *d])
 }
 
 // A coordinate that is told so is not farther from 0 than this.
 fn is_degree(most: u32, word: u32) -> bool
     ensures { result ≡ degree most word }
 {
-    if word <= most {
-        true
-    } else {
-        4294967295 - word < most
-    }
+    word <= most || 4294967295 - word < most
 }
 
 // A record of a point of the earth stands at this place.
 fn is_point(bytes: &[u8], at: usize) -> bool
     ensures { result ≡ point_right bytes.now at }
 {
-    if is_record(bytes, at, 8) {
-        let latitude = four_at(bytes, at + 2);
-        let longitude = four_at(bytes, at + 6);
-        if is_degree(LARGEST_LATITUDE as u32, latitude) {
-            is_degree(LARGEST_LONGITUDE as u32, longitude)
-        } else {
-            false
-        }
-    } else {
-        false
-    }
+    is_record(bytes, at, 8)
+        && is_degree(LARGEST_LATITUDE as u32, four_at(bytes, at + 2))
+        && is_degree(LARGEST_LONGITUDE as u32, four_at(bytes, at + 6))
 }
 
 // So many records of points of the earth stand one behind the other from this place on.
@@ -128,43 +105,32 @@ pub fn are_points(bytes: &[u8], from: usize, count: u32) -> bool
 fn is_width(w: u32) -> bool
     ensures { result ≡ width_right w }
 {
-    if w <= Feet::LARGEST as u32 {
-        true
-    } else {
-        w == Feet::MISSING.0 as u32
-    }
+    w <= Feet::LARGEST as u32 || w == Feet::MISSING.0 as u32
 }
 
 // A lane's numbers are in their ranges, and its first point is the sum so far.
 fn lane_fits(sum: u64, begin: u32, counts: u32, sides: u32) -> bool
     ensures { result ≡ lane_right sum begin counts sides }
 {
-    if begin as u64 == sum {
-        if 1 <= counts / 65536 {
-            if counts / 65536 <= LARGEST_INTEGER {
-                if is_width(counts % 65536) {
-                    if sides / 256 % 256 <= 4 {
-                        return sides % 256 <= 4;
-                    }
-                }
-            }
-        }
-    }
-    false
+    begin as u64 == sum
+        && 1 <= counts / 65536
+        && counts / 65536 <= LARGEST_INTEGER
+        && is_width(counts % 65536)
+        && sides / 256 % 256 <= 4
+        && sides % 256 <= 4
 }
 
 // A record of a lane stands at this place, with its first point at the sum so far.
 fn is_lane(bytes: &[u8], at: usize, sum: u64) -> bool
     ensures { result ≡ the_lane_at_of bytes.now at sum }
 {
-    if is_record(bytes, at, 10) {
-        let begin = four_at(bytes, at + 2);
-        let counts = four_at(bytes, at + 6);
-        let sides = four_at(bytes, at + 8);
-        lane_fits(sum, begin, counts, sides)
-    } else {
-        false
-    }
+    is_record(bytes, at, 10)
+        && lane_fits(
+            sum,
+            four_at(bytes, at + 2),
+            four_at(bytes, at + 6),
+            four_at(bytes, at + 8),
+        )
 }
 
 // So many records of lanes stand one behind the other from this place on, and so do their points.

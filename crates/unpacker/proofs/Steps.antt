@@ -3,11 +3,11 @@ use Rattle.std.specs.Prelude.{Some, None, Ok, Err, Option, Result}
 use mathlib.Core.Path.{◌≡◌, refl, sym, ap, subst, ◌∙◌}
 use mathlib.Core.Bool.{Bool, true, false}
 use mathlib.Core.List.{[], ◌∷◌}
-use Prim.Native.Nat.{ℕ, suc, ◌≤◌, ◌<◌}
+use Prim.Native.Nat.{ℕ, suc, ◌≤◌}
 use native.Mathlib.Omega.{arith}
 use lib.Dec.{ltb}
 use lib.ListN.{length, drop, get_or}
-use borrow.Author.Tests.{ltb-true, ltb-false, lt-ltb, le-ltb}
+use borrow.Author.Tests.{ltb-true, ltb-false}
 use mir.Syntax.{w8}
 use mir.Val.{Fits}
 use Rattle.terms.specs.Ascii.{Bytes}
@@ -35,26 +35,10 @@ use Rattle.unpacked_tables.proofs.Network.{told-network, counts-used, file-used,
 use Rattle.law_tables.proofs.Rooms.{parts, marks, fit, parts-there, marks-there}
 use Rattle.unpacker.specs.Telling.{told_of, looked, roomed}
 
--- ## How the code comes to `looked`
+-- ## `looked` by its tests
 module _ (b : Bytes) where
   abbrev by_tests : (long version framed : Bool) → Result (Counts × FileRow × Places) Refusal
   by_tests long version framed = pick long (Err (refusal 1 0 1 0)) (pick version (pick framed (told_of (judgement b)) (Err (refusal 0 0 28 0))) (Err (refusal 0 0 27 0)))
-
-  tests : (long version framed : Bool) → ltb longest (length b) ≡ long → version_here b ≡ version → framed_here b ≡ framed → by_tests long version framed ≡ looked b
-  unfolding looked
-  tests long version framed e v f = sym (λ i. by_tests (e i) (v i) (f i))
-
-  pub look-long : longest < length b → Err (refusal 1 0 1 0) ≡ looked b
-  look-long h = tests true (version_here b) (framed_here b) (lt-ltb longest (length b) h) refl refl
-
-  pub look-version : length b ≤ longest → version_here b ≡ false → Err (refusal 0 0 27 0) ≡ looked b
-  look-version h v = tests false false (framed_here b) (le-ltb longest (length b) h) v refl
-
-  pub look-framed : length b ≤ longest → version_here b ≡ true → framed_here b ≡ false → Err (refusal 0 0 28 0) ≡ looked b
-  look-framed h v f = tests false true false (le-ltb longest (length b) h) v f
-
-  pub look-judged : length b ≤ longest → version_here b ≡ true → framed_here b ≡ true → told_of (judgement b) ≡ looked b
-  look-judged h v f = tests false true true (le-ltb longest (length b) h) v f
 
 -- ## The bytes alone
 -- a form that is taken

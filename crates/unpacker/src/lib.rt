@@ -14,7 +14,7 @@ ghost use Rattle.std.specs.Prelude.{◌≡◌};
 ghost use Rattle.law.specs.Tables.{lent};
 ghost use Rattle.replies.specs.Replies.{refusal};
 ghost use Rattle.unpackings.specs.Unpacks.{Unpacks};
-ghost use Rattle.unpacker.specs.Telling.{told_of, looked, roomed};
+ghost use Rattle.unpacker.specs.Telling.{looked, roomed};
 
 use counts::Counts;
 use packed_check::judged;
@@ -37,28 +37,19 @@ fn refusal_of(file: u8, number: u8) -> Refusal
     }
 }
 
-fn told_of(verdict: Option<(Counts, FileRow, Places)>) -> Result<(Counts, FileRow, Places), Refusal>
-    ensures { result ≡ told_of verdict }
-{
-    match verdict {
-        None => Err(refusal_of(0, 29)),
-        Some((c, file, places)) => Ok((c, file, places)),
-    }
-}
-
 fn look(bytes: &[u8]) -> Result<(Counts, FileRow, Places), Refusal>
     ensures { result ≡ looked bytes.now }
 {
     if LONGEST_TEXT < bytes.len() {
         return Err(refusal_of(1, 1));
     }
-    if is_version(bytes) {
-        if is_framed(bytes) {
-            return told_of(judged(bytes));
-        }
+    if !is_version(bytes) {
+        return Err(refusal_of(0, 27));
+    }
+    if !is_framed(bytes) {
         return Err(refusal_of(0, 28));
     }
-    Err(refusal_of(0, 27))
+    judged(bytes).ok_or(refusal_of(0, 29))
 }
 
 // ## Room
@@ -77,17 +68,13 @@ fn roomed(
 ) -> Result<(Counts, FileRow, Places), Refusal>
     ensures { result ≡ roomed told segments lanes zones spots points checkpoints stops exits }
 {
-    match told {
-        Err(why) => Err(why),
-        Ok((c, file, places)) => {
-            if parts_fit(c, segments, lanes, zones, spots) {
-                if marks_fit(c, points, checkpoints, stops, exits) {
-                    return Ok((c, file, places));
-                }
-                return Err(refusal_of(1, 11));
-            }
-            Err(refusal_of(1, 11))
-        }
+    let (c, file, places) = told?;
+    let fits = parts_fit(c, segments, lanes, zones, spots)
+        && marks_fit(c, points, checkpoints, stops, exits);
+    if fits {
+        Ok((c, file, places))
+    } else {
+        Err(refusal_of(1, 11))
     }
 }
 
@@ -127,23 +114,19 @@ pub fn read_packed(
         stops,
         exits,
     );
-    match told {
-        Err(why) => Err(why),
-        Ok((c, file, places)) => {
-            store_tables(
-                bytes,
-                c,
-                places,
-                segments,
-                lanes,
-                zones,
-                spots,
-                points,
-                checkpoints,
-                stops,
-                exits,
-            );
-            Ok((c, file))
-        }
-    }
+    let (c, file, places) = told?;
+    store_tables(
+        bytes,
+        c,
+        places,
+        segments,
+        lanes,
+        zones,
+        spots,
+        points,
+        checkpoints,
+        stops,
+        exits,
+    );
+    Ok((c, file))
 }

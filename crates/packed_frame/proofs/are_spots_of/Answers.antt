@@ -1,23 +1,23 @@
 -- `packed_frame::are_spots_of` meets its contract. Assumes nothing.
-use mathlib.Core.Path.{◌∙◌}
-use Prim.Native.Nat.{◌+◌}
-use borrow.Author.Rules.{rules}
-use Rattle.packed_frame.specs.Spots.{spots_right}
+use native.Mathlib.Omega.{arith}
+use Rattle.std.proofs.lemmas.Bool.Decides.{nat_tests}
 use Rattle.packed_frame.proofs.NameLaws.{named-inside}
-use Rattle.packed_frame.proofs.RowLaws.{the_no_zone_of, zone-there}
+use Rattle.packed_frame.specs.Spots.{zone_spots}
 use Rattle.packed_frame.proofs.are_spots_of.Goals as goal
 
-pub returns-then-named_end-eq0 : goal.returns-then-named_end-eq0
-returns-then-named_end-eq0 c = the_no_zone_of c.args.bytes.now c.args.zone c.args.at c.named_end.result c.named_end.ensures c.if-named_end-eq0.true
-
 pub overflow_add-zone : goal.overflow_add-zone
-overflow_add-zone c = search (rules, named-inside 12 c.args.bytes.now c.args.zone (λ e. c.if-named_end-eq0.false (c.named_end.ensures ∙ e)))
+overflow_add-zone c = grind (arith, nat_tests, named-inside)
 
-pub overflow_add-zone-2 : goal.overflow_add-zone-2
-overflow_add-zone-2 c = search (rules, named-inside 12 c.args.bytes.now c.args.zone (λ e. c.if-named_end-eq0.false (c.named_end.ensures ∙ e)))
+pub overflow_add-zone-then-is_some : goal.overflow_add-zone-then-is_some
+overflow_add-zone-then-is_some c = grind (arith, nat_tests, named-inside)
 
-pub overflow_add-zone-3 : goal.overflow_add-zone-3
-overflow_add-zone-3 c = search (rules, named-inside 12 c.args.bytes.now c.args.zone (λ e. c.if-named_end-eq0.false (c.named_end.ensures ∙ e)))
+pub overflow_add-zone-then-is_some-2 : goal.overflow_add-zone-then-is_some-2
+overflow_add-zone-then-is_some-2 c = grind (arith, nat_tests, named-inside)
 
-pub returns : goal.returns
-returns c = c.are_spots_behind.ensures ∙ (λ i. spots_right (c.two_at.ensures i) c.args.bytes.now c.args.at (c.four_at-begin.ensures i + c.two_at-points.ensures i)) ∙ zone-there c.args.bytes.now c.args.zone c.args.at c.named_end.result c.named_end.ensures c.if-named_end-eq0.false
+pub returns-then-is_some : goal.returns-then-is_some
+unfolding zone_spots
+returns-then-is_some c = grind (arith, nat_tests)
+
+pub returns-else-is_some : goal.returns-else-is_some
+unfolding zone_spots
+returns-else-is_some c = grind (arith, nat_tests)

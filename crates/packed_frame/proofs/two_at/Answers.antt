@@ -1,13 +1,17 @@
 -- `packed_frame::two_at` meets its contract. Assumes nothing.
 use native.Mathlib.Omega.{arith}
-use Rattle.packed_frame.proofs.NameLaws.{two_none, two-read}
+use Rattle.std.proofs.lemmas.Grind.{common_steps}
+use Rattle.packed_frame.proofs.NameLaws.{two_none}
+use Rattle.packed_frame.specs.Names.{two_at}
+use Rattle.std.proofs.lemmas.Bool.Decides.{nat_tests}
 use Rattle.packed_frame.proofs.two_at.Goals as goal
 
-pub returns-then-bytes-lt2 : goal.returns-then-bytes-lt2
-returns-then-bytes-lt2 c = two_none c.args.bytes.now c.args.at (omega arith)
+pub returns-in_default : goal.returns-in_default
+returns-in_default c = grind (arith, common_steps, two_none)
 
-pub returns-then-bytes-at : goal.returns-then-bytes-at
-returns-then-bytes-at c = two_none c.args.bytes.now c.args.at (omega arith)
+pub returns-in_default-2 : goal.returns-in_default-2
+returns-in_default-2 c = grind (arith, common_steps, two_none)
 
 pub returns : goal.returns
-returns c = two-read c.args.bytes.now c.args.at c.pair.result (omega arith) c.pair.ensures.0
+unfolding two_at
+returns c = grind (arith, common_steps, nat_tests)

@@ -1,20 +1,21 @@
 -- `packed_frame::zones_at` meets its contract. Assumes nothing.
 use native.Mathlib.Omega.{arith}
+use Rattle.std.proofs.lemmas.Bool.Decides.{nat_tests}
+use Rattle.packed_frame.proofs.WalkLaws.{walk-stopped, walk-again, walk-ended}
 use Rattle.packed_frame.proofs.RowLaws.{zone-inside}
-use Rattle.packed_frame.proofs.WalkLaws.{walk-again, walk-stopped, walk-ended}
 use Rattle.packed_frame.proofs.zones_at.Goals as goal
 
-pub returns-then-end-eq0 : goal.returns-then-end-eq0
-returns-then-end-eq0 c = grind (arith, walk-stopped)
+pub returns-in_err-end : goal.returns-in_err-end
+returns-in_err-end c = grind (arith, nat_tests, walk-stopped)
 
 pub overflow_add-at : goal.overflow_add-at
-overflow_add-at c = grind (arith, zone-inside)
+overflow_add-at c = grind (arith, nat_tests, zone-inside)
 
 pub overflow_add-at-in-loop : goal.overflow_add-at-in-loop
-overflow_add-at-in-loop c = grind (arith, zone-inside)
+overflow_add-at-in-loop c = grind (arith, nat_tests, zone-inside)
 
 pub loop-preserved : goal.loop-preserved
-loop-preserved c = grind (arith, walk-again)
+loop-preserved c = grind (arith, nat_tests, walk-again)
 
 pub returns : goal.returns
 returns c = grind (arith, walk-ended)

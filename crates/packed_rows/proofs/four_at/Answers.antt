@@ -1,13 +1,17 @@
 -- `packed_rows::four_at` meets its contract. Assumes nothing.
 use native.Mathlib.Omega.{arith}
-use Rattle.packed_rows.proofs.PointLaws.{four-none, four-read}
+use Rattle.std.proofs.lemmas.Grind.{common_steps}
+use Rattle.std.proofs.lemmas.Bool.Decides.{nat_tests}
+use Rattle.packed_rows.specs.Points.{four_at_of}
+use Rattle.packed_rows.proofs.PointLaws.{four-none}
 use Rattle.packed_rows.proofs.four_at.Goals as goal
 
-pub returns-then-bytes-lt4 : goal.returns-then-bytes-lt4
-returns-then-bytes-lt4 c = four-none c.args.bytes.now c.args.at (omega arith)
+pub returns-in_default : goal.returns-in_default
+returns-in_default c = grind (arith, common_steps, four-none)
 
-pub returns-then-bytes-at : goal.returns-then-bytes-at
-returns-then-bytes-at c = four-none c.args.bytes.now c.args.at (omega arith)
+pub returns-in_default-2 : goal.returns-in_default-2
+returns-in_default-2 c = grind (arith, common_steps, four-none)
 
 pub returns : goal.returns
-returns c = four-read c.args.bytes.now c.args.at c.pair-high.result c.pair-low.result (omega arith) c.pair-high.ensures.0 c.pair-low.ensures.0
+unfolding four_at_of
+returns c = grind (arith, common_steps, nat_tests)
