@@ -28,31 +28,21 @@ pub fn listed_at(number: u8) -> u8
     ensures { result ≡ listed_at number }
 {
     match number {
-        12 => 2,
-        13 => 2,
+        12 | 13 => 2,
         14 => 1,
         _ => 0,
     }
 }
 
 // Where a field of the first three starts.
+#[tactic(auto, unfolding(columns::specs::Locating::span_start))]
 pub fn start_of(f: Fields, i: u8) -> usize
     ensures { result ≡ span_start f i }
 {
-    let a = f.a;
-    let b = f.b;
-    let c = f.c;
-    let x = a.start;
-    let y = b.start;
-    let z = c.start;
-    let count = f.count;
-    if i < count {
-        match i {
-            0 => x,
-            1 => y,
-            _ => z,
-        }
-    } else {
-        0
+    match i {
+        _ if f.count <= i => 0,
+        0 => f.a.start,
+        1 => f.b.start,
+        _ => f.c.start,
     }
 }

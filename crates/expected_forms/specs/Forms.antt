@@ -1,5 +1,5 @@
 -- Executable: the form of each statement at a place of the program, and the forms of those that may stand there: first the due one, then the options that are still open, by their kinds. Assumes nothing.
-use Rattle.std.specs.Prelude.{List, [], ◌∷◌, ◌++◌, map, Bool, true, false, not, ◌&&◌, ◌||◌, ℕ, zero, suc, ◌-◌, ◌%◌, eqb, ltb, ⊤, Ok, Err, Result}
+use Rattle.std.specs.Prelude.{List, [], ◌∷◌, ◌++◌, map, Bool, not, ◌&&◌, ◌||◌, ℕ, zero, suc, ◌-◌, ◌%◌, eqb, ltb}
 use Rattle.terms.specs.Words.{pick}
 use Rattle.law.specs.Network.{largest}
 use Rattle.edition.specs.declared.Edition as DE
@@ -74,10 +74,6 @@ rndf_form_of e p k = record { count = fields_needed_of k; a = first_item_of p k;
 -- ## What may stand at a place, by the table
 unfoldable pub is_due_of : (table : List (List ℕ)) → Place → (kind : ℕ) → Bool
 is_due_of table p k = ltb (cell_of table p k) 128 && ready_of p
-
-unfoldable pub is_taken : Result ⊤ ℕ → Bool
-is_taken (Ok _) = true
-is_taken (Err n) = false
 
 unfoldable pub is_open : (table : List (List ℕ)) → Place → (kind : ℕ) → Bool
 is_open table p k = not (ltb (cell_of table p k) 128) && eqb (refuses_by p.given (cell_of table p k)) 0

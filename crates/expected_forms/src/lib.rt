@@ -12,7 +12,7 @@ ghost use Rattle.place.specs.Step.{ready_of};
 ghost use Rattle.expected_law.specs.Expected.{lines, fields, field};
 ghost use Rattle.expected_law.specs.Telling.{told};
 ghost use Rattle.expected_words.specs.Items.{law_item, law_form};
-ghost use Rattle.expected_forms.specs.Forms.{rest_of, the_fewest_of, lowest_entry_of, due_number_of, first_item_of, second_item_of, third_item_of, rndf_form_of, is_due_of, is_taken, is_open, kinds_from, forms_of, the_owed_of, forms_at, order_first_of, order_second_of, order_form_of, is_due_order_of, is_open_order_of, owed_orders_of, order_forms, order_forms_at};
+ghost use Rattle.expected_forms.specs.Forms.{rest_of, the_fewest_of, lowest_entry_of, due_number_of, first_item_of, second_item_of, third_item_of, rndf_form_of, is_due_of, is_open, kinds_from, forms_of, the_owed_of, forms_at, order_first_of, order_second_of, order_form_of, is_due_order_of, is_open_order_of, owed_orders_of, order_forms, order_forms_at};
 ghost use Rattle.expected_forms.specs.Listing.{leading_comma, list_end, field_count, Lists};
 
 use edition::Edition;
@@ -30,14 +30,11 @@ const LARGEST: u32 = 32768;
 // ## The form of a statement of an RNDF
 
 // How many zones there may be beside so many segments.
+#[tactic(auto, unfolding(crate::specs::Forms::rest_of))]
 fn rest_of(segments: u32) -> u32
     ensures { result ≡ rest_of segments }
 {
-    if segments < LARGEST {
-        LARGEST - segments
-    } else {
-        0
-    }
+    LARGEST.saturating_sub(segments)
 }
 
 // How few spots a zone may have (L10).
@@ -51,16 +48,13 @@ fn fewest_of(edition: Edition) -> u32
 }
 
 // The least y of an entry: an exit of a perimeter leads to a lane.
+#[tactic(auto, unfolding(crate::specs::Forms::lowest_entry_of))]
 fn lowest_entry(part: Open) -> u32
     ensures { result ≡ lowest_entry_of part }
 {
     match part {
-        Open::File => 0,
-        Open::Segment(_) => 0,
-        Open::Lane(_, _) => 0,
-        Open::Zone(_) => 0,
         Open::Perimeter(_) => 1,
-        Open::Spot(_, _) => 0,
+        _ => 0,
     }
 }
 
@@ -72,18 +66,19 @@ fn due_number(p: Place) -> u32
 }
 
 // What the first field may be: of a point its identifier, else the keyword. Then the second and the third, whatever the count of fields is.
+#[tactic(auto, unfolding(crate::specs::Forms::first_item_of))]
 fn first_item(p: Place, kind: u8) -> Item
     ensures { result ≡ first_item_of p kind }
 {
-    let part = p.part;
     let due = due_number(p);
     if kind == kinds::POINT {
-        Item::Point(part.major(), part.minor(), due, due)
+        Item::Point(p.part.major(), p.part.minor(), due, due)
     } else {
         Item::Word(kind)
     }
 }
 
+#[tactic(auto, unfolding(crate::specs::Forms::second_item_of))]
 fn second_item(edition: Edition, p: Place, kind: u8) -> Item
     ensures { result ≡ second_item_of edition p kind }
 {
@@ -103,11 +98,9 @@ fn second_item(edition: Edition, p: Place, kind: u8) -> Item
         kinds::LANE => Item::Part(m, due),
         kinds::NUM_WAYPOINTS => Item::Number(1, LARGEST),
         kinds::LANE_WIDTH => Item::Number(0, LARGEST),
-        kinds::LEFT_BOUNDARY => Item::Boundary(edition),
-        kinds::RIGHT_BOUNDARY => Item::Boundary(edition),
+        kinds::LEFT_BOUNDARY | kinds::RIGHT_BOUNDARY => Item::Boundary(edition),
         kinds::CHECKPOINT => Item::Point(m, n, first, w),
-        kinds::STOP => Item::Point(m, n, 1, w),
-        kinds::EXIT => Item::Point(m, n, 1, w),
+        kinds::STOP | kinds::EXIT => Item::Point(m, n, 1, w),
         kinds::ZONE => Item::Number(due, due),
         kinds::NUM_SPOTS => Item::Number(fewest, LARGEST),
         kinds::PERIMETER => Item::Part(m, 0),
@@ -119,14 +112,13 @@ fn second_item(edition: Edition, p: Place, kind: u8) -> Item
     }
 }
 
+#[tactic(auto, unfolding(crate::specs::Forms::third_item_of))]
 fn third_item(p: Place, kind: u8) -> Item
     ensures { result ≡ third_item_of p kind }
 {
-    let part = p.part;
-    let low = lowest_entry(part);
     match kind {
         kinds::CHECKPOINT => Item::Number(1, LARGEST),
-        kinds::EXIT => Item::Entry(low),
+        kinds::EXIT => Item::Entry(lowest_entry(p.part)),
         kinds::POINT => Item::Longitude,
         _ => Item::Name,
     }
@@ -176,46 +168,28 @@ fn put_also(out: &mut [u8], list: Listing, may: bool, f: Form) -> Listing
 }
 
 // Are the options given enough for the due statement? L8: a spot must have its checkpoint. As `Place` has it for itself.
+#[tactic(auto, unfolding(place::specs::Step::ready_of))]
 fn is_ready(p: Place) -> bool
     ensures { result ≡ ready_of p }
 {
-    if p.row == rndf::FIRST_OF_SPOT_DUE {
-        p.given.second
-    } else {
-        true
-    }
+    p.row != rndf::FIRST_OF_SPOT_DUE || p.given.second
 }
 
 // The due statement.
+#[tactic(auto, unfolding(crate::specs::Forms::is_due_of))]
 fn is_due_kind(table: &[[u8; 30]; 27], p: Place, kind: u8) -> bool
     ensures { result ≡ is_due_of table.now p kind }
 {
-    if p.cell(table, kind) < OFTEN {
-        is_ready(p)
-    } else {
-        false
-    }
+    p.cell(table, kind) < OFTEN && is_ready(p)
 }
 
-// 6 and 5 are refused alike: an option given again is not listed.
-fn is_taken(verdict: Result<(), u8>) -> bool
-    ensures { result ≡ is_taken verdict }
-{
-    match verdict {
-        Ok(()) => true,
-        Err(_) => false,
-    }
-}
-
-// An option that may still be given.
+// An option that may still be given. 6 and 5 are refused alike: one given again is not listed.
+#[tactic(auto, using(crate::proofs::Verdicts::ok_by_none), unfolding(crate::specs::Forms::is_open))]
 fn is_open_kind(table: &[[u8; 30]; 27], p: Place, kind: u8) -> bool
     ensures { result ≡ is_open table.now p kind }
 {
     let cell = p.cell(table, kind);
-    if cell < OFTEN {
-        return false;
-    }
-    is_taken(p.refuses(cell))
+    OFTEN <= cell && p.refuses(cell).is_ok()
 }
 
 // The forms of the due statements, of which a place has one at most.
@@ -263,19 +237,13 @@ fn put_open(
 }
 
 // How many points are still owed, where nothing but a point may stand.
+#[tactic(auto, unfolding(crate::specs::Forms::the_owed_of))]
 fn owed_of(p: Place) -> u32
     ensures { result ≡ the_owed_of p }
 {
-    let row = p.row;
-    match row {
-        rndf::WAYPOINT_DUE => p.points,
-        rndf::PERIMETERPOINT_DUE => p.points,
-        rndf::SECOND_OF_SPOT_DUE => p.points,
-        rndf::FIRST_OF_SPOT_DUE => if p.given.first & p.given.second {
-            p.points
-        } else {
-            0
-        },
+    match p.row {
+        rndf::WAYPOINT_DUE | rndf::PERIMETERPOINT_DUE | rndf::SECOND_OF_SPOT_DUE => p.points,
+        rndf::FIRST_OF_SPOT_DUE if p.given.first && p.given.second => p.points,
         _ => 0,
     }
 }
@@ -360,12 +328,12 @@ fn order_first(kind: u8) -> Item
     }
 }
 
+#[tactic(auto, unfolding(crate::specs::Forms::order_second_of))]
 fn order_second(kind: u8) -> Item
     ensures { result ≡ order_second_of kind }
 {
     match kind {
-        orders::NUM_CHECKPOINTS => Item::Number(1, LARGEST),
-        orders::NUM_SPEED_LIMITS => Item::Number(1, LARGEST),
+        orders::NUM_CHECKPOINTS | orders::NUM_SPEED_LIMITS => Item::Number(1, LARGEST),
         orders::LIMIT => Item::Minimum,
         _ => Item::Name,
     }
@@ -391,14 +359,12 @@ fn is_due_order(table: &[[u8; 13]; 12], p: MissionPlace, kind: u8) -> bool
     p.cell(table, kind) < OFTEN
 }
 
+#[tactic(auto, using(crate::proofs::Verdicts::ok_by_none), unfolding(crate::specs::Forms::is_open_order_of))]
 fn is_open_order(table: &[[u8; 13]; 12], p: MissionPlace, kind: u8) -> bool
     ensures { result ≡ is_open_order_of table.now p kind }
 {
     let cell = p.cell(table, kind);
-    if cell < OFTEN {
-        return false;
-    }
-    is_taken(p.refuses(cell))
+    OFTEN <= cell && p.refuses(cell).is_ok()
 }
 
 fn put_due_order(out: &mut [u8], list: Listing, table: &[[u8; 13]; 12], p: MissionPlace) -> Listing
@@ -427,13 +393,12 @@ fn put_open_orders(
 }
 
 // How many goals or limits are still owed.
+#[tactic(auto, unfolding(crate::specs::Forms::owed_orders_of))]
 fn owed_orders(p: MissionPlace) -> u32
     ensures { result ≡ owed_orders_of p }
 {
-    let row = p.row;
-    match row {
-        mdf::GOAL_DUE => p.owed,
-        mdf::LIMIT_DUE => p.owed,
+    match p.row {
+        mdf::GOAL_DUE | mdf::LIMIT_DUE => p.owed,
         _ => 0,
     }
 }

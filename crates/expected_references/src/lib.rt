@@ -16,7 +16,7 @@ ghost use Rattle.marks.specs.Marks.{with_mark, mark_all};
 ghost use Rattle.expected_law.specs.Expected.{entries, new_number, the_name, goals, ids, missing};
 ghost use Rattle.expected_law.specs.Telling.{points_words, told};
 ghost use Rattle.expected_references.specs.Listing.{element, listing_end, listing};
-ghost use Rattle.expected_references.specs.Named.{span_of, field_on_of, id_of, point_of, number_in, number_on_of, kept_id_of, ends_part_of, low_in_of, is_part_of, with_part_of, ids_in, limit_ids, entries_in, name_in_of, goals_in, unlimited_in};
+ghost use Rattle.expected_references.specs.Named.{span_of, field_on_of, id_of, point_of, number_on_of, kept_id_of, ends_part_of, low_in_of, is_part_of, with_part_of, ids_in, limit_ids, entries_in, name_in_of, goals_in, unlimited_in};
 
 use expected_words::{put_and_more, put_point_words};
 use find_line::{fields_end, mdf_line_kind, rndf_line_kind};
@@ -34,13 +34,11 @@ use statement::{kinds, orders};
 fn span_of(f: Fields, i: u8) -> Span
     ensures { result ≡ span_of f i }
 {
-    if i == 0 {
-        return f.a;
+    match i {
+        0 => f.a,
+        1 => f.b,
+        _ => f.c,
     }
-    if i == 1 {
-        return f.b;
-    }
-    f.c
 }
 
 // The field of a line with this number, 0 to 2; empty where it has none.
@@ -49,35 +47,22 @@ fn field_on(line: &[u8], i: u8) -> &[u8]
 {
     let s = first(line, fields_end(line));
     let span = span_of(fields_of(s), i);
-    let start = span.start;
-    let stop = span.stop;
-    &s[start..stop]
+    &s[span.start..span.stop]
 }
 
 // What is no identifier is 0.0.0.
 fn id_of(t: Option<Id>) -> Id
     ensures { result ≡ id_of t }
 {
-    match t {
-        Some(i) => i,
-        None => Id { x: 0, y: 0, z: 0 },
-    }
+    t.unwrap_or(Id { x: 0, y: 0, z: 0 })
 }
 
 // What is no number is 0.
-fn number_in(n: Option<u32>) -> u32
-    ensures { result ≡ number_in n }
-{
-    match n {
-        Some(v) => v,
-        None => 0,
-    }
-}
-
+#[tactic(auto, unfolding(crate::specs::Named::number_on_of))]
 fn number_on(line: &[u8], i: u8) -> u32
     ensures { result ≡ number_on_of i line.now }
 {
-    number_in(integer_of(field_on(line, i)))
+    integer_of(field_on(line, i)).unwrap_or(0)
 }
 
 // ## Lists, put element by element: the i-th from 0
@@ -140,28 +125,24 @@ fn kept_id(last: Id, line: &[u8]) -> Id
 }
 
 // The line ends a lane, or, where y may be 0, a perimeter.
+#[tactic(auto, unfolding(crate::specs::Named::ends_part_of))]
 fn ends_part(low: u32, line: &[u8]) -> bool
     ensures { result ≡ ends_part_of low line.now }
 {
-    let kind = rndf_line_kind(line);
-    if kind == kinds::END_LANE {
-        return true;
+    match rndf_line_kind(line) {
+        kinds::END_LANE => true,
+        kinds::END_PERIMETER => low == 0,
+        _ => false,
     }
-    if kind == kinds::END_PERIMETER {
-        return low == 0;
-    }
-    false
 }
 
 // From which y on the entry may be of the exit on this line: 1 of a perimeter's.
+#[tactic(auto, unfolding(crate::specs::Named::low_in_of))]
 fn low_in(rndf: &[u8], line: u32) -> u32
     ensures { result ≡ low_in_of rndf.now line }
 {
     let waypoint = id_of(triple_of(field_on(line_of(rndf, line), 1)));
-    if waypoint.y == 0 {
-        return 1;
-    }
-    0
+    u32::from(waypoint.y == 0)
 }
 
 pub fn put_entries(out: &mut [u8], at: usize, rndf: &[u8], line: u32) -> usize
@@ -253,24 +234,19 @@ pub fn put_goals(out: &mut [u8], at: usize, rndf: &[u8]) -> usize
 
 // ## 16 to 18: ids without a limit
 
+#[tactic(auto, unfolding(crate::specs::Named::is_part_of))]
 fn is_part(line: &[u8]) -> bool
     ensures { result ≡ is_part_of line.now }
 {
-    let kind = rndf_line_kind(line);
-    if kind == kinds::SEGMENT {
-        return true;
-    }
-    kind == kinds::ZONE
+    matches!(rndf_line_kind(line), kinds::SEGMENT | kinds::ZONE)
 }
 
 // One more behind the line of a segment or zone; no id is above 32,768.
+#[tactic(auto, unfolding(crate::specs::Named::with_part_of))]
 fn with_part(count: u16, line: &[u8]) -> u16
     ensures { result ≡ with_part_of count line.now }
 {
-    if 32767 < count {
-        return count;
-    }
-    if is_part(line) {
+    if count <= 32767 && is_part(line) {
         return count + 1;
     }
     count

@@ -14,7 +14,7 @@ ghost use Rattle.line.specs.Lines.{lines_of};
 ghost use Rattle.mend_lines.specs.Forward.{no_kinds, opens_of, option_of, with_kind_of, has_of, none_before_of, after_of, repeats_of, again_of, counted_of, items_in, second_number_of, number_on_of, corrected_of, behind_of, count_change_of, change_of};
 
 use find_line::{fields_end, rndf_line_kind};
-use line::{Fields, fields_of};
+use line::{Fields, Span, fields_of};
 use number::integer_of;
 use scan::far_byte_from;
 use statement::kinds;
@@ -43,9 +43,10 @@ pub struct Before {
 fn opens_part(kind: u8) -> bool
     ensures { result ≡ opens_of kind }
 {
-    (kind == kinds::SEGMENT)
-        | ((kind == kinds::LANE)
-            | ((kind == kinds::ZONE) | ((kind == kinds::PERIMETER) | (kind == kinds::SPOT))))
+    matches!(
+        kind,
+        kinds::SEGMENT | kinds::LANE | kinds::ZONE | kinds::PERIMETER | kinds::SPOT
+    )
 }
 
 fn is_option(kind: u8) -> bool
@@ -94,8 +95,7 @@ impl Before {
         ensures { result ≡ has_of self kind }
     {
         let i = kind as usize;
-        let since = self.since;
-        if i < 31 { since[i] } else { false }
+        i < 31 && self.since[i]
     }
 
     // Behind a line of this kind.
@@ -180,16 +180,9 @@ fn second_number(s: &[u8]) -> Option<(usize, usize, u32)>
     if f.count != 2 {
         return None;
     }
-    let start = f.b.start;
-    let stop = f.b.stop;
-    let Some(m) = integer_of(&s[start..stop]) else {
-        return None;
-    };
-    if m <= LARGEST_INTEGER {
-        Some((start, stop, m))
-    } else {
-        None
-    }
+    let Span { start, stop } = f.b;
+    let m = integer_of(&s[start..stop])?;
+    (m <= LARGEST_INTEGER).then_some((start, stop, m))
 }
 
 fn number_on(line: &[u8]) -> Option<(usize, usize, u32)>
@@ -201,6 +194,7 @@ fn number_on(line: &[u8]) -> Option<(usize, usize, u32)>
 
 // ## The change
 // The line stays; it goes, by 2 or 3; or what stands there from a place of the line to another becomes a number.
+// Kept as it is: (1) the C interface: 2 and 3 are what the row of such a line holds in the list that is lent.
 #[derive(Clone, Copy)]
 pub enum Becomes {
     Stays,
@@ -215,10 +209,7 @@ fn corrected(number: Option<(usize, usize, u32)>, n: usize) -> Becomes
     let Some((start, stop, m)) = number else {
         return Becomes::Stays;
     };
-    if (LARGEST_INTEGER as usize) < n {
-        return Becomes::Stays;
-    }
-    if m as usize == n {
+    if n > LARGEST_INTEGER as usize || m as usize == n {
         return Becomes::Stays;
     }
     Becomes::Recount(start, stop, n)
