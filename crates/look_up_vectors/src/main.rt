@@ -13,8 +13,8 @@ fn put_number<W: Write>(to: &mut W, n: u32) -> io::Result<()> {
 }
 
 fn put_all<W: Write>(to: &mut W, numbers: &[u32]) -> io::Result<()> {
-    for i in 0..numbers.len() {
-        put_number(to, numbers[i])?;
+    for n in numbers {
+        put_number(to, *n)?;
     }
     put(to, b"\n")
 }

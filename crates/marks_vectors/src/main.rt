@@ -9,9 +9,7 @@ use marks::{BadLimit, first_bad_limit, first_foreign_goal, first_repeat};
 use std::io;
 use std::io::Write;
 
-const COUNT: usize = 14;
-
-const EDGES: [u32; COUNT] = [
+const EDGES: [u32; 14] = [
     0, 1, 7, 8, 9, 16, 17, 255, 256, 32767, 32768, 32769, 65535, 65537,
 ];
 
@@ -23,7 +21,7 @@ fn say<W: Write>(to: &mut W, letter: &[u8], row: u32) -> io::Result<()> {
 fn say_row<W: Write>(to: &mut W, letter: &[u8], answer: Option<u32>) -> io::Result<()> {
     match answer {
         Some(row) => say(to, letter, row),
-        None => { put(to, b" -") }
+        None => put(to, b" -"),
     }
 }
 
@@ -40,41 +38,25 @@ fn goal<W: Write>(to: &mut W, a: u32, b: u32) -> io::Result<()> {
 
 fn limit<W: Write>(to: &mut W, a: u32, b: u32) -> io::Result<()> {
     let limits = [a, 0, 0, b, 0, 0];
-    let answer = first_bad_limit(&limits, 2, 32768);
-    match answer {
+    match first_bad_limit(&limits, 2, 32768) {
         BadLimit::NotThere(row) => say(to, b" n", row),
         BadLimit::Again(row) => say(to, b" a", row),
-        BadLimit::Nothing => { put(to, b" -") }
+        BadLimit::Nothing => put(to, b" -"),
     }
 }
 
-// This number, then each number behind it.
-fn repeats<W: Write>(to: &mut W, a: u32) -> io::Result<()> {
-    for j in 0..COUNT {
-        repeat(to, a, EDGES[j])?;
-    }
-    Ok(())
-}
-
-fn goals<W: Write>(to: &mut W, a: u32) -> io::Result<()> {
-    for j in 0..COUNT {
-        goal(to, a, EDGES[j])?;
-    }
-    Ok(())
-}
-
-fn limits<W: Write>(to: &mut W, a: u32) -> io::Result<()> {
-    for j in 0..COUNT {
-        limit(to, a, EDGES[j])?;
-    }
-    Ok(())
-}
-
+// For each number the three tests against every number.
 fn pairs<W: Write>(to: &mut W) -> io::Result<()> {
-    for i in 0..COUNT {
-        repeats(to, EDGES[i])?;
-        goals(to, EDGES[i])?;
-        limits(to, EDGES[i])?;
+    for a in EDGES {
+        for b in EDGES {
+            repeat(to, a, b)?;
+        }
+        for b in EDGES {
+            goal(to, a, b)?;
+        }
+        for b in EDGES {
+            limit(to, a, b)?;
+        }
         put(to, b"\n")?;
     }
     Ok(())
@@ -93,8 +75,8 @@ fn behind_all<W: Write>(to: &mut W, n: u32) -> io::Result<()> {
 fn main(rt: HostRuntime) -> io::Result<()> {
     let mut to = rt.stdout();
     pairs(&mut to)?;
-    for i in 0..COUNT {
-        behind_all(&mut to, EDGES[i])?;
+    for n in EDGES {
+        behind_all(&mut to, n)?;
     }
     put(&mut to, b"\n")
 }

@@ -30,9 +30,7 @@ pub struct Part {
 pub fn rows_there(table: &[u32], stride: usize, count: u32) -> usize
     ensures { result ≡ rows_there_of table.now stride count }
 {
-    let all = rows_of(table.len(), stride);
-    let wanted = count as usize;
-    if wanted < all { wanted } else { all }
+    (count as usize).min(rows_of(table.len(), stride))
 }
 
 // The first word of a row that is there.
@@ -68,11 +66,7 @@ pub fn inside(part: Part, point: u32) -> bool
     ensures { result ≡ inside part point }
 {
     let at = point as usize;
-    if part.first <= at {
-        at < part.behind
-    } else {
-        false
-    }
+    part.first <= at && at < part.behind
 }
 
 fn lane_part(lanes: &[u32], row: usize) -> Part
@@ -82,7 +76,7 @@ fn lane_part(lanes: &[u32], row: usize) -> Part
     let first = lane.first_point as usize;
     let points = lane.points as usize;
     Part {
-        first: first,
+        first,
         behind: first + points,
     }
 }
@@ -96,7 +90,7 @@ fn zone_part(zones: &[u32], row: usize) -> Part
     let points = zone.points as usize;
     let spots = zone.spots as usize;
     Part {
-        first: first,
+        first,
         behind: first + points + 2 * spots,
     }
 }
@@ -137,11 +131,7 @@ fn goes(exits: &[u32], row: usize, source: u32, a: u32, b: u32) -> bool
     requires left { source ≡ first_word exits.now exit_stride row }
     ensures { result ≡ goes exits.now row a b }
 {
-    if source == a {
-        exits[row * EXIT_STRIDE + 1] == b
-    } else {
-        false
-    }
+    source == a && exits[row * EXIT_STRIDE + 1] == b
 }
 
 // One of the part's exits goes from a to b. Their rows stand together, but they are not sorted: each is looked at.
@@ -166,37 +156,25 @@ fn leads(exits: &[u32], count: u32, part: Part, a: u32, b: u32) -> bool
 fn next_in(lane: Part, a: u32, b: u32) -> bool
     ensures { result ≡ next_in_of lane a b }
 {
-    if b as usize == a as usize + 1 {
-        inside(lane, b)
-    } else {
-        false
-    }
+    b as usize == a as usize + 1 && inside(lane, b)
 }
 
 fn across(zone: Part, a: u32, b: u32) -> bool
     ensures { result ≡ across zone a b }
 {
-    if a == b { false } else { inside(zone, b) }
+    a != b && inside(zone, b)
 }
 
 fn lane_move(exits: &[u32], count: u32, lane: Part, a: u32, b: u32) -> bool
     ensures { result ≡ lane_move_of exits.now count lane a b }
 {
-    if next_in(lane, a, b) {
-        true
-    } else {
-        leads(exits, count, lane, a, b)
-    }
+    next_in(lane, a, b) || leads(exits, count, lane, a, b)
 }
 
 fn zone_move(exits: &[u32], count: u32, zone: Part, a: u32, b: u32) -> bool
     ensures { result ≡ zone_move_of exits.now count zone a b }
 {
-    if across(zone, a, b) {
-        true
-    } else {
-        leads(exits, count, zone, a, b)
-    }
+    across(zone, a, b) || leads(exits, count, zone, a, b)
 }
 
 // L5: "A move goes from a waypoint to the next in its lane; along an exit; or, in one zone, between any two different points among perimeter and spots."
@@ -208,9 +186,5 @@ pub fn is_move(lanes: &[u32], zones: &[u32], exits: &[u32], c: Counts, a: u32, b
         return lane_move(exits, c.exits, lane, a, b);
     }
     let zone = zone_of(zones, c.zones, a);
-    if inside(zone, a) {
-        zone_move(exits, c.exits, zone, a, b)
-    } else {
-        false
-    }
+    inside(zone, a) && zone_move(exits, c.exits, zone, a, b)
 }

@@ -5,7 +5,7 @@
 
 use console::{put, put_decimal, read_full};
 use coordinate::coordinate_of;
-use number::{integer_of, is_name_length, pair_of, triple_of};
+use number::{Id, integer_of, is_name_length, pair_of, triple_of};
 use scan::{Until, scan};
 use std::io;
 use std::io::Write;
@@ -21,13 +21,11 @@ fn value<W: Write>(to: &mut W, n: u32) -> io::Result<()> {
 }
 
 fn signed_value<W: Write>(to: &mut W, z: i32) -> io::Result<()> {
+    put(to, b" ")?;
     if z < 0 {
-        put(to, b" -")?;
-        put_decimal(to, (0 - (z as i64)) as u64)
-    } else {
-        put(to, b" ")?;
-        put_decimal(to, z as u64)
+        put(to, b"-")?;
     }
+    put_decimal(to, z.unsigned_abs() as u64)
 }
 
 // Document 01's ranges, which `permitted` tests in the readers.
@@ -35,103 +33,54 @@ fn integer_in_range(n: u32) -> bool {
     n <= 32768
 }
 
-fn latitude_in_range(z: i32) -> bool {
-    if -90000000 <= z { z <= 90000000 } else { false }
-}
+const MOST_LATITUDE: u32 = 90000000;
 
-fn longitude_in_range(z: i32) -> bool {
-    if -180000000 <= z {
-        z <= 180000000
-    } else {
-        false
-    }
-}
+const MOST_LONGITUDE: u32 = 180000000;
 
 fn integer<W: Write>(to: &mut W, s: &[u8]) -> io::Result<()> {
-    let n = integer_of(s);
-    match n {
-        Some(v) => {
-            if integer_in_range(v) {
-                value(to, v)
-            } else {
-                refused(to, 9)
-            }
-        }
+    match integer_of(s) {
+        Some(n) if integer_in_range(n) => value(to, n),
+        Some(_) => refused(to, 9),
         None => refused(to, 8),
     }
 }
 
 fn good_pair(m: u32, n: u32) -> bool {
-    if integer_in_range(m) {
-        integer_in_range(n)
-    } else {
-        false
-    }
+    integer_in_range(m) && integer_in_range(n)
 }
 
 fn pair<W: Write>(to: &mut W, s: &[u8]) -> io::Result<()> {
-    let p = pair_of(s);
-    match p {
-        Some((m, n)) => {
-            if good_pair(m, n) {
-                value(to, m)?;
-                value(to, n)
-            } else {
-                refused(to, 9)
-            }
+    match pair_of(s) {
+        Some((m, n)) if good_pair(m, n) => {
+            value(to, m)?;
+            value(to, n)
         }
+        Some(_) => refused(to, 9),
         None => refused(to, 8),
     }
 }
 
-fn good_triple(x: u32, y: u32, z: u32) -> bool {
-    if integer_in_range(x) {
-        good_pair(y, z)
-    } else {
-        false
-    }
+fn good_triple(id: Id) -> bool {
+    integer_in_range(id.x) && good_pair(id.y, id.z)
 }
 
 fn triple<W: Write>(to: &mut W, s: &[u8]) -> io::Result<()> {
-    let t = triple_of(s);
-    match t {
-        Some(i) => {
-            if good_triple(i.x, i.y, i.z) {
-                value(to, i.x)?;
-                value(to, i.y)?;
-                value(to, i.z)
-            } else {
-                refused(to, 9)
-            }
+    match triple_of(s) {
+        Some(id) if good_triple(id) => {
+            value(to, id.x)?;
+            value(to, id.y)?;
+            value(to, id.z)
         }
+        Some(_) => refused(to, 9),
         None => refused(to, 8),
     }
 }
 
-fn latitude<W: Write>(to: &mut W, s: &[u8]) -> io::Result<()> {
-    let d = coordinate_of(s);
-    match d {
-        Some(z) => {
-            if latitude_in_range(z) {
-                signed_value(to, z)
-            } else {
-                refused(to, 9)
-            }
-        }
-        None => refused(to, 8),
-    }
-}
-
-fn longitude<W: Write>(to: &mut W, s: &[u8]) -> io::Result<()> {
-    let d = coordinate_of(s);
-    match d {
-        Some(z) => {
-            if longitude_in_range(z) {
-                signed_value(to, z)
-            } else {
-                refused(to, 9)
-            }
-        }
+// A latitude or a longitude: up to `most`, north or south, east or west.
+fn coordinate<W: Write>(to: &mut W, s: &[u8], most: u32) -> io::Result<()> {
+    match coordinate_of(s) {
+        Some(z) if z.unsigned_abs() <= most => signed_value(to, z),
+        Some(_) => refused(to, 9),
         None => refused(to, 8),
     }
 }
@@ -150,8 +99,8 @@ fn field<W: Write>(to: &mut W, kind: u8, s: &[u8]) -> io::Result<()> {
         b'i' => integer(to, s),
         b'p' => pair(to, s),
         b't' => triple(to, s),
-        b'a' => latitude(to, s),
-        b'o' => longitude(to, s),
+        b'a' => coordinate(to, s, MOST_LATITUDE),
+        b'o' => coordinate(to, s, MOST_LONGITUDE),
         _ => name(to, s.len()),
     }
 }

@@ -18,15 +18,11 @@ use std::io::Write;
 
 // ## What is said of an output
 
-fn wide(b: u8) -> u64 {
-    b as u64
-}
-
 fn bytes_from<W: Write>(to: &mut W, out: &[u8], from: usize) -> io::Result<()> {
     put(to, b" then")?;
-    for i in from..out.len() {
+    for b in out.iter().skip(from) {
         put(to, b" ")?;
-        put_decimal(to, wide(out[i]))?;
+        put_decimal(to, *b as u64)?;
     }
     put(to, b"\n")
 }
@@ -82,8 +78,8 @@ const PLACES: [usize; 8] = [
 
 fn put_integers(out: &mut [u8], at: usize) -> usize {
     let mut to = at;
-    for i in 0..9 {
-        let a = put_integer(out, to, INTEGERS[i]);
+    for n in INTEGERS {
+        let a = put_integer(out, to, n);
         to = put_line_end(out, a);
     }
     to
@@ -91,8 +87,8 @@ fn put_integers(out: &mut [u8], at: usize) -> usize {
 
 fn put_coordinates(out: &mut [u8], at: usize) -> usize {
     let mut to = at;
-    for i in 0..13 {
-        let a = put_coordinate(out, to, COORDINATES[i]);
+    for z in COORDINATES {
+        let a = put_coordinate(out, to, z);
         to = put_line_end(out, a);
     }
     to
@@ -123,8 +119,8 @@ fn show_packed<W: Write>(to: &mut W, out: &mut [u8]) -> io::Result<()> {
 
 // Where a put from a place leaves the pen.
 fn show_places<W: Write>(to: &mut W, out: &mut [u8]) -> io::Result<()> {
-    for i in 0..8 {
-        let place = put_byte(out, PLACES[i], b'x');
+    for at in PLACES {
+        let place = put_byte(out, at, b'x');
         put_decimal(to, place as u64)?;
         bytes_from(to, out, 0)?;
     }

@@ -9,8 +9,11 @@ use std::io::Write;
 use units::Feet;
 
 // Two rows of five words and two words left over.
+const NINES: [u32; 12] = [9; 12];
+
+// These, with one lane stored in a row.
 fn lane_words(row: usize) -> [u32; 12] {
-    let mut t = [9u32; 12];
+    let mut t = NINES;
     let lane = LaneRow {
         first_point: 100000,
         points: 2,
@@ -24,17 +27,6 @@ fn lane_words(row: usize) -> [u32; 12] {
 
 fn say<W: Write>(to: &mut W, ok: bool) -> io::Result<()> {
     if ok { put(to, b"y") } else { put(to, b"n") }
-}
-
-fn all_nine(t: [u32; 12]) -> bool {
-    let mut i = 0;
-    while i < 12 {
-        if t[i] != 9 {
-            return false;
-        }
-        i += 1;
-    }
-    true
 }
 
 // The second row's words, column by column; the first row and the left-over words stay.
@@ -51,10 +43,10 @@ fn stored<W: Write>(to: &mut W) -> io::Result<()> {
 
 // In the left-over words, behind the end, and where row times stride would pass 64 bits.
 fn not_stored<W: Write>(to: &mut W) -> io::Result<()> {
-    say(to, all_nine(lane_words(2)))?;
-    say(to, all_nine(lane_words(3)))?;
-    say(to, all_nine(lane_words(3689348814741910324)))?;
-    say(to, all_nine(lane_words(18446744073709551615)))
+    say(to, lane_words(2) == NINES)?;
+    say(to, lane_words(3) == NINES)?;
+    say(to, lane_words(3689348814741910324) == NINES)?;
+    say(to, lane_words(18446744073709551615) == NINES)
 }
 
 // Words too large for their fields.

@@ -71,7 +71,7 @@ fn reach(lanes: &[u32], zones: &[u32], c: Counts, work: &mut [u32], top: usize, 
 pub fn word(table: &[u32], at: usize) -> u32
     ensures { result ≡ get_or table.now at 0 }
 {
-    if at < table.len() { table[at] } else { 0 }
+    table.get(at).copied().unwrap_or(0)
 }
 
 // The exit in this row, where it leaves a point from `least` to `last`: what it leads to is reached.

@@ -31,13 +31,11 @@ fn show<W: Write>(to: &mut W, field: &[u8]) -> io::Result<()> {
 // Each line of the text that an LF ends.
 fn show_lines<W: Write>(to: &mut W, text: &[u8]) -> io::Result<()> {
     let mut from: usize = 0;
-    let mut i: usize = 0;
-    while i < text.len() {
-        if text[i] == b'\n' {
+    for (i, b) in text.iter().enumerate() {
+        if *b == b'\n' {
             show(to, &text[from..i])?;
             from = i + 1;
         }
-        i += 1;
     }
     Ok(())
 }

@@ -16,4 +16,4 @@ returns-then-source-a c = rw (eq-eqb _ _ (sym c.requires.left ∙ c.if-source-a.
 
 pub returns-else-source-a : goal.returns-else-source-a
 unfolding goes
-returns-else-source-a c = rw (ne_eqb _ _ (λ e. c.if-source-a.false (c.requires.left ∙ e)))
+returns-else-source-a c = ne_eqb _ _ c.if-source-a.false ∙ rw (ne_eqb _ _ (λ e. c.if-source-a.false (c.requires.left ∙ e)))

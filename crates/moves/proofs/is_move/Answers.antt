@@ -27,4 +27,4 @@ returns-else-inside-2 c =
     let a = c.args in
     let the_no_lane_of = ap (λ (p : Part). inside p a.a) (sym c.lane_of-lane.ensures) ∙ sym c.inside.ensures ∙ c.if-inside.false in
     let the_no_zone_of = ap (λ (p : Part). inside p a.a) (sym c.zone_of-zone.ensures) ∙ sym c.inside-2.ensures ∙ c.if-inside-2.false in
-    rw (the_no_lane_of, the_no_zone_of)
+    c.if-inside-2.false ∙ rw (the_no_lane_of, the_no_zone_of)

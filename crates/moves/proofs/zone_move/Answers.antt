@@ -5,7 +5,7 @@ use Rattle.moves.proofs.zone_move.Goals as goal
 
 pub returns-then-across : goal.returns-then-across
 unfolding zone_move_of
-returns-then-across c = rw (sym c.across.ensures ∙ c.if-across.true)
+returns-then-across c = c.if-across.true ∙ rw (sym c.across.ensures ∙ c.if-across.true)
 
 pub returns-else-across : goal.returns-else-across
 unfolding zone_move_of
