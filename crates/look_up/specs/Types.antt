@@ -1,4 +1,4 @@
--- What a list of numbers gets, as Rust's `Result`. Assumes nothing.
+-- WHAT A READER MUST BELIEVE. What a list of numbers gets, as Rust's `Result`. Assumes nothing.
 use Rattle.std.specs.Prelude.{⊤, Result}
 use Rattle.refusal.specs.declared.Refusal.{Refusal}
 

@@ -1,4 +1,4 @@
--- What a mending replies, as Rust's `Result`. Assumes nothing.
+-- WHAT A READER MUST BELIEVE. What a mending replies, as Rust's `Result`. Assumes nothing.
 use Rattle.std.specs.Prelude.{ℕ, Result}
 use Rattle.refusal.specs.declared.Refusal.{Refusal}
 

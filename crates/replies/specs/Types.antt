@@ -1,4 +1,4 @@
--- What the entry points reply, as Rust's `Result`: what is read, or the refusal. Assumes nothing.
+-- WHAT A READER MUST BELIEVE. What the entry points reply, as Rust's `Result`: what is read, or the refusal. Assumes nothing.
 use Rattle.std.specs.Prelude.{Result}
 use Rattle.counts.specs.declared.Counts.{Counts}
 use Rattle.counts.specs.declared.MissionCounts.{MissionCounts}

@@ -1,4 +1,4 @@
--- What a writing replies, as Rust's `Result`. Assumes nothing.
+-- WHAT A READER MUST BELIEVE. What a writing replies, as Rust's `Result`. Assumes nothing.
 use Rattle.std.specs.Prelude.{ℕ, Result}
 use Rattle.counts.specs.declared.Counts.{Counts}
 use Rattle.counts.specs.declared.MissionCounts.{MissionCounts}
