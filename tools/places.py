@@ -1,5 +1,5 @@
 #!/usr/bin/env python3
-"""The places in crates/*/src that today's Rattle lets one write better, counted: tools/places.py [--list] [--members] [--point N] [--crate NAME]
+"""The places in crates/*/src that today's Rattle lets one write better, counted (issue 48): tools/places.py [--list] [--members] [--point N] [--crate NAME]
 
 It prints for each of the eight points of docs/DESIGN-PASS.md how many places it finds, how many of these are kept with a reason, and how many are to do. `--list` prints each place: point, file and line, what it is
 -> what it could be; `--members` each function of a group too. Comments, strings and must-fail are not looked at; the tests' own crates (`.._vectors`) are. Python's own library, no more.
@@ -118,7 +118,6 @@ BY_READING = [
     (6, 'search/src/lib.rt', 'work[at] = (top + 2) as u32;', 'a stack of links within the words of the work space -> an enum of marks, or Vec'),
     (6, 'unpacked_rows/src/lib.rt', '    pub segments: usize,', 'Places beside Counts: where each table begins, and how many rows -> one Table of each'),
     (7, 'expected/src/lib.rt', 'fn put_of_rndf(', 'put_of_rndf: a step by number -> a method of the enum of refusals'),
-    (7, 'reasons/src/lib.rt', 'fn put_reason_from_27(', 'seven matches by number, one behind the other, put a text each -> one method of the enum of refusals that says its words'),
 ]
 
 Place = collections.namedtuple('Place', 'point at what holder members')
