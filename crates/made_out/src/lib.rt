@@ -27,12 +27,11 @@ const SHAPE: [u8; 30] = [
     1, 2, 2, 1, 1, 2, 2, 1, 0, 3, 2, 2, 4, 4, 5, 6, 7, 0, 2, 2, 1, 0, 3, 2, 0, 3, 2, 0, 0, 8,
 ];
 
-// What stands behind the keyword of a kind.
+// What stands behind the keyword of a kind; 0 where there is no such kind.
 pub fn shape_of(kind: u8) -> u8
-    requires { kind < 30 }
     ensures { result ≡ get_or shapes kind 0 }
 {
-    SHAPE[kind as usize]
+    if kind < 30 { SHAPE[kind as usize] } else { 0 }
 }
 
 pub fn bare(kind: u8) -> Statement

@@ -21,9 +21,10 @@ fn value<W: Write>(to: &mut W, n: u32) -> io::Result<()> {
 }
 
 fn signed_value<W: Write>(to: &mut W, z: i32) -> io::Result<()> {
-    put(to, b" ")?;
     if z < 0 {
-        put(to, b"-")?;
+        put(to, b" -")?;
+    } else {
+        put(to, b" ")?;
     }
     put_decimal(to, z.unsigned_abs() as u64)
 }

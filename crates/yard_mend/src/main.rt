@@ -258,6 +258,8 @@ fn show<P: Write, W: Write>(
     }
 }
 
+// A call of its own: what is said of wrong words, and the help, need none of the stack that a text and its tables take.
+#[inline(never)]
 fn with_name<R: Files, P: Write, W: Write>(
     rt: &R,
     page: &mut P,

@@ -6,11 +6,8 @@ use Rattle.packed_rows.specs.Points.{four_at_of}
 use Rattle.packed_rows.proofs.PointLaws.{four-none}
 use Rattle.packed_rows.proofs.four_at.Goals as goal
 
-pub returns-in_default : goal.returns-in_default
-returns-in_default c = grind (arith, common_steps, four-none)
-
-pub returns-in_default-2 : goal.returns-in_default-2
-returns-in_default-2 c = grind (arith, common_steps, four-none)
+pub returns-then-bytes-lt4 : goal.returns-then-bytes-lt4
+returns-then-bytes-lt4 c = grind (arith, common_steps, four-none)
 
 pub returns : goal.returns
 unfolding four_at_of

@@ -4,9 +4,6 @@ use native.Mathlib.Omega.{arith}
 use Rattle.plain_line.proofs.Shapes.{bare-made, word_made}
 use Rattle.plain_line.proofs.word_said.Goals as goal
 
-pub shape_of-shape-requires : goal.shape_of-shape-requires
-shape_of-shape-requires c = omega (arith, c.in_ok-kind.ensures.known)
-
 pub returns-then-shape-eq0 : goal.returns-then-shape-eq0
 returns-then-shape-eq0 c =
     let word = c.in_ok-kind in
